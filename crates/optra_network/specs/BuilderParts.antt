@@ -1,0 +1,13 @@
+-- What contracts see of a builder.
+use Rattle.optra_network.specs.Net.{Net}
+use Rattle.optra_network.specs.declared.building.Builder.TheInside.{Inside}
+
+abbrev pub net_of : Inside → Net
+net_of a = record {
+  stations = a.stations;
+  track_names = a.track_names;
+  tracks = a.tracks.items;
+  types = a.types;
+  running = a.running.entries;
+  headways = a.headways.entries;
+}

@@ -1,0 +1,21 @@
+-- What contracts see of a network.
+use Rattle.std.specs.Prelude.{◌≡◌, length, map}
+use Rattle.optra_network.specs.Net.{Net, IsProper, HoldsOut}
+use Rattle.optra_network.specs.Tables.{AreTables}
+use Rattle.optra_network.specs.declared.finished.Network.TheInside.{Inside}
+
+abbrev pub net_of : Inside → Net
+net_of a = record {
+  stations = a.stations;
+  track_names = a.track_names;
+  tracks = a.tracks.items;
+  types = a.types;
+  running = a.running.entries;
+  headways = a.headways.entries;
+}
+
+-- what a network keeps, and what it holds ready
+pub record IsKept (a : Inside) : Type 0 where
+  pub proper : IsProper (net_of a)
+  pub out : HoldsOut a.tracks.items (length a.stations) (map (λ v. v.items) a.out.items)
+  pub tables : AreTables (net_of a) a.tables

@@ -1,0 +1,106 @@
+-- When a builder refuses a call.
+use Rattle.std.specs.Prelude.{◌≡◌, ℕ, ◌+◌, ◌≤◌, ◌<◌, false, ◌&&◌, ◌||◌, not, nat_le, nat_eq, Bool, List, [], ◌∷◌, ◌++◌, length, slice_index, Option, None, Some, is_some, is_none, Result, Ok, Err, MatchResult, if◌then◌else◌, ⊤}
+use Rattle.std.specs.List.{list_all, list_any}
+use Rattle.std.specs.Option.{option_map, option_and_then}
+use Rattle.optra_network.specs.declared.StationId.{StationId}
+use Rattle.optra_network.specs.declared.TrackId.{TrackId}
+use Rattle.optra_network.specs.declared.TypeId.{TypeId}
+use Rattle.optra_network.specs.declared.Times.{Times}
+use Rattle.optra_network.specs.Names.{place_of}
+use Rattle.optra_network.specs.Net.{Net, HasAllHeadways, times_of, headway_of}
+use Rattle.optra_network.specs.declared.NetRefusal.{NetRefusal}
+use Rattle.optra_network.specs.declared.NetRefusal.TheVariants.{TakenName, UnknownName, Range, SelfLoop, Repeated, MissingHeadway, TooMany}
+use Rattle.optra_network.specs.declared.NetFault.{NetFault}
+use Rattle.optra_network.specs.declared.NetFault.TheVariants.{Refused, NoMemory}
+
+-- the refusal of the first test that holds
+abbrev pub first_of : {R : Type 0} → List (Bool × R) → Option R
+first_of [] = None
+first_of (t ∷ ts) = if t.0 then Some t.1 else first_of ts
+
+-- a fault is the refusal by the rule, or want of memory
+abbrev pub IsFaultBy : Option NetRefusal → NetFault → Type 0
+IsFaultBy rule (Refused why) = rule ≡ Some why
+IsFaultBy rule NoMemory = ⊤
+
+-- the call answers Ok only where the rule refuses nothing, and a refusal only where the rule gives that one
+abbrev pub FollowsRule : {T : Type 0} → Option NetRefusal → Result T NetFault → Type 0
+FollowsRule rule result = MatchResult result (λ _. rule ≡ None) (IsFaultBy rule)
+
+-- `finish` refuses where a headway is missing, and nowhere else
+abbrev pub IsFinishFault : Net → NetFault → Type 0
+IsFinishFault net (Refused why) = (why ≡ MissingHeadway) × (HasAllHeadways net → ⊥)
+IsFinishFault net NoMemory = ⊤
+
+abbrev pub station_refusal : Net → List ℕ → Option NetRefusal
+station_refusal net name = first_of ((nat_le 300 (length net.stations), TooMany) ∷ (is_some (place_of name net.stations), TakenName) ∷ [])
+
+abbrev pub type_refusal : Net → List ℕ → Option NetRefusal
+type_refusal net name = first_of ((nat_le 16 (length net.types), TooMany) ∷ (is_some (place_of name net.types), TakenName) ∷ [])
+
+abbrev pub same_place : Option ℕ → Option ℕ → Bool
+same_place (Some a) (Some b) = nat_eq a b
+same_place (Some a) None = false
+same_place None b = false
+
+abbrev pub track_refusal : Net → List ℕ → List ℕ → List ℕ → Option NetRefusal
+track_refusal net name from to =
+    first_of (
+    (nat_le 1000 (length net.tracks), TooMany)
+    ∷ (is_some (place_of name net.track_names), TakenName)
+    ∷ (is_none (place_of from net.stations) || is_none (place_of to net.stations), UnknownName)
+    ∷ (same_place (place_of from net.stations) (place_of to net.stations), SelfLoop)
+    ∷ [])
+
+-- the place of a name as an id
+abbrev pub track_named : Net → List ℕ → Option TrackId
+track_named net name = option_map (λ n. record { 0 = n }) (place_of name net.track_names)
+
+abbrev pub type_named : Net → List ℕ → Option TypeId
+type_named net name = option_map (λ n. record { 0 = n }) (place_of name net.types)
+
+abbrev pub station_named : Net → List ℕ → Option StationId
+station_named net name = option_map (λ n. record { 0 = n }) (place_of name net.stations)
+
+abbrev pub is_from_to : ℕ → ℕ → ℕ → Bool
+is_from_to low high n = nat_le low n && nat_le n high
+
+-- four running times
+abbrev pub are_minutes : List ℕ → Bool
+are_minutes times =
+    is_from_to 1 240 (slice_index times 0) && is_from_to 1 240 (slice_index times 1) && is_from_to 1 240 (slice_index times 2) && is_from_to 1 240 (slice_index times 3)
+
+abbrev pub running_refusal : Net → List ℕ → List ℕ → List ℕ → Option NetRefusal
+running_refusal net track kind times =
+    first_of (
+    (is_none (track_named net track) || is_none (type_named net kind), UnknownName)
+    ∷ (not (are_minutes times), Range)
+    ∷ (is_some (option_and_then (λ t. option_and_then (λ k. times_of net t k) (type_named net kind)) (track_named net track)), Repeated)
+    ∷ [])
+
+abbrev pub headway_refusal : Net → List ℕ → List ℕ → List ℕ → ℕ → Option NetRefusal
+headway_refusal net track first second minutes =
+    first_of (
+    (is_none (track_named net track) || is_none (type_named net first) || is_none (type_named net second), UnknownName)
+    ∷ (not (is_from_to 1 120 minutes), Range)
+    ∷ (is_some (option_and_then (λ t. option_and_then (λ a. option_and_then (λ b. headway_of net t a b) (type_named net second)) (type_named net first)) (track_named net track)), Repeated)
+    ∷ [])
+
+-- the four numbers in order
+abbrev pub times_from : List ℕ → Times
+times_from times = record { pass_pass = slice_index times 0; pass_halt = slice_index times 1; halt_pass = slice_index times 2; halt_halt = slice_index times 3 }
+
+-- the network after a call that is accepted; None where a name is not there
+abbrev pub after_running : Net → List ℕ → List ℕ → List ℕ → Option Net
+after_running net track kind times =
+    option_and_then (λ t. option_map (λ k. record net { running = net.running ++ ((t, k), times_from times) ∷ [] }) (place_of kind net.types)) (place_of track net.track_names)
+
+abbrev pub after_headway : Net → List ℕ → List ℕ → List ℕ → ℕ → Option Net
+after_headway net track first second minutes =
+    option_and_then (λ t. option_and_then (λ a. option_map (λ b. record net { headways = net.headways ++ ((t, a, b), minutes) ∷ [] })
+    (place_of second net.types)) (place_of first net.types)) (place_of track net.track_names)
+
+abbrev pub after_track : Net → List ℕ → List ℕ → List ℕ → Option Net
+after_track net name from to =
+    option_and_then (λ a. option_map (λ b. record net { track_names = net.track_names ++ name ∷ []; tracks = net.tracks ++ record { tail = record { 0 = a }; head = record { 0 = b } } ∷ [] })
+    (place_of to net.stations)) (place_of from net.stations)

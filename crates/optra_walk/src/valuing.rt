@@ -1,0 +1,102 @@
+//! What a walk is worth.
+ghost use Rattle.std.specs.Prelude.{◌≡◌, ℕ, ◌+◌, ◌-◌, ◌≤◌, ◌<◌, pos, negsuc, ◌*ℤ◌, ◌-ℤ◌, ◌≤ℤ◌, length};
+ghost use Rattle.optra_bid.specs.Specs.{IsRate, IsMoney, IsBetween};
+ghost use Rattle.optra_walk.specs.Legs.{wait_of};
+ghost use Rattle.optra_walk.specs.Walks.{IsWalk};
+ghost use Rattle.optra_walk.specs.Values.{value_of, value_at, price_off, price_under_way, wait_minutes};
+
+use crate::following::arrival;
+use crate::{Action, Leg};
+use optra_bid::{Bid, Money};
+use optra_network::{Cents, Network};
+
+/// What a walk of the bid is worth.
+pub fn value(net: &Network, bid: &Bid, legs: &[Leg]) -> Cents
+    requires { IsWalk net.now bid.now.path legs.now }
+    ensures { result ≡ value_of net.now bid.now.path bid.now.money legs.now }
+{
+    let _proper = net.track_count();
+    let path = &bid.path;
+    let (Some(first), Some(last)) = (legs.first(), legs.last()) else {
+        unreachable!()
+    };
+    let Some(arrive) = arrival(net, path.kind, *last) else {
+        unreachable!()
+    };
+    let waits = wait_minutes(legs);
+    let ideals = (path.depart.ideal, path.arrive.ideal);
+    value_by(ideals, bid.money, first.depart, arrive as u16, waits as u16)
+}
+
+/// A rate times minutes.
+fn times(rate: Cents, minutes: u16) -> Cents
+    requires { IsRate rate }
+    ensures value { result ≡ rate *ℤ pos minutes }
+    ensures range { IsBetween (pos 0) (pos 65535000000) result }
+{
+    rate * i64::from(minutes)
+}
+
+/// The minutes from one time to another, and 0 where it is not later.
+fn minutes(from: u16, to: u16) -> u16
+    ensures { result ≡ to - from }
+{
+    to.saturating_sub(from)
+}
+
+/// The price of the minutes off an ideal time.
+fn price_off(ideal: u16, early: Cents, late: Cents, time: u16) -> Cents
+    requires early { IsRate early }
+    requires late { IsRate late }
+    ensures value { result ≡ price_off ideal early late time }
+    ensures range { IsBetween (pos 0) (pos 131070000000) result }
+{
+    times(early, minutes(time, ideal)) + times(late, minutes(ideal, time))
+}
+
+fn price_under_way(travel: Cents, minutes: u16, wait: Cents, waits: u16) -> Cents
+    requires travel { IsRate travel }
+    requires wait { IsRate wait }
+    ensures value { result ≡ price_under_way travel minutes wait waits }
+    ensures range { IsBetween (pos 0) (pos 131070000000) result }
+{
+    times(travel, minutes) + times(wait, waits)
+}
+
+fn less_prices(base: Cents, depart: Cents, arrive: Cents, under_way: Cents) -> Cents
+    requires base { IsBetween (pos 0) (pos 1000000000) base }
+    requires depart { IsBetween (pos 0) (pos 131070000000) depart }
+    requires arrive { IsBetween (pos 0) (pos 131070000000) arrive }
+    requires under_way { IsBetween (pos 0) (pos 131070000000) under_way }
+    ensures { result ≡ base -ℤ depart -ℤ arrive -ℤ under_way }
+{
+    base - depart - arrive - under_way
+}
+
+/// The value by the ideal times, the first departure, the last arrival and the minutes of waits.
+fn value_by(ideals: (u16, u16), money: Money, first: u16, last: u16, waits: u16) -> Cents
+    requires { IsMoney money }
+    ensures { result ≡ value_at ideals.0 ideals.1 money first last waits }
+{
+    let depart = price_off(ideals.0, money.early_depart, money.late_depart, first);
+    let arrive = price_off(ideals.1, money.early_arrive, money.late_arrive, last);
+    let under_way = price_under_way(money.travel, minutes(first, last), money.wait, waits);
+    less_prices(money.base, depart, arrive, under_way)
+}
+
+/// The minutes of waits.
+fn wait_minutes(legs: &[Leg]) -> u64
+    requires { length legs.now ≤ 2880 }
+    ensures { result ≡ wait_minutes legs.now }
+{
+    legs.iter().map(|leg| u64::from(wait(leg.action))).sum()
+}
+
+fn wait(action: Action) -> u16
+    ensures { result ≡ wait_of action }
+{
+    match action {
+        Action::Wait(dwell) => dwell,
+        _ => 0,
+    }
+}
