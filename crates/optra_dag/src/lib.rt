@@ -20,3 +20,6 @@ pub struct Arc {
     /// The node that it leads to.
     pub to: u32,
 }
+
+#[cfg(test)]
+mod tests;

@@ -1,5 +1,5 @@
 -- An arc that is skipped, loses or wins leaves every node done.
-use Rattle.std.proofs.Common.{rules, arith, ◌≡◌, ℕ, inl, inr, length, length-set, ◌-◌, subst, ap, sym, ◌∙◌, ◌+ℤ◌, FitsSigned, to_z, of_z, to_z-of_z, negsuc, List, get_or, replicate}
+use Rattle.std.proofs.Common.{rules, arith, ◌≡◌, ℕ, inl, inr, length-set, ◌-◌, subst, ap, sym, ◌∙◌, ◌+ℤ◌, FitsSigned, to_z, of_z, to_z-of_z, negsuc, List, get_or}
 use Rattle.std.proofs.lemmas.Grind.{common_steps}
 use Rattle.std.proofs.lemmas.List.{get_or-replicate}
 use mir.Syntax.{w128}
