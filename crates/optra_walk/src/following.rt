@@ -1,9 +1,9 @@
 //! Whether legs are a walk of a bid.
 ghost use Rattle.std.specs.Prelude.{◌≡◌, ◌≢◌, ℕ, ◌+◌, ◌-◌, ◌≤◌, ◌<◌, ◌↔◌, IsTrue, length, All, filter, IsSomeAnd, IfSome, ◌^◌, slice_get, Some, false};
 ghost use Rattle.std.specs.List.{AllZip, AllAdjacentBelow};
-ghost use Rattle.optra_network.specs.Net.{MayUse};
+ghost use Rattle.optra_network.specs.Net.{MayUse, IsFromTo};
 ghost use Rattle.optra_walk.specs.Legs.{arrival_of, next_depart_of, is_halt, is_pass, is_finish, dwell_of};
-ghost use Rattle.optra_walk.specs.Walks.{IsWalk, IsStart, IsNext, IsEnd, MeetsStop, IsAllowedWait, first_leg, last_leg, IsWithin, tail_of, head_of, FinishesLast};
+ghost use Rattle.optra_walk.specs.Walks.{IsWalk, IsStart, IsNext, IsEnd, MeetsStop, IsAllowedWait, first_leg, last_leg, tail_of, head_of, FinishesLast};
 
 use crate::{Action, Leg};
 use optra_bid::{Bid, PathSpec, Stop};
@@ -67,7 +67,7 @@ fn is_next(net: &Network, kind: TypeId, before: Leg, after: Leg) -> bool
 }
 
 fn arrives_within(net: &Network, kind: TypeId, leg: Leg, from: u16, to: u16) -> bool
-    ensures { IsTrue result ↔ IsSomeAnd (arrival_of net.now kind leg) (IsWithin from to) }
+    ensures { IsTrue result ↔ IsSomeAnd (arrival_of net.now kind leg) (IsFromTo from to) }
 {
     match arrival(net, kind, leg) {
         Some(time) => u32::from(from) <= time && time <= u32::from(to),
