@@ -106,7 +106,7 @@ pub IsSought-start : (files : List File) (name : List ℕ) (count : ℕ) → cou
 IsSought-start files name count is =
     let long : length (hashes_of files) ≡ length files = length-map files (λ (file : File). name_hash file.0) in
     by_last files name (length files) count (omega arith) (ap (λ fs. map_of.get (files_of fs) name) (sym (take-length files)))
-      (is ∙ ap (last_with (hashes_of files) (name_hash name)) long)
+    (is ∙ ap (last_with (hashes_of files) (name_hash name)) long)
 
 before_last : (files : List File) (name : List ℕ) (count : ℕ) → IsSought files name count → 0 < count → held_by files name count ≡ cond (bytes_eq name (get_or files (count - 1) nothing).0) (Some (get_or files (count - 1) nothing).1) (held_by files name (count - 1))
 before_last files name count sought some =
@@ -123,8 +123,8 @@ pub IsSought-older : (files : List File) (name : List ℕ) (count older : ℕ) �
     → older ≡ last_with (hashes_of files) (get_or (hashes_of files) (count - 1) 0) (count - 1) → IsSought files name older
 IsSought-older files name count older sought some other is =
     by_last files name (count - 1) older (omega (arith, sought.within))
-      (sought.held ∙ before_last files name count sought some ∙ ap (λ b. cond b (Some (get_or files (count - 1) nothing).1) (held_by files name (count - 1))) other)
-      (is ∙ ap (λ h. last_with (hashes_of files) h (count - 1)) (sought.hash some))
+    (sought.held ∙ before_last files name count sought some ∙ ap (λ b. cond b (Some (get_or files (count - 1) nothing).1) (held_by files name (count - 1))) other)
+    (is ∙ ap (λ h. last_with (hashes_of files) h (count - 1)) (sought.hash some))
 
 -- no file is left that may have the name
 pub IsSought-none : (files : List File) (name : List ℕ) (count : ℕ) → IsSought files name count → count ≡ 0 → map_of.get (files_of files) name ≡ None
@@ -148,14 +148,14 @@ pub IsChained-push : (hashes older : List ℕ) (newest newest' : ℕ → Option 
     → ((q : ℕ) → newest' q ≡ cond (eqb hash q) (Some (length hashes + 1)) (newest q)) → IsChained hashes older newest → IsChained (hashes ++ hash ∷ []) (older ++ last ∷ []) newest'
 IsChained-push hashes older newest newest' hash last long is updates chained = record {
   older_is = λ i within. elim (cases_lt i (length older)) [
-    inl below ↦
-      let mine = get_or-append hashes (hash ∷ []) 0 i (omega arith) in
-      get_or-append older (last ∷ []) 0 i below ∙ chained.older_is i below ∙ sym (last_with-append hashes (hash ∷ []) _ i (omega arith)) ∙ ap (λ h. last_with (hashes ++ hash ∷ []) h i) (sym mine)
+    | inl below ↦
+        let mine = get_or-append hashes (hash ∷ []) 0 i (omega arith) in
+        get_or-append older (last ∷ []) 0 i below ∙ chained.older_is i below ∙ sym (last_with-append hashes (hash ∷ []) _ i (omega arith)) ∙ ap (λ h. last_with (hashes ++ hash ∷ []) h i) (sym mine)
     | inr above ↦
-      let at : i ≡ length older = omega (arith, length-append older (last ∷ [])) in
-      let mine : get_or (hashes ++ hash ∷ []) i 0 ≡ hash = ap (λ k. get_or (hashes ++ hash ∷ []) k 0) (at ∙ long) ∙ get_or-append_seam hashes hash [] 0 in
-      ap (λ k. get_or (older ++ last ∷ []) k 0) at ∙ get_or-append_seam older last [] 0 ∙ is ∙ chained.newest_is hash ∙ ap (last_with hashes hash) (sym (at ∙ long))
-      ∙ sym (last_with-append hashes (hash ∷ []) hash i (omega arith)) ∙ ap (λ h. last_with (hashes ++ hash ∷ []) h i) (sym mine)
+        let at : i ≡ length older = omega (arith, length-append older (last ∷ [])) in
+        let mine : get_or (hashes ++ hash ∷ []) i 0 ≡ hash = ap (λ k. get_or (hashes ++ hash ∷ []) k 0) (at ∙ long) ∙ get_or-append_seam hashes hash [] 0 in
+        ap (λ k. get_or (older ++ last ∷ []) k 0) at ∙ get_or-append_seam older last [] 0 ∙ is ∙ chained.newest_is hash ∙ ap (last_with hashes hash) (sym (at ∙ long))
+        ∙ sym (last_with-append hashes (hash ∷ []) hash i (omega arith)) ∙ ap (λ h. last_with (hashes ++ hash ∷ []) h i) (sym mine)
   ];
   newest_is = λ q. ap (λ o. unwrap_or o 0) (updates q) ∙ chosen (eqb hash q) (length hashes) (newest q) _ (chained.newest_is q) ∙ sym (last_with-push hashes hash q);
 }

@@ -14,6 +14,7 @@ pub record Held : Type 0 where
   pub spare_bytes : ℕ
   pub spare_files : ℕ
 
+-- stored as its parts
 abbrev pub held_code : Coded Held
 held_code =
     code_by (FileMap × (ℕ × ℕ)) (coded× (map_of.code (coded_list coded_ℕ) (coded_list coded_ℕ)) (coded× coded_ℕ coded_ℕ))

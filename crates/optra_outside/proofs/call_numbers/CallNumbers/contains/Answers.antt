@@ -12,7 +12,7 @@ found_is : (xs : List ℕ) (x : ℕ) (r : Result ℕ ℕ) → MatchResult r (λ 
 found_is xs x (Ok i) found = sym (list_any_at (λ y. nat_eq y x) xs i 0 found.0 (eq-eqb _ _ found.1))
 found_is xs x (Err i) found =
     sym (list_any_none (λ y. nat_eq y x) xs (All-from_get_or (λ y. nat_eq y x ≡ false) xs 0 (λ k within.
-      ne_eqb _ _ (λ same. elim (cases_lt k i) [ inl below ↦ omega (arith, found.1 k below) | inr above ↦ omega (arith, found.2 k above within) ]))))
+    ne_eqb _ _ (λ same. elim (cases_lt k i) [ inl below ↦ omega (arith, found.1 k below) | inr above ↦ omega (arith, found.2 k above within) ]))))
 
 pub returns : goal.returns
 returns c =

@@ -11,7 +11,7 @@ use Rattle.optra_outside.proofs.call_numbers.CallNumbers.new.Goals as goal
 from_list-IsPermutation : (xs ys : List ℕ) → IsPermutation xs ys → set.from_list {R = nat_cmp} ys ≡ set.from_list xs
 from_list-IsPermutation xs ys moved =
     set.same_set nat_cmp_total set.nat_cmp-IsAntisymmetric _ _ (λ q.
-      set.contains-from_list_nat ys q ∙ sym (list_any-IsPermutation (λ y. nat_eq y q) xs ys moved) ∙ sym (set.contains-from_list_nat xs q))
+    set.contains-from_list_nat ys q ∙ sym (list_any-IsPermutation (λ y. nat_eq y q) xs ys moved) ∙ sym (set.contains-from_list_nat xs q))
 
 pub returns : goal.returns
 returns c = from_list-IsPermutation _ _ c.sort_unstable.ensures.permutation
