@@ -1,17 +1,16 @@
 -- Files put one after another, and the chains by which one is found.
-use Rattle.std.proofs.Common.{◌≡◌, ◌≢◌, ℕ, zero, suc, ◌+◌, ◌-◌, ◌<◌, ◌≤◌, List, [], ◌∷◌, ◌++◌, length, map, take, get_or, Option, Some, None, unwrap_or, Bool, cond, true, false, eqb, refl, sym, ap, ◌∙◌, arith, eqb-true, length-append, inl, inr}
-use Rattle.std.specs.Ordering.{nat_cmp, eq_by_cmp}
+use Rattle.std.proofs.Common.{◌≡◌, ℕ, zero, suc, ◌+◌, ◌-◌, ◌<◌, ◌≤◌, List, [], ◌∷◌, ◌++◌, length, take, get_or, Option, Some, None, unwrap_or, Bool, cond, true, false, eqb, refl, sym, ap, ◌∙◌, arith, eqb-true, length-append, inl, inr}
+use Rattle.std.specs.Ordering.{nat_cmp}
 use Rattle.std.specs.Cmp.Lexicographic.{slice_cmp, nat_list_cmp_total}
 use Rattle.std.specs.FinMap as map_of
 use Rattle.std.specs.Str.{bytes_eq}
 use Rattle.std.proofs.lemmas.Bool.{eqb-false, cases_lt}
-use Rattle.std.proofs.lemmas.List.{length-map, take_more, get_or-map, map-append}
+use Rattle.std.proofs.lemmas.List.{length-map, take_more, get_or-map}
 use Rattle.std.proofs.lemmas.List.Sums.{fold-append}
 use Rattle.std.proofs.lemmas.Map.Text.{is_eq-slice_cmp}
 use Rattle.std.proofs.lemmas.Slice.Eq.{bytes_eq-Decides}
 use Rattle.std.proofs.Math.ListN.{get_or-append}
 use Rattle.std.proofs.Math.Seq.{get_or-append_seam, take-length}
-use Rattle.optra_outside.specs.FileMap.{FileMap}
 use Rattle.optra_outside.specs.HeldFiles.{File, files_of, hashes_of, name_hash, last_with, IsChained}
 
 -- ---- the last of the first n hashes that is this one

@@ -1,5 +1,5 @@
 -- A shelf of real files.
-use Rattle.std.specs.Prelude.{ℕ, false, Result, Ok, Err}
+use Rattle.std.specs.Prelude.{false, Result, Ok, Err}
 use Rattle.std.specs.FinMap as map_of
 use Rattle.optra_outside.specs.Counts.{raised}
 use Rattle.optra_outside.specs.Shelf.{ShelfState}

@@ -1,5 +1,5 @@
 -- Files in memory: their bytes one behind another in a buffer, and a chain of places for each hash of a name.
-use Rattle.std.specs.Prelude.{◌≡◌, ℕ, zero, suc, ◌<◌, ◌≤◌, ◌==◌, if◌then◌else◌, List, [], length, map, slice_range, slice_index, Option, unwrap_or, refl}
+use Rattle.std.specs.Prelude.{◌≡◌, ℕ, zero, suc, ◌<◌, ◌≤◌, ◌==◌, if◌then◌else◌, List, length, map, slice_range, slice_index, Option, unwrap_or, refl}
 use Rattle.std.specs.List.{All, fold}
 use Rattle.std.specs.Coded.{Coded, code_by, coded×, coded_ℕ, coded_list}
 use Rattle.std.specs.FinMap as map_of

@@ -1,4 +1,3 @@
-use Rattle.std.proofs.Common.{◌≡◌, ap, ◌∙◌, rules}
 use Rattle.optra_outside.specs.HeldFiles.{name_hash}
 use Rattle.optra_outside.proofs.held_files.hash_of.Goals as goal
 

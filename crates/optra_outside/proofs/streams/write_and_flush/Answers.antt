@@ -1,8 +1,7 @@
-use Rattle.std.proofs.Common.{◌≡◌, ℕ, List, length, take, Option, subst, sym}
-use Rattle.std.specs.Io.KnownBytes.{Appends, Keeps}
+use Rattle.std.proofs.Common.{length, subst, sym}
+use Rattle.std.specs.Io.KnownBytes.{Appends}
 use Rattle.std.proofs.KnownBytes.{Appends-kept}
 use Rattle.std.proofs.Math.Seq.{take-length}
-use Rattle.optra_outside.specs.Streams.{AppendsPart}
 use Rattle.optra_outside.proofs.streams.write_and_flush.Goals as goal
 
 pub returns-in-Err : goal.returns-in-Err

@@ -4,7 +4,6 @@ use Rattle.std.specs.FinSet as set
 use Rattle.std.specs.List.Sorted.{IsPermutation}
 use Rattle.std.proofs.lemmas.Cmp.{nat_cmp_total}
 use Rattle.std.proofs.lemmas.List.Sorted.{list_any-IsPermutation}
-use Rattle.optra_outside.specs.CallNumbers.{NumberSet}
 use Rattle.optra_outside.proofs.call_numbers.CallNumbers.new.Goals as goal
 
 -- the order of a list is nothing to the set of its numbers

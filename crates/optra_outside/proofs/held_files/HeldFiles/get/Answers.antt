@@ -1,10 +1,10 @@
-use Rattle.std.proofs.Common.{◌≡◌, ℕ, ◌-◌, ◌<◌, ◌≤◌, List, length, map, get_or, unwrap_or, nat_eq, Option, slice_range, bytes_eq, Some, true, false, ap, sym, ◌∙◌, arith, rules}
+use Rattle.std.proofs.Common.{◌≡◌, ℕ, ◌-◌, ◌<◌, List, length, map, get_or, unwrap_or, nat_eq, Option, slice_range, bytes_eq, Some, true, false, ap, sym, ◌∙◌, arith, rules}
 use Rattle.std.specs.FinMap as map_of
 use Rattle.std.specs.HashMap.{get}
 use Rattle.std.proofs.lemmas.List.{length-map, get_or-map}
-use Rattle.optra_outside.specs.HeldFiles.{Held, File, file_at, files_of, hashes_of, name_hash, last_with, IsIndexed}
+use Rattle.optra_outside.specs.HeldFiles.{Held, File, file_at, hashes_of, name_hash, last_with, IsIndexed}
 use Rattle.optra_outside.specs.declared.held_files.Place.{Place}
-use Rattle.optra_outside.proofs.Chains.{nothing, IsSought, IsSought-start, IsSought-here, IsSought-older, IsSought-none, last_with-le}
+use Rattle.optra_outside.proofs.Chains.{nothing, IsSought-start, IsSought-here, IsSought-older, IsSought-none, last_with-le}
 use Rattle.optra_outside.proofs.held_files.HeldFiles.get.Goals as goal
 
 -- the file at a place of the list

@@ -1,5 +1,4 @@
-use Rattle.std.proofs.Common.{◌≡◌, ℕ, ◌+◌, List, ◌++◌, length, map, unwrap_or, Some, cond, eqb, nat_eq, sym, ap, ◌∙◌, arith, length-append, rules}
-use Rattle.std.specs.FinMap as map_of
+use Rattle.std.proofs.Common.{◌≡◌, ℕ, ◌+◌, ◌++◌, length, map, unwrap_or, Some, cond, eqb, nat_eq, ap, ◌∙◌, arith, length-append, rules}
 use Rattle.std.specs.HashMap.{get}
 use Rattle.optra_outside.specs.HeldFiles.{files_of, file_at, name_hash}
 use Rattle.optra_outside.specs.declared.held_files.Place.{Place}
