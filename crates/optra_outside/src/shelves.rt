@@ -48,7 +48,8 @@ pub trait Shelf {
     fn get(&mut self, alloc: Global, name: &str) -> Result<Vec<u8>, ShelfError>
         ensures leaves { GetLeaves (state self.old) (state self.new) }
         ensures cause { GetCause (state self.old) (state self.new) result }
-        ensures answer { (state self.old).tells ≡ true → Answers (state self.old).files (state self.old).limit name.now result };
+        ensures answer { (state self.old).tells ≡ true
+            → Answers (state self.old).files (state self.old).limit name.now result };
 
     /// Has a name hold these bytes. All other names hold what they held.
     ///
@@ -56,6 +57,7 @@ pub trait Shelf {
     /// be absent or hold anything. The other counts stay as they are.
     fn put(&mut self, name: &str, bytes: &[u8]) -> Result<(), ShelfError>
         ensures leaves { PutLeaves (state self.old) (state self.new) }
-        ensures ok { OnOk result ((state self.new).tells ≡ true → (state self.new).files ≡ insert (state self.old).files name.now bytes.now) }
+        ensures ok { OnOk result ((state self.new).tells ≡ true
+            → (state self.new).files ≡ insert (state self.old).files name.now bytes.now) }
         ensures failed { OnErr result (PutFailed (state self.old) (state self.new) name.now result) };
 }
