@@ -135,3 +135,6 @@ impl<T: Drop> From<AllocFailed<T>> for BidFault {
         BidFault::NoMemory
     }
 }
+
+#[cfg(test)]
+mod tests;
