@@ -1,11 +1,12 @@
 //! A finished network, its look-ups, and when two uses of tracks are in conflict.
-ghost use Rattle.std.specs.Prelude.{◌≡◌, ◌+◌, ◌<◌, ◌≤◌, ◌↔◌, length, IsTrue, MatchBool, Some, slice_get};
+ghost use Rattle.std.specs.Prelude.{◌≡◌, ◌+◌, ◌<◌, ◌≤◌, ◌↔◌, length, All, IfSome, IsTrue, MatchBool, Some, slice_get};
 ghost use Rattle.std.specs.Option.{option_map};
 ghost use Rattle.optra_network.specs.Headways.{hmin_of};
-ghost use Rattle.optra_network.specs.Net.{times_of, headway_of, minutes_by, out_tracks_of, MayUse, IsProper, IsStation, IsTrack, IsKind};
+ghost use Rattle.optra_network.specs.Net.{times_of, headway_of, minutes_by, out_tracks_of, IsFromTo, MayUse, IsProper, IsStation, IsTrack, IsKind};
 ghost use Rattle.optra_network.specs.Refusals.{station_named, track_named, type_named};
 ghost use Rattle.optra_network.specs.Conflict.{AreCompatible, KeepsHeadway};
 
+use crate::dense::{Tables, above_zero};
 use crate::names::Names;
 use crate::{StationId, Times, Track, TrackId, TrackUse, TypeId};
 use indexmap::IndexMap;
@@ -20,15 +21,8 @@ pub struct Network {
     pub(crate) types: Names,
     pub(crate) running: IndexMap<(u16, u16), Times>,
     pub(crate) headways: IndexMap<(u16, u16, u16), u16>,
-    pub(crate) out: Vec<Vec<TrackId>>,
+    /// All that is held ready for look-ups. The invariant ties it to the other fields.
     pub(crate) tables: Tables,
-}
-
-/// What is held ready of the headways.
-#[derive(Drop)]
-pub(crate) struct Tables {
-    /// By track and type, sixteen a track.
-    pub(crate) leasts: Vec<u16>,
 }
 
 impl Model for Network {
@@ -47,48 +41,36 @@ impl Network {
     /// The running time in minutes, 1 to 240, from a halt or a pass at the tail to a halt or a pass at the head. None
     /// exactly where the type may not use the track, so also for a track or a type that isn't there.
     pub fn run(&self, track: TrackId, kind: TypeId, from_halt: bool, to_halt: bool) -> Option<u16>
-        ensures { result ≡ option_map (minutes_by from_halt to_halt) (times_of self.now track kind) }
+        ensures minutes { result ≡ option_map (minutes_by from_halt to_halt) (times_of self.now track kind) }
+        ensures range { IfSome result (IsFromTo 1 240) }
     {
-        let times = self.running.get(&(track.0, kind.0))?;
-        Some(match (from_halt, to_halt) {
-            (false, false) => times.pass_pass,
-            (false, true) => times.pass_halt,
-            (true, false) => times.halt_pass,
-            (true, true) => times.halt_halt,
-        })
+        let times = self.tables.rows.times(track, kind);
+        above_zero(minutes(times, from_halt, to_halt))
     }
 
     /// The headway in minutes, 1 to 120, that a train of the second type keeps after one of the first type on the
     /// track. None exactly where no row gave one, so also for a track or a type that isn't there.
     pub fn headway(&self, track: TrackId, first: TypeId, second: TypeId) -> Option<u16>
-        ensures { result ≡ headway_of self.now track first second }
+        ensures minutes { result ≡ headway_of self.now track first second }
+        ensures range { IfSome result (IsFromTo 1 120) }
     {
-        self.headways.get(&(track.0, first.0, second.0)).copied()
+        above_zero(self.tables.rows.headway(track, first, second))
     }
 
     /// The least headway after the type in minutes, 1 to 120, over the types that may use the track. None exactly
     /// where the type may not use the track, so also for a track or a type that isn't there.
     pub fn hmin(&self, track: TrackId, kind: TypeId) -> Option<u16>
-        ensures { result ≡ hmin_of self.now track kind }
+        ensures minutes { result ≡ hmin_of self.now track kind }
+        ensures range { IfSome result (IsFromTo 1 120) }
     {
-        if !self.running.contains_key(&(track.0, kind.0)) {
-            return None;
-        }
-        self.least(track, kind)
-    }
-
-    fn least(&self, track: TrackId, kind: TypeId) -> Option<u16>
-        requires { MayUse self.now track kind }
-        ensures { result ≡ hmin_of self.now track kind }
-    {
-        let least = self.tables.leasts[track.0 as usize * 16 + kind.0 as usize];
-        if least == 0 { None } else { Some(least) }
+        above_zero(self.tables.least(track, kind))
     }
 
     /// The station that the track leads from.
     pub fn tail(&self, track: TrackId) -> StationId
         requires { IsTrack self.now track }
-        ensures { option_map (λ t. t.tail) (slice_get self.now.tracks track.0) ≡ Some result }
+        ensures tail { option_map (λ t. t.tail) (slice_get self.now.tracks track.0) ≡ Some result }
+        ensures there { IsStation self.now result }
     {
         self.tracks[track.0 as usize].tail
     }
@@ -96,7 +78,8 @@ impl Network {
     /// The station that the track leads to.
     pub fn head(&self, track: TrackId) -> StationId
         requires { IsTrack self.now track }
-        ensures { option_map (λ t. t.head) (slice_get self.now.tracks track.0) ≡ Some result }
+        ensures head { option_map (λ t. t.head) (slice_get self.now.tracks track.0) ≡ Some result }
+        ensures there { IsStation self.now result }
     {
         self.tracks[track.0 as usize].head
     }
@@ -104,9 +87,10 @@ impl Network {
     /// The tracks that lead from the station, by track position.
     pub fn out_tracks(&self, station: StationId) -> &[TrackId]
         requires { IsStation self.now station }
-        ensures { result.now ≡ out_tracks_of self.now.tracks station }
+        ensures tracks { result.now ≡ out_tracks_of self.now.tracks station }
+        ensures there { All (IsTrack self.now) result.now }
     {
-        &self.out[station.0 as usize]
+        self.tables.out.of(station)
     }
 
     /// How many stations there are, at most 300.
@@ -135,7 +119,8 @@ impl Network {
 
     /// The station of the name. None exactly where no station has it.
     pub fn station_id(&self, name: &str) -> Option<StationId>
-        ensures { result ≡ station_named self.now name.now }
+        ensures id { result ≡ station_named self.now name.now }
+        ensures there { IfSome result (IsStation self.now) }
     {
         self.stations
             .place(name)
@@ -144,7 +129,8 @@ impl Network {
 
     /// The track of the name. None exactly where no track has it.
     pub fn track_id(&self, name: &str) -> Option<TrackId>
-        ensures { result ≡ track_named self.now name.now }
+        ensures id { result ≡ track_named self.now name.now }
+        ensures there { IfSome result (IsTrack self.now) }
     {
         self.track_names
             .place(name)
@@ -153,7 +139,8 @@ impl Network {
 
     /// The train type of the name. None exactly where no type has it.
     pub fn type_id(&self, name: &str) -> Option<TypeId>
-        ensures { result ≡ type_named self.now name.now }
+        ensures id { result ≡ type_named self.now name.now }
+        ensures there { IfSome result (IsKind self.now) }
     {
         self.types.place(name).map(|place| TypeId(place as u16))
     }
@@ -202,5 +189,17 @@ fn keeps_headway(net: &Network, a: TrackUse, b: TrackUse) -> bool
     match net.headway(a.track, a.kind, b.kind) {
         Some(gap) => u32::from(a.time) + u32::from(gap) <= u32::from(b.time),
         None => false,
+    }
+}
+
+/// The minutes by the modes at the two ends.
+fn minutes(times: Times, from_halt: bool, to_halt: bool) -> u16
+    ensures { result ≡ minutes_by from_halt to_halt times }
+{
+    match (from_halt, to_halt) {
+        (false, false) => times.pass_pass,
+        (false, true) => times.pass_halt,
+        (true, false) => times.halt_pass,
+        (true, true) => times.halt_halt,
     }
 }
