@@ -1,0 +1,3 @@
+-- Lemmas on tables.
+pub mod RecordLemmas
+pub mod RowLemmas

@@ -1,0 +1,27 @@
+-- Each record goes on, or is the first fault.
+use Rattle.std.proofs.Common.{arith}
+use Rattle.std.proofs.lemmas.Result.{err_from_is_err_and}
+use Rattle.csv.specs.Records.{fields_of}
+use Rattle.optra_tables.specs.Networks.{station_row}
+use Rattle.optra_tables.proofs.RowLemmas.{row_fails, row_goes, rows_end}
+use Rattle.optra_tables.proofs.stations.read_rows.Goals as goal
+
+pub returns-in_err-read_row : goal.returns-in_err-read_row
+returns-in_err-read_row c =
+    let p = err_from_is_err_and c.from_residual-in_err-read_row.result c.from_residual-in_err-read_row.ensures.1 in
+    rw (p.1, p.2) (
+      row_fails station_row c.rows.records c.next.new.self (fields_of c.next.new.row) c.rows.net c.rows.row _ c.in_err-read_row.field-0.0
+      (rw c.if-branch.true at c.in_ok-next.ensures.read) c.in_err-read_row.ensures.gives c.rows.invariant.rest
+    )
+
+pub rows-preserved : goal.rows-preserved
+rows-preserved c = record {
+  row = omega (arith, c.in_ok-read_row.ensures.more);
+  few = omega (arith, c.in_ok-read_row.ensures.more, c.in_ok-read_row.ensures.few);
+  rest =
+      row_goes station_row c.rows.records c.next.new.self (fields_of c.next.new.row) c.rows.net c.read_row.new.net c.rows.row _
+      (rw c.if-branch.true at c.in_ok-next.ensures.read) c.in_ok-read_row.ensures.gives c.rows.invariant.rest;
+}
+
+pub returns : goal.returns
+returns c = rows_end station_row c.rows.records c.rows.net c.rows.row _ (rw c.if-branch.false at c.in_ok-next.ensures.read) c.rows.invariant.rest
