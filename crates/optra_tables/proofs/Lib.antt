@@ -1,3 +1,5 @@
 -- Lemmas on tables.
 pub mod RecordLemmas
 pub mod RowLemmas
+pub mod FreeLemmas
+pub mod StepLemmas

@@ -1,5 +1,5 @@
 -- The network that five tables mean, or their first fault.
-use Rattle.std.specs.Prelude.{ℕ, Bool, List, [], ◌∷◌, ◌++◌, ◌&&◌, ◌||◌, not, nat_eq, is_some, Option, None, Some, Result, codes, unwrap_or, if◌then◌else◌}
+use Rattle.std.specs.Prelude.{◌≡◌, ◌≤◌, ℕ, Bool, List, [], ◌∷◌, length, ◌++◌, ◌&&◌, ◌||◌, not, nat_eq, is_some, Option, None, Some, Result, codes, unwrap_or, if◌then◌else◌}
 use Rattle.std.specs.List.{list_all}
 use Rattle.std.specs.Map.{lookup}
 use Rattle.optra_network.specs.Net.{Net, empty_net, same_triple}
@@ -10,8 +10,15 @@ use Rattle.optra_records.specs.Reading.{Record}
 use Rattle.optra_tables.specs.Fields.{four_at, name_at, number_at, shaped}
 use Rattle.optra_tables.specs.Outcomes.{◌>>=◌, net_outcome}
 use Rattle.optra_tables.specs.Rows.{table_read}
+use Rattle.optra_tables.specs.declared.NetFiles.{NetFiles}
 use Rattle.optra_tables.specs.declared.Table.TheVariants.{Headways, Running, Stations, Tracks, Types}
 use Rattle.optra_tables.specs.declared.TableFault.{TableFault}
+
+-- the tracks and types that are there are few, and each track has a name
+pub record HasFew (net : Net) : Type 0 where
+  pub tracks : length net.tracks ≤ 1000
+  pub named : length net.track_names ≡ length net.tracks
+  pub types : length net.types ≤ 16
 
 -- ---- stations
 
@@ -93,6 +100,16 @@ pub record Files : Type 0 where
   pub types : List ℕ
   pub running : List ℕ
   pub headways : List ℕ
+
+-- the bytes of the files that are handed in
+abbrev pub files_of : NetFiles → Files
+files_of files = record {
+  stations = files.stations.now;
+  tracks = files.tracks.now;
+  types = files.types.now;
+  running = files.running.now;
+  headways = files.headways.now;
+}
 
 -- The network that the tables mean, or their first fault.
 unfoldable pub network_of : Files → Result Net TableFault

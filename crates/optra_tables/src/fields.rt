@@ -4,7 +4,7 @@ ghost use Rattle.std.specs.Prelude.{◌≡◌, ◌<◌, ◌^◌, IfOk, IsTrue, I
 ghost use Rattle.std.specs.Str.{is_utf8};
 ghost use Rattle.csv.specs.Records.{fields_of};
 ghost use Rattle.optra_network.specs.Names.{is_name};
-ghost use Rattle.optra_tables.specs.Fields.{field, is_row, name_at, name_of, number_at, shaped};
+ghost use Rattle.optra_tables.specs.Fields.{field, four_at, is_row, name_at, name_of, number_at, shaped, six_at, three_at, two_at};
 ghost use Rattle.optra_tables.specs.Outcomes.{Gives};
 
 use crate::outcomes::fails;
@@ -95,4 +95,51 @@ pub fn number_at(table: Table, row: u32, cells: &ByteRecord, i: usize) -> Result
         Some(n) => Ok(n),
         None => fails(table, row, Kind::Number),
     }
+}
+
+/// Two numbers in a row.
+pub fn two_at(table: Table, row: u32, cells: &ByteRecord, i: usize) -> Result<[u64; 2], ReadError>
+    requires { i < 1000 }
+    ensures { Gives (λ numbers. numbers) result (two_at table row (fields_of cells.now) i) }
+{
+    let a = number_at(table, row, cells, i)?;
+    let b = number_at(table, row, cells, i + 1)?;
+    Ok([a, b])
+}
+
+/// Three numbers in a row.
+pub fn three_at(table: Table, row: u32, cells: &ByteRecord, i: usize) -> Result<[u64; 3], ReadError>
+    requires { i < 1000 }
+    ensures { Gives (λ numbers. numbers) result (three_at table row (fields_of cells.now) i) }
+{
+    let a = number_at(table, row, cells, i)?;
+    let b = number_at(table, row, cells, i + 1)?;
+    let c = number_at(table, row, cells, i + 2)?;
+    Ok([a, b, c])
+}
+
+/// Four numbers in a row.
+pub fn four_at(table: Table, row: u32, cells: &ByteRecord, i: usize) -> Result<[u64; 4], ReadError>
+    requires { i < 1000 }
+    ensures { Gives (λ numbers. numbers) result (four_at table row (fields_of cells.now) i) }
+{
+    let a = number_at(table, row, cells, i)?;
+    let b = number_at(table, row, cells, i + 1)?;
+    let c = number_at(table, row, cells, i + 2)?;
+    let d = number_at(table, row, cells, i + 3)?;
+    Ok([a, b, c, d])
+}
+
+/// Six numbers in a row.
+pub fn six_at(table: Table, row: u32, cells: &ByteRecord, i: usize) -> Result<[u64; 6], ReadError>
+    requires { i < 1000 }
+    ensures { Gives (λ numbers. numbers) result (six_at table row (fields_of cells.now) i) }
+{
+    let a = number_at(table, row, cells, i)?;
+    let b = number_at(table, row, cells, i + 1)?;
+    let c = number_at(table, row, cells, i + 2)?;
+    let d = number_at(table, row, cells, i + 3)?;
+    let e = number_at(table, row, cells, i + 4)?;
+    let f = number_at(table, row, cells, i + 5)?;
+    Ok([a, b, c, d, e, f])
 }

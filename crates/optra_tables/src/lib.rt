@@ -7,11 +7,16 @@
 #![tactic(auto)]
 
 mod fields;
+mod headways;
+mod networks;
 mod outcomes;
 mod rows;
+mod running;
 mod stations;
+mod tracks;
+mod types;
 
-pub use stations::read_stations;
+pub use networks::read_network;
 
 use optra_bid::BidRefusal;
 use optra_network::NetRefusal;

@@ -1,13 +1,14 @@
--- What is left gives what all records give; each record accepted is a station.
+-- What is left gives what all records give; each record that is accepted takes some of the room.
 use Rattle.std.proofs.Common.{◌≡◌, ◌+◌, ◌≤◌, length}
-use Rattle.optra_tables.specs.Networks.{station_row}
+use Rattle.optra_tables.specs.Networks.{HasFew, station_row}
 use Rattle.optra_tables.specs.Rows.{rows_from}
+use Rattle.optra_tables.proofs.StepLemmas.{stations_room}
 use Rattle.optra_tables.proofs.stations.read_rows.Given as goal
 
 abbrev pub invariant-rows : goal.invariant-rows
 invariant-rows l = record {
-  row : l.row ≡ length l.net.stations + 2;
-  few : length l.net.stations ≤ 300;
+  few : HasFew l.net;
+  row : l.row + stations_room l.net ≤ stations_room l.fn.net + 2;
   rest : rows_from station_row l.net l.row l.records ≡ rows_from station_row l.fn.net 2 l.fn.records;
 }
 
