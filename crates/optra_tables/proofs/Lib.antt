@@ -3,3 +3,5 @@ pub mod RecordLemmas
 pub mod RowLemmas
 pub mod FreeLemmas
 pub mod StepLemmas
+pub mod CompleteLemmas
+pub mod NetworkLemmas
