@@ -5,3 +5,5 @@ pub mod FreeLemmas
 pub mod StepLemmas
 pub mod CompleteLemmas
 pub mod NetworkLemmas
+pub mod BidLemmas
+pub mod BidStepLemmas

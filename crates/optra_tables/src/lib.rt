@@ -6,6 +6,8 @@
 //! network or the bid refuses.
 #![tactic(auto)]
 
+mod bid_list;
+mod bids;
 mod fields;
 mod headways;
 mod networks;
@@ -13,10 +15,12 @@ mod outcomes;
 mod rows;
 mod running;
 mod stations;
+mod stops;
 mod tracks;
 mod types;
 
 pub use networks::read_network;
+pub use stops::read_bids;
 
 use optra_bid::BidRefusal;
 use optra_network::NetRefusal;
