@@ -1,11 +1,14 @@
 -- What each accepted record of a bid or a stop adds, and that there are never too many.
-use Rattle.std.proofs.Common.{◌≡◌, ◌+◌, ◌-◌, ◌*◌, ◌<◌, ◌≤◌, ◌||◌, ◌++◌, ℕ, zero, suc, Bool, true, false, cond, not, List, [], ◌∷◌, length, set, Option, Some, None, slice_get, is_none, nat_le, nat_lt, refl, sym, ap, ◌∙◌, arith, subst, length-append}
+use Rattle.std.proofs.Common.{◌≡◌, ◌+◌, ◌-◌, ◌*◌, ◌<◌, ◌≤◌, ◌||◌, ◌++◌, ℕ, zero, suc, Bool, true, false, cond, not, List, [], ◌∷◌, length, set, Option, Some, None, slice_get, slice_index, is_none, nat_le, nat_lt, refl, sym, ap, ◌∙◌, arith, subst, length-append}
 use Rattle.std.proofs.lemmas.Bool.{leb-false, ltb-true}
 use Rattle.std.specs.Prelude.{Result, Ok, Err, if◌then◌else◌}
 use Rattle.optra_network.specs.Names.{place_of}
 use Rattle.optra_network.specs.Net.{Net}
-use Rattle.optra_bid.specs.Bids.{bid_refusal, stop_of, stop_refusal}
+use Rattle.optra_bid.specs.Bids.{bid_refusal, is_minute, stop_of, stop_refusal}
+use Rattle.optra_network.specs.Refusals.{first_of}
+use Rattle.optra_bid.specs.Specs.{Path}
 use Rattle.optra_bid.specs.declared.BidRefusal.{BidRefusal}
+use Rattle.optra_bid.specs.declared.BidRefusal.TheVariants as why
 use Rattle.optra_bid.specs.declared.RawStop.{RawStop}
 use Rattle.optra_bid.specs.declared.Stop.{Stop}
 use Rattle.optra_records.specs.Reading.{Record}
@@ -16,7 +19,7 @@ use Rattle.optra_tables.specs.Stops.{found_at, stop_outcome, stop_row, with_stop
 use Rattle.optra_tables.specs.declared.Table.{Table}
 use Rattle.optra_tables.specs.declared.Table.TheVariants.{Bids, Stops}
 use Rattle.optra_tables.specs.declared.TableFault.{TableFault}
-use Rattle.optra_tables.proofs.StepLemmas.{from_bind, not_first}
+use Rattle.optra_tables.proofs.StepLemmas.{from_bind}
 
 pub from_guard : (f : TableFault) (b : Bool) (x : Unit {0}) → guard f b ≡ Ok x → b ≡ true
 from_guard f true x e = refl
@@ -85,6 +88,30 @@ or_left : (a b : Bool) → (a || b) ≡ false → a ≡ false
 or_left true b e = absurd (cc e)
 or_left false b e = refl
 
+third_of : {R : Type 0} (a b c : Bool) (x y z : R) → first_of ((a, x) ∷ (b, y) ∷ (c, z) ∷ []) ≡ None → c ≡ false
+third_of true b c x y z e = absurd (cc e)
+third_of false true c x y z e = absurd (cc e)
+third_of false false true x y z e = absurd (cc e)
+third_of false false false x y z e = refl
+
+-- a bid that isn't refused a stop had fewer than eight
+stops_below : (path : Path) (raw : RawStop) → stop_refusal path raw ≡ None → length path.stops < 8
+stops_below path raw e =
+    let late = not (is_minute (slice_index raw.arrive 0)) || not (is_minute (slice_index raw.arrive 1)) || nat_lt 240 raw.min_dwell || nat_lt 240 raw.max_dwell in
+    let full = nat_le 8 (length path.stops) || nat_lt raw.max_dwell raw.min_dwell || nat_lt 30 (raw.max_dwell - raw.min_dwell) in
+    let free : full ≡ false = third_of (nat_lt (slice_index raw.arrive 1) (slice_index raw.arrive 0)) late full why.Window why.Range why.Stops e in
+    leb-false 8 (length path.stops)
+    (or_left (nat_le 8 (length path.stops)) (nat_lt raw.max_dwell raw.min_dwell)
+    (or_left (nat_le 8 (length path.stops) || nat_lt raw.max_dwell raw.min_dwell) (nat_lt 30 (raw.max_dwell - raw.min_dwell)) free))
+
+stop_added : (row : ℕ) (bids new : List Parts) (place : ℕ) (bid : Parts) (raw : RawStop) → slice_get bids place ≡ Some bid → stop_outcome row bids place bid raw ≡ Ok new
+    → (length new ≡ length bids) × (stops_room new + 1 ≤ stops_room bids)
+stop_added row bids new place bid raw there e =
+    let c = from_bid_outcome Stops row (stop_refusal bid.path raw) (set bids place (with_stop bid (stop_of raw))) new e in (
+      sym (ap length c.1) ∙ length_set bids place (with_stop bid (stop_of raw)),
+      subst (λ (l : List Parts). stops_room l + 1 ≤ stops_room bids) c.1 (stops_more bids place bid (stop_of raw) there (stops_below bid.path raw c.0)),
+    )
+
 -- a stop that is accepted takes one of the places of its bid
 pub stop_step : (net : Net) (bids new : List Parts) (row : ℕ) (fields : Record) → stop_row net bids row fields ≡ Ok new → (length new ≡ length bids) × (stops_room new + 1 ≤ stops_room bids)
 unfolding stop_row
@@ -98,13 +125,4 @@ stop_step net bids new row fields e =
     let found = from_bind (found_at net bids row name.0 station.0) _ new arrive.2 in
     let bid = from_bind (or_fault _ (slice_get bids found.0.0)) _ new found.2 in
     let raw : RawStop = record { station = found.0.1; min_dwell = low.0; max_dwell = high.0; arrive = arrive.0 } in
-    let there = from_or_fault _ (slice_get bids found.0.0) bid.0 bid.1 in
-    let c = from_bid_outcome Stops row (stop_refusal bid.0.path raw) (set bids found.0.0 (with_stop bid.0 (stop_of raw))) new bid.2 in
-    let window = not_first _ _ _ c.0 in
-    let range = not_first _ _ _ window.1 in
-    let stops = not_first _ _ _ range.1 in
-    let few = leb-false 8 (length bid.0.path.stops) (or_left _ _ (or_left _ _ stops.0)) in
-    (
-      sym (ap length c.1) ∙ length_set bids found.0.0 (with_stop bid.0 (stop_of raw)),
-      subst (λ (l : List Parts). stops_room l + 1 ≤ stops_room bids) c.1 (stops_more bids found.0.0 bid.0 (stop_of raw) there few),
-    )
+    stop_added row bids new found.0.0 bid.0 raw (from_or_fault _ (slice_get bids found.0.0) bid.0 bid.1) bid.2

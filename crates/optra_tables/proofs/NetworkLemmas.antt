@@ -1,19 +1,13 @@
 -- The first fault of five tables is that of the first one that has a fault.
-use Rattle.std.proofs.Common.{◌≡◌, ap}
-use Rattle.std.specs.Prelude.{Result, Ok}
+use Rattle.std.proofs.Common.{◌≡◌}
+use Rattle.std.specs.Prelude.{Ok}
 use Rattle.optra_network.specs.Net.{Net, empty_net}
 use Rattle.optra_tables.specs.Networks.{Files, headway_row, headways_header, network_of, running_header, running_row, station_row, stations_header, track_row, tracks_header, type_row, types_header}
-use Rattle.optra_tables.specs.Outcomes.{◌>>=◌, Fails}
+use Rattle.optra_tables.specs.Outcomes.{Fails}
 use Rattle.optra_tables.specs.Rows.{table_read}
 use Rattle.optra_tables.specs.declared.ReadError.{ReadError}
-use Rattle.optra_tables.specs.declared.ReadError.TheVariants as errors
 use Rattle.optra_tables.specs.declared.Table.TheVariants.{Headways, Running, Stations, Tracks, Types}
-use Rattle.optra_tables.specs.declared.TableFault.{TableFault}
-
--- a fault goes through
-pub fails_bind : {Y Z : Type 0} (e : ReadError) (read : Result Y TableFault) (more : Y → Result Z TableFault) → Fails e read → Fails e (read >>= more)
-fails_bind errors.NoMemory read more h = tt
-fails_bind (errors.Fault f) read more h = ap (λ (r : Result _ TableFault). r >>= more) h
+use Rattle.optra_tables.proofs.RowLemmas.{fails_bind}
 
 pub fails_stations : (files : Files) (e : ReadError) → Fails e (table_read station_row Stations stations_header empty_net files.stations) → Fails e (network_of files)
 unfolding network_of

@@ -20,11 +20,10 @@ mod tracks;
 mod types;
 
 pub use networks::read_network;
-pub use stops::read_bids;
-
 use optra_bid::BidRefusal;
 use optra_network::NetRefusal;
 use std::alloc::{AllocError, AllocFailed};
+pub use stops::read_bids;
 
 /// The tables, in the order in which they are read.
 #[derive(Clone, Copy, Debug, PartialEq, Eq)]

@@ -1,6 +1,6 @@
 //! The table of stops, and the two tables of bids in order.
 
-ghost use Rattle.std.specs.Prelude.{◌≡◌, ◌<◌, ◌≤◌, length, map, slice_get, IfOk, IfSome};
+ghost use Rattle.std.specs.Prelude.{◌≡◌, ◌<◌, ◌≤◌, length, map, slice_get, IfOk, IfSome, OnOk};
 ghost use Rattle.csv.specs.Records.{fields_of};
 ghost use Rattle.optra_tables.specs.Bids.{parts_of};
 ghost use Rattle.optra_tables.specs.Outcomes.{Gives};
@@ -30,7 +30,13 @@ fn add(bids: &mut BidList, row: u32, place: usize, raw: &RawStop) -> Result<(), 
 }
 
 /// The place of a bid and the id of a station, if both are there.
-fn found(net: &Network, bids: &BidList, row: u32, name: &str, station: &str) -> Result<(usize, StationId), ReadError>
+fn found(
+    net: &Network,
+    bids: &BidList,
+    row: u32,
+    name: &str,
+    station: &str,
+) -> Result<(usize, StationId), ReadError>
     ensures gives { Gives (λ found. (found.0, found.1)) result (found_at net.now bids.now row name.now station.now) }
     ensures within { IfOk result (λ found. found.0 < length bids.now) }
 {
@@ -43,7 +49,12 @@ fn found(net: &Network, bids: &BidList, row: u32, name: &str, station: &str) -> 
 
 /// Reads one record.
 #[tactic(auto, unfolding(crate::specs::Stops::stop_row))]
-fn read_row(net: &Network, bids: &mut BidList, row: u32, cells: &ByteRecord) -> Result<(), ReadError>
+fn read_row(
+    net: &Network,
+    bids: &mut BidList,
+    row: u32,
+    cells: &ByteRecord,
+) -> Result<(), ReadError>
     ensures { Gives (λ _. bids.new) result (stop_row net.now bids.old row (fields_of cells.now)) }
 {
     shaped(Table::Stops, row, 6, cells)?;
@@ -70,7 +81,8 @@ fn read_rows(
     cells: &mut ByteRecord,
 ) -> Result<(), ReadError>
     requires { length bids.old ≤ 1000 }
-    ensures { Gives (λ _. bids.new) result (rows_from (stop_row net.now) bids.old 2 records.old) }
+    ensures gives { Gives (λ _. bids.new) result (rows_from (stop_row net.now) bids.old 2 records.old) }
+    ensures same { OnOk result (length bids.new ≡ length bids.old) }
 {
     let mut row = FIRST_ROW;
     'rows: while records.next(cells)? {
@@ -100,7 +112,8 @@ fn read_stops(
     bytes: &[u8],
 ) -> Result<(), ReadError>
     requires { length bids.old ≤ 1000 }
-    ensures { Gives (λ _. bids.new) result (table_read (stop_row net.now) Stops stops_header bids.old bytes.now) }
+    ensures gives { Gives (λ _. bids.new) result (table_read (stop_row net.now) Stops stops_header bids.old bytes.now) }
+    ensures same { OnOk result (length bids.new ≡ length bids.old) }
 {
     let mut records = Records::of_table(alloc, bytes);
     under_header(Table::Stops, &STOPS_HEADER, &mut records, cells)?;
