@@ -15,8 +15,10 @@ mod running;
 mod stations;
 mod tracks;
 mod types;
+mod writing;
 
 pub use networks::read_network;
+pub use writing::{bids_text, stops_text};
 
 use optra_bid::BidRefusal;
 use optra_network::NetRefusal;
