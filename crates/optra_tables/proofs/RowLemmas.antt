@@ -2,14 +2,19 @@
 use Rattle.std.proofs.Common.{◌≡◌, ◌+◌, ℕ, Bool, true, false, List, [], ◌∷◌, Result, Ok, Err, refl, sym, ap, ◌∙◌, subst}
 use Rattle.std.specs.Cmp.Lexicographic.{pointwise}
 use Rattle.std.specs.Str.{bytes_eq}
-use Rattle.optra_records.specs.Reading.{Record}
+use Rattle.optra_records.specs.Reading.{Record, table_records}
 use Rattle.optra_tables.specs.Outcomes.{◌>>=◌, Fails, fault}
-use Rattle.optra_tables.specs.Rows.{rows_from, under_header}
+use Rattle.optra_tables.specs.Rows.{rows_from, table_read, under_header}
 use Rattle.optra_tables.specs.declared.Kind.TheVariants as kinds
 use Rattle.optra_tables.specs.declared.ReadError.{ReadError}
 use Rattle.optra_tables.specs.declared.ReadError.TheVariants as errors
 use Rattle.optra_tables.specs.declared.Table.{Table}
 use Rattle.optra_tables.specs.declared.TableFault.{TableFault}
+
+-- a fault goes through
+pub fails_bind : {Y Z : Type 0} (e : ReadError) (read : Result Y TableFault) (more : Y → Result Z TableFault) → Fails e read → Fails e (read >>= more)
+fails_bind errors.NoMemory read more h = tt
+fails_bind (errors.Fault f) read more h = ap (λ (r : Result _ TableFault). r >>= more) h
 
 -- the first fault is the fault of the whole
 pub fails_at : {Y Z : Type 0} (e : ReadError) (read : Result Y TableFault) (more : Y → Result Z TableFault) (whole : Result Z TableFault) → Fails e read → (read >>= more) ≡ whole → Fails e whole
@@ -49,3 +54,15 @@ pub header_not : (table : Table) (header : Record) (before after : List Record) 
     → under_header table header before ≡ Err (fault table 1 kinds.Header)
 unfolding under_header
 header_not table header before after fields b h = rw (b, h) refl
+
+module _ {K : Type 0} (step : K → ℕ → Record → Result K TableFault) where
+  -- a fault of the header is that of the table
+  pub table_fails : (table : Table) (header : Record) (known : K) (bytes : List ℕ) (e : ReadError) → Fails e (under_header table header (table_records bytes)) → Fails e (table_read step table header known bytes)
+  unfolding table_read
+  table_fails table header known bytes e h = fails_bind e (under_header table header (table_records bytes)) (rows_from step known 2) h
+
+  -- under its header a table gives what its rows give
+  pub table_rows : (table : Table) (header : Record) (known : K) (bytes : List ℕ) (rest : List Record) → under_header table header (table_records bytes) ≡ Ok rest
+      → table_read step table header known bytes ≡ rows_from step known 2 rest
+  unfolding table_read
+  table_rows table header known bytes rest h = rw h refl

@@ -15,6 +15,7 @@ use Rattle.optra_bid.specs.declared.bids.Bid.{Bid}
 use Rattle.optra_records.specs.Reading.{Field, Record}
 use Rattle.optra_tables.specs.Fields.{name_at, number_at, shaped, six_at, three_at}
 use Rattle.optra_tables.specs.Outcomes.{◌>>=◌, bid_outcome, fault, guard, or_fault}
+use Rattle.optra_tables.specs.declared.bids.ToldBid.{ToldBid}
 use Rattle.optra_tables.specs.declared.Kind.TheVariants as kinds
 use Rattle.optra_tables.specs.declared.Table.TheVariants.{Bids}
 use Rattle.optra_tables.specs.declared.TableFault.{TableFault}
@@ -51,6 +52,21 @@ pub record Told : Type 0 where
   pub base : ℕ
   pub rates : List ℕ
   pub wait_max : ℕ
+
+-- what the code holds of it
+abbrev pub told_of : ToldBid → Told
+told_of told = record {
+  name = told.name.now;
+  bidder = told.bidder.now;
+  kind = told.kind.now;
+  origin = told.origin.now;
+  destination = told.destination.now;
+  depart = told.depart;
+  arrive = told.arrive;
+  base = told.base;
+  rates = told.rates;
+  wait_max = told.wait_max;
+}
 
 unfoldable pub told_at : ℕ → Record → Result Told TableFault
 told_at row fields = do
@@ -110,4 +126,5 @@ bid_row net bids row fields = do
   few ← guard (fault Bids row (kinds.Net TooMany)) (nat_lt (length bids) 1000)
   new ← guard (fault Bids row (kinds.Net TakenName)) (is_none (place_of told.name (names_of bids)))
   raw ← raw_at net row told
-  bid_outcome Bids row (bid_refusal raw) (bids ++ made_of told raw ∷ [])
+  bid ← bid_outcome Bids row (bid_refusal raw) (made_of told raw)
+  Ok (bids ++ bid ∷ [])

@@ -65,13 +65,7 @@ fn name_of(bytes: &[u8]) -> Option<&str>
     ensures name { IfSome result (λ name. IsTrue (is_name name.now)) }
 {
     match str::from_utf8(bytes) {
-        Ok(text) => {
-            if is_name(text) {
-                Some(text)
-            } else {
-                None
-            }
-        }
+        Ok(text) => { if is_name(text) { Some(text) } else { None } }
         Err(_) => None,
     }
 }

@@ -8,7 +8,7 @@ ghost use Rattle.optra_tables.specs.Outcomes.{Gives, net_outcome};
 ghost use Rattle.optra_tables.specs.Rows.{rows_from, table_read};
 ghost use Rattle.optra_tables.specs.declared.Table.TheVariants.{Headways};
 
-use crate::fields::{number_at, name_at, shaped};
+use crate::fields::{name_at, number_at, shaped};
 use crate::outcomes::net_answer;
 use crate::rows::{FIRST_ROW, under_header};
 use crate::{ReadError, Table};
@@ -18,7 +18,14 @@ use optra_records::Records;
 use std::alloc::Global;
 
 /// Adds what a record says, or tells why the network refuses it.
-fn add(net: &mut Builder, row: u32, track: &str, first: &str, second: &str, minutes: u64) -> Result<(), ReadError>
+fn add(
+    net: &mut Builder,
+    row: u32,
+    track: &str,
+    first: &str,
+    second: &str,
+    minutes: u64,
+) -> Result<(), ReadError>
     ensures { Gives (λ _. net.new) result (net_outcome Headways row (headway_refusal net.old track.now first.now second.now minutes) (unwrap_or (after_headway net.old track.now first.now second.now minutes) net.old)) }
 {
     let answer = net.headway(track, first, second, minutes);
@@ -40,7 +47,11 @@ fn read_row(net: &mut Builder, row: u32, cells: &ByteRecord) -> Result<(), ReadE
 }
 
 /// Reads the records that are left.
-fn read_rows(net: &mut Builder, records: &mut Records<'_>, cells: &mut ByteRecord) -> Result<(), ReadError>
+fn read_rows(
+    net: &mut Builder,
+    records: &mut Records<'_>,
+    cells: &mut ByteRecord,
+) -> Result<(), ReadError>
     requires { HasFew net.old }
     ensures gives { Gives (λ _. net.new) result (rows_from headway_row net.old 2 records.old) }
     ensures few { OnOk result (HasFew net.new) }
@@ -55,12 +66,22 @@ fn read_rows(net: &mut Builder, records: &mut Records<'_>, cells: &mut ByteRecor
 
 /// Reads the table of headways.
 #[tactic(auto, unfolding(crate::specs::Rows::table_read))]
-pub fn read_headways(alloc: Global, net: &mut Builder, cells: &mut ByteRecord, bytes: &[u8]) -> Result<(), ReadError>
+pub fn read_headways(
+    alloc: Global,
+    net: &mut Builder,
+    cells: &mut ByteRecord,
+    bytes: &[u8],
+) -> Result<(), ReadError>
     requires { HasFew net.old }
     ensures gives { Gives (λ _. net.new) result (table_read headway_row Headways headways_header net.old bytes.now) }
     ensures few { OnOk result (HasFew net.new) }
 {
     let mut records = Records::of_table(alloc, bytes);
-    under_header(Table::Headways, &["track", "first", "second", "minutes"], &mut records, cells)?;
+    under_header(
+        Table::Headways,
+        &["track", "first", "second", "minutes"],
+        &mut records,
+        cells,
+    )?;
     read_rows(net, &mut records, cells)
 }

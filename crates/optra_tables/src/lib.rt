@@ -6,6 +6,8 @@
 //! network or the bid refuses.
 #![tactic(auto)]
 
+mod bid_list;
+mod bids;
 mod fields;
 mod headways;
 mod networks;
@@ -13,16 +15,17 @@ mod outcomes;
 mod rows;
 mod running;
 mod stations;
+mod stops;
 mod tracks;
 mod types;
 mod writing;
 
 pub use networks::read_network;
-pub use writing::{bids_text, stops_text};
-
 use optra_bid::BidRefusal;
 use optra_network::NetRefusal;
 use std::alloc::{AllocError, AllocFailed};
+pub use stops::read_bids;
+pub use writing::{bids_text, stops_text};
 
 /// The tables, in the order in which they are read.
 #[derive(Clone, Copy, Debug, PartialEq, Eq)]

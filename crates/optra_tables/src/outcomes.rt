@@ -1,10 +1,10 @@
 //! Faults, and the refusals of the network and of bids as faults of a row.
 
 ghost use Rattle.std.specs.Prelude.{◌≡◌, Err};
-ghost use Rattle.optra_tables.specs.Outcomes.{IsBidAnswer, IsNetAnswer, fault};
+ghost use Rattle.optra_tables.specs.Outcomes.{Gives, IsBidAnswer, IsNetAnswer, fault, or_fault};
 
 use crate::{Kind, ReadError, Table, TableFault};
-use optra_bid::BidFault;
+use optra_bid::{BidFault, BidRefusal};
 use optra_network::NetFault;
 
 /// A fault of a row.
@@ -33,5 +33,15 @@ pub fn bid_answer<T>(table: Table, row: u32, answer: Result<T, BidFault>) -> Res
         Ok(value) => Ok(value),
         Err(BidFault::Refused(why)) => fails(table, row, Kind::Bid(why)),
         Err(BidFault::NoMemory) => Err(ReadError::NoMemory),
+    }
+}
+
+/// What is named is there, or the row is at fault.
+pub fn known<T>(table: Table, row: u32, found: Option<T>) -> Result<T, ReadError>
+    ensures { Gives (λ value. value) result (or_fault (fault table row (Kind.Bid BidRefusal.UnknownName)) found) }
+{
+    match found {
+        Some(value) => Ok(value),
+        None => fails(table, row, Kind::Bid(BidRefusal::UnknownName)),
     }
 }

@@ -18,7 +18,13 @@ use optra_records::Records;
 use std::alloc::Global;
 
 /// Adds what a record says, or tells why the network refuses it.
-fn add(net: &mut Builder, row: u32, track: &str, kind: &str, times: [u64; 4]) -> Result<(), ReadError>
+fn add(
+    net: &mut Builder,
+    row: u32,
+    track: &str,
+    kind: &str,
+    times: [u64; 4],
+) -> Result<(), ReadError>
     ensures { Gives (λ _. net.new) result (net_outcome Running row (running_refusal net.old track.now kind.now times) (unwrap_or (after_running net.old track.now kind.now times) net.old)) }
 {
     let answer = net.running(track, kind, times);
@@ -39,7 +45,11 @@ fn read_row(net: &mut Builder, row: u32, cells: &ByteRecord) -> Result<(), ReadE
 }
 
 /// Reads the records that are left.
-fn read_rows(net: &mut Builder, records: &mut Records<'_>, cells: &mut ByteRecord) -> Result<(), ReadError>
+fn read_rows(
+    net: &mut Builder,
+    records: &mut Records<'_>,
+    cells: &mut ByteRecord,
+) -> Result<(), ReadError>
     requires { HasFew net.old }
     ensures gives { Gives (λ _. net.new) result (rows_from running_row net.old 2 records.old) }
     ensures few { OnOk result (HasFew net.new) }
@@ -54,12 +64,29 @@ fn read_rows(net: &mut Builder, records: &mut Records<'_>, cells: &mut ByteRecor
 
 /// Reads the table of running times.
 #[tactic(auto, unfolding(crate::specs::Rows::table_read))]
-pub fn read_running(alloc: Global, net: &mut Builder, cells: &mut ByteRecord, bytes: &[u8]) -> Result<(), ReadError>
+pub fn read_running(
+    alloc: Global,
+    net: &mut Builder,
+    cells: &mut ByteRecord,
+    bytes: &[u8],
+) -> Result<(), ReadError>
     requires { HasFew net.old }
     ensures gives { Gives (λ _. net.new) result (table_read running_row Running running_header net.old bytes.now) }
     ensures few { OnOk result (HasFew net.new) }
 {
     let mut records = Records::of_table(alloc, bytes);
-    under_header(Table::Running, &["track", "type", "pass_pass", "pass_halt", "halt_pass", "halt_halt"], &mut records, cells)?;
+    under_header(
+        Table::Running,
+        &[
+            "track",
+            "type",
+            "pass_pass",
+            "pass_halt",
+            "halt_pass",
+            "halt_halt",
+        ],
+        &mut records,
+        cells,
+    )?;
     read_rows(net, &mut records, cells)
 }

@@ -41,7 +41,11 @@ fn read_row(net: &mut Builder, row: u32, cells: &ByteRecord) -> Result<(), ReadE
 }
 
 /// Reads the records that are left.
-fn read_rows(net: &mut Builder, records: &mut Records<'_>, cells: &mut ByteRecord) -> Result<(), ReadError>
+fn read_rows(
+    net: &mut Builder,
+    records: &mut Records<'_>,
+    cells: &mut ByteRecord,
+) -> Result<(), ReadError>
     requires { HasFew net.old }
     ensures gives { Gives (λ _. net.new) result (rows_from track_row net.old 2 records.old) }
     ensures few { OnOk result (HasFew net.new) }
@@ -56,7 +60,12 @@ fn read_rows(net: &mut Builder, records: &mut Records<'_>, cells: &mut ByteRecor
 
 /// Reads the table of tracks.
 #[tactic(auto, unfolding(crate::specs::Rows::table_read))]
-pub fn read_tracks(alloc: Global, net: &mut Builder, cells: &mut ByteRecord, bytes: &[u8]) -> Result<(), ReadError>
+pub fn read_tracks(
+    alloc: Global,
+    net: &mut Builder,
+    cells: &mut ByteRecord,
+    bytes: &[u8],
+) -> Result<(), ReadError>
     requires { HasFew net.old }
     ensures gives { Gives (λ _. net.new) result (table_read track_row Tracks tracks_header net.old bytes.now) }
     ensures few { OnOk result (HasFew net.new) }

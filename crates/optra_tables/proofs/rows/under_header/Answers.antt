@@ -11,8 +11,8 @@ returns-then-not-branch c =
 pub returns-then-not-is_header : goal.returns-then-not-is_header
 returns-then-not-is_header c =
     rw c.fails-then-not-is_header.ensures (
-      header_not c.args.table (map (λ name. name.now) c.args.header.now) c.args.records.now c.next.new.self (fields_of c.next.new.row)
-      (rw c.if-not-branch.false at c.in_ok-next.ensures.read) (sym c.is_header.ensures ∙ c.if-not-is_header.true)
+    header_not c.args.table (map (λ name. name.now) c.args.header.now) c.args.records.now c.next.new.self (fields_of c.next.new.row)
+    (rw c.if-not-branch.false at c.in_ok-next.ensures.read) (sym c.is_header.ensures ∙ c.if-not-is_header.true)
     )
 
 pub returns : goal.returns

@@ -7,12 +7,12 @@ use Rattle.optra_tables.proofs.RowLemmas.{row_fails, row_goes, rows_end}
 use Rattle.optra_tables.proofs.StepLemmas.{station_rows_few, station_step}
 use Rattle.optra_tables.proofs.stations.read_rows.Goals as goal
 
-pub returns-in_err-read_row : goal.returns-in_err-read_row
-returns-in_err-read_row c =
+pub returns-in_err-read_row-clause-gives : goal.returns-in_err-read_row-clause-gives
+returns-in_err-read_row-clause-gives c =
     let p = err_from_is_err_and c.from_residual-in_err-read_row.result c.from_residual-in_err-read_row.ensures.1 in
     rw (p.1, p.2) (
-      row_fails station_row c.rows.records c.next.new.self (fields_of c.next.new.row) c.rows.net c.rows.row _ c.in_err-read_row.field-0.0
-      (rw c.if-branch.true at c.in_ok-next.ensures.read) c.in_err-read_row.ensures c.rows.invariant.rest
+    row_fails station_row c.rows.records c.next.new.self (fields_of c.next.new.row) c.rows.net c.rows.row _ c.in_err-read_row.field-0.0
+    (rw c.if-branch.true at c.in_ok-next.ensures.read) c.in_err-read_row.ensures c.rows.invariant.rest
     )
 
 pub overflow_add-row : goal.overflow_add-row
