@@ -46,7 +46,7 @@ stop_read : (net : Net) (bids : List Parts) (row : ℕ) (fields : Record) (name 
     → station_named net station ≡ Some stop.station → stop_row net bids row fields ≡ stop_outcome row bids place bid (raw_of_stop stop)
 unfolding stop_row
 stop_read net bids row fields name station place bid stop form first second least most arrive at there known =
-    rw (form, first, second, least, most, arrive, at, there, known) refl
+    rw (form, first, second, least, most, arrive, at, known, there) refl
 
 two_read : (row : ℕ) (fields : Record) (i a b : ℕ) → field fields i ≡ decimal a → field fields (i + 1) ≡ decimal b → a < 10 ^ 10 → b < 10 ^ 10 → two_at Stops row fields i ≡ Ok (a ∷ b ∷ [])
 two_read row fields i a b ea eb ha hb = rw (number_read Stops row fields i a ea ha, number_read Stops row fields (i + 1) b eb hb) refl

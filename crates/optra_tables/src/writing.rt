@@ -2,7 +2,6 @@
 
 ghost use Rattle.std.specs.Prelude.{◌≡◌, ◌++◌, ◌∷◌, [], map, All, IfOk, OnOk};
 ghost use Rattle.std.specs.Fmt.{signed_decimal};
-ghost use Rattle.std.specs.List.{flat_map};
 ghost use Rattle.optra_network.specs.Names.{AllDiffer};
 ghost use Rattle.optra_network.specs.Net.{IsStation};
 ghost use Rattle.optra_bid.specs.Instances.{IsInstance};
@@ -10,8 +9,11 @@ ghost use Rattle.optra_bid.specs.Specs.{IsPathOn};
 ghost use Rattle.optra_records.specs.Texts.{record_text, records_text};
 ghost use Rattle.optra_tables.specs.Bids.{bids_header, parts_of};
 ghost use Rattle.optra_tables.specs.Stops.{stops_header};
-ghost use Rattle.optra_tables.specs.Written.{IsSound, Mean, bid_record, bids_table, money_fields, name_fields, stop_record, stop_records, stops_table, window_fields};
+ghost use Rattle.optra_tables.specs.Written.{IsSound, Mean, all_stop_records, bids_table, parts, stops_table};
+ghost use Rattle.optra_tables.specs.Written.{bid_record, money_fields, name_fields, stop_record, window_fields};
 
+use crate::bids::BIDS_HEADER;
+use crate::stops::STOPS_HEADER;
 use optra_bid::{Bid, Money, Stop, Window};
 use optra_network::{Cents, Network, NoMemory};
 use optra_records::{Fields, Printer};
@@ -22,8 +24,8 @@ use std::alloc::Global;
 pub fn bids_text(alloc: Global, net: &Network, bids: &[Bid]) -> Result<Vec<u8>, NoMemory>
     requires instance { IsInstance net.now bids.now }
     requires differ { AllDiffer (map (λ bid. bid.name) bids.now) }
-    ensures text { IfOk result (λ text. text.items ≡ bids_table net.now (map parts_of bids.now)) }
-    ensures again { IfOk result (λ text. Mean net.now text.items (stops_table net.now (map parts_of bids.now)) (map parts_of bids.now)) }
+    ensures text { IfOk result (λ text. text.items ≡ bids_table net.now (parts bids.now)) }
+    ensures again { IfOk result (λ text. Mean net.now text.items (stops_table net.now (parts bids.now)) (parts bids.now)) }
 {
     let _proper = net.track_count();
     let mut printer = Printer::new(alloc);
@@ -33,13 +35,13 @@ pub fn bids_text(alloc: Global, net: &Network, bids: &[Bid]) -> Result<Vec<u8>, 
     printer.finish()
 }
 
-/// The table of the stops: its header, and for each bid in their order a record for each of its stops, in the order in
-/// which they are made. Read with the table of the bids, it means the same bids.
+/// The table of the stops: its header, and for each bid in their order a record for each of its stops, in the order
+/// in which they are made. Read with the table of the bids, it means the same bids.
 pub fn stops_text(alloc: Global, net: &Network, bids: &[Bid]) -> Result<Vec<u8>, NoMemory>
     requires instance { IsInstance net.now bids.now }
     requires differ { AllDiffer (map (λ bid. bid.name) bids.now) }
-    ensures text { IfOk result (λ text. text.items ≡ stops_table net.now (map parts_of bids.now)) }
-    ensures again { IfOk result (λ text. Mean net.now (bids_table net.now (map parts_of bids.now)) text.items (map parts_of bids.now)) }
+    ensures text { IfOk result (λ text. text.items ≡ stops_table net.now (parts bids.now)) }
+    ensures again { IfOk result (λ text. Mean net.now (bids_table net.now (parts bids.now)) text.items (parts bids.now)) }
 {
     let _proper = net.track_count();
     let mut printer = Printer::new(alloc);
@@ -62,27 +64,7 @@ fn print_bids_header(printer: &mut Printer, fields: &mut Fields) -> Result<(), N
     ensures { OnOk result (printer.new ≡ printer.old ++ record_text bids_header) }
 {
     fields.clear();
-    fields.texts(&[
-        "bid",
-        "bidder",
-        "type",
-        "origin",
-        "destination",
-        "depart_from",
-        "depart_ideal",
-        "depart_to",
-        "arrive_from",
-        "arrive_ideal",
-        "arrive_to",
-        "base",
-        "early_depart",
-        "late_depart",
-        "early_arrive",
-        "late_arrive",
-        "travel",
-        "wait",
-        "wait_max",
-    ])?;
+    fields.texts(&BIDS_HEADER)?;
     printer.print(fields)
 }
 
@@ -90,14 +72,7 @@ fn print_stops_header(printer: &mut Printer, fields: &mut Fields) -> Result<(), 
     ensures { OnOk result (printer.new ≡ printer.old ++ record_text stops_header) }
 {
     fields.clear();
-    fields.texts(&[
-        "bid",
-        "station",
-        "min_dwell",
-        "max_dwell",
-        "arrive_from",
-        "arrive_to",
-    ])?;
+    fields.texts(&STOPS_HEADER)?;
     printer.print(fields)
 }
 
@@ -179,7 +154,7 @@ fn print_bids(
     bids: &[Bid],
 ) -> Result<(), NoMemory>
     requires { All (λ bid. IsPathOn net.now bid.path) bids.now }
-    ensures text { OnOk result (printer.new ≡ printer.old ++ records_text (map (bid_record net.now) (map parts_of bids.now))) }
+    ensures text { OnOk result (printer.new ≡ printer.old ++ records_text (map (bid_record net.now) (parts bids.now))) }
     ensures sound { OnOk result (All (λ bid. IsSound (parts_of bid)) bids.now) }
 {
     'bids: for bid in bids {
@@ -230,7 +205,7 @@ fn print_stops(
     bids: &[Bid],
 ) -> Result<(), NoMemory>
     requires { All (λ bid. IsPathOn net.now bid.path) bids.now }
-    ensures text { OnOk result (printer.new ≡ printer.old ++ records_text (flat_map (stop_records net.now) (map parts_of bids.now))) }
+    ensures text { OnOk result (printer.new ≡ printer.old ++ records_text (all_stop_records net.now (parts bids.now))) }
     ensures sound { OnOk result (All (λ bid. IsSound (parts_of bid)) bids.now) }
 {
     'bids: for bid in bids {
@@ -238,3 +213,6 @@ fn print_stops(
     }
     Ok(())
 }
+
+#[cfg(test)]
+mod tests;
