@@ -1,4 +1,9 @@
 -- Lemmas on tables.
+pub mod WrittenLemmas
+pub mod WrittenBids
+pub mod WrittenStops
+pub mod WrittenPrints
+pub mod WrittenLaw
 pub mod RecordLemmas
 pub mod RowLemmas
 pub mod FreeLemmas

@@ -18,12 +18,14 @@ mod stations;
 mod stops;
 mod tracks;
 mod types;
+mod writing;
 
 pub use networks::read_network;
 use optra_bid::BidRefusal;
 use optra_network::NetRefusal;
 use std::alloc::{AllocError, AllocFailed};
 pub use stops::read_bids;
+pub use writing::{bids_text, stops_text};
 
 /// The tables, in the order in which they are read.
 #[derive(Clone, Copy, Debug, PartialEq, Eq)]
