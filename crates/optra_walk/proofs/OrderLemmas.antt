@@ -1,18 +1,17 @@
 -- The laws of walk order: it is a total order, and it ties two walks of one bid only where they are equal.
-use Rattle.std.proofs.Common.{◌≡◌, ℕ, zero, suc, ◌+◌, ◌<◌, Bool, true, false, not, List, [], ◌∷◌, length, get_or, Option, Some, None, IsSomeAnd, slice_get, refl, sym, ap, ◌∙◌, subst, arith, add-one, ◌↔◌}
+use Rattle.std.proofs.Common.{◌≡◌, ℕ, suc, ◌+◌, ◌<◌, List, [], ◌∷◌, length, get_or, Some, IsSomeAnd, refl, sym, ap, ◌∙◌, subst, arith, add-one, ◌↔◌}
 use Rattle.std.specs.declared.cmp.Ordering.{Ordering}
 use Rattle.std.specs.declared.cmp.Ordering.TheVariants.{Less, Equal, Greater}
 use Rattle.std.specs.Cmp.{IsTotalOrder}
 use Rattle.std.specs.Ordering.{nat_cmp, ordering_then}
 use Rattle.std.proofs.lemmas.Cmp.{nat_cmp_total, on_total, then_total, lists_total, tied_itself, ranked}
 use Rattle.optra_network.specs.Net.{Net}
-use Rattle.optra_network.specs.declared.TrackId.{TrackId}
 use Rattle.optra_network.specs.declared.TypeId.{TypeId}
 use Rattle.optra_bid.specs.Specs.{Path}
 use Rattle.optra_walk.specs.declared.Action.{Action}
 use Rattle.optra_walk.specs.declared.Action.TheVariants.{Pass, Halt, Wait, Finish}
 use Rattle.optra_walk.specs.declared.Leg.{Leg}
-use Rattle.optra_walk.specs.Legs.{is_pass, dwell_of, next_depart_of}
+use Rattle.optra_walk.specs.Legs.{dwell_of}
 use Rattle.optra_walk.specs.Walks.{IsNext, IsStart, IsWalk, first_leg}
 use Rattle.optra_walk.specs.Values.{first_departure}
 use Rattle.optra_walk.specs.Orders.{action_rank, action_cmp, leg_cmp, legs_cmp, walk_cmp}

@@ -1,11 +1,10 @@
 -- The legs of a choice's walks are ones that a family of rows may be asked of.
-use Rattle.std.proofs.Common.{◌≡◌, ℕ, zero, suc, ◌+◌, ◌-◌, ◌≤◌, ◌<◌, Bool, true, false, List, [], ◌∷◌, map, length, get_or, filter, Option, Some, None, IsSomeAnd, slice_get, refl, sym, ap, ◌∙◌, subst, cond, arith, add-zero}
+use Rattle.std.proofs.Common.{◌≡◌, ℕ, ◌+◌, ◌-◌, ◌≤◌, ◌<◌, Bool, true, false, List, [], ◌∷◌, map, length, get_or, filter, Option, Some, None, IsSomeAnd, slice_get, refl, sym, ap, ◌∙◌, subst, cond, arith}
 use Rattle.std.specs.Prelude.{All}
-use Rattle.std.specs.List.{AllZip, AllAdjacentBelow}
+use Rattle.std.specs.List.{AllZip}
 use Rattle.std.proofs.lemmas.List.Elements.{All-nil, All-cons, All-head, All-tail, All-append, All-map}
 use Rattle.std.proofs.lemmas.Option.{get_or_from_slice_get}
 use Rattle.optra_network.specs.Net.{Net, IsProper}
-use Rattle.optra_network.specs.declared.TypeId.{TypeId}
 use Rattle.optra_bid.specs.Specs.{Path, IsStop}
 use Rattle.optra_bid.specs.declared.Stop.{Stop}
 use Rattle.optra_bid.specs.declared.bids.Bid.{Bid}
@@ -13,7 +12,7 @@ use Rattle.optra_walk.specs.declared.Action.{Action}
 use Rattle.optra_walk.specs.declared.Action.TheVariants.{Pass, Halt, Wait, Finish}
 use Rattle.optra_walk.specs.declared.Leg.{Leg}
 use Rattle.optra_walk.specs.Legs.{is_halt, dwell_of, arrival_of}
-use Rattle.optra_walk.specs.Walks.{IsNext, IsWalk, IsEnd, MeetsStop, IsAllowedWait, last_leg}
+use Rattle.optra_walk.specs.Walks.{IsWalk, IsEnd, MeetsStop, IsAllowedWait, last_leg}
 use Rattle.optra_walk.specs.Choices.{IsChoice}
 use Rattle.optra_walk.specs.Families.{Entry, IsUsable, entries_of}
 use Rattle.optra_walk.proofs.WalkLemmas.{arrival_later, rises}

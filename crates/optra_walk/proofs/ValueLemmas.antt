@@ -1,6 +1,6 @@
 -- The value of a walk of a bid lies within its bounds.
-use Rattle.std.proofs.Common.{◌≡◌, ℕ, ◌+◌, ◌-◌, ◌≤◌, ◌*◌, List, sym, subst, arith}
-use Rattle.std.specs.Prelude.{ℤ, pos, negsuc, ◌≤ℤ◌, ◌*ℤ◌, ◌+ℤ◌, ◌-ℤ◌, unwrap_or, Option, Some, None, IsSomeAnd, length}
+use Rattle.std.proofs.Common.{ℕ, ◌-◌, ◌≤◌, ◌*◌, List, sym, subst, arith}
+use Rattle.std.specs.Prelude.{ℤ, pos, negsuc, ◌*ℤ◌, ◌+ℤ◌, ◌-ℤ◌, unwrap_or, Option, Some, None, IsSomeAnd}
 use Rattle.std.specs.Option.{option_map}
 use Rattle.std.proofs.lemmas.Int.{ints}
 use Rattle.std.proofs.lemmas.Nat.{mul-le}

@@ -130,11 +130,6 @@ fn bid(
     Ok(bid)
 }
 
-/// A bid from A to C whose ideal times are 0 and 40.
-fn through(alloc: Global, stops: &[RawStop]) -> Result<Bid, Fail> {
-    bid(alloc, C, [0, 0, 10], [0, 40, 100], stops)
-}
-
 fn stop(station: StationId, from: u64, to: u64) -> RawStop {
     RawStop {
         station,
@@ -162,7 +157,7 @@ fn worth(net: &Network, bid: &Bid, legs: &[Leg]) -> Option<Cents> {
     }
 }
 
-/// Whether the slow and the fast type are in conflict on the track from A to B.
+/// Whether a slow train and another one are in conflict on the track from A to B.
 fn in_conflict(net: &Network, slow: Minute, kind: TypeId, time: Minute) -> Option<bool> {
     net.run(AB, SLOW, true, true)?;
     net.run(AB, kind, true, true)?;
@@ -191,23 +186,21 @@ fn check_legs(
     }
 }
 
-#[test]
-fn a_leg_runs_by_the_modes_at_its_ends(rt: HostRuntime) -> Result<(), Fail> {
-    check_legs(
-        &rt,
-        &network(rt.alloc())?,
-        &[
-            (SLOW, false, Action::Pass, Some(110), Some(110)),
-            (SLOW, false, Action::Halt(3), Some(111), Some(114)),
-            (SLOW, true, Action::Pass, Some(112), Some(112)),
-            (SLOW, true, Action::Wait(5), Some(114), Some(119)),
-            (SLOW, true, Action::Finish, Some(114), None),
-            (TypeId(9), true, Action::Pass, None, None),
-        ],
-    );
-    Ok(())
+fn check_headways(rt: &impl Abort, net: &Network, rows: &[(Minute, TypeId, Minute, bool)]) {
+    for (slow, kind, time, want) in rows {
+        assert_eq!(rt; in_conflict(net, *slow, *kind, *time), Some(*want));
+    }
 }
 
+fn check_order(rt: &impl Abort, rows: &[(Minute, TrackId, Action, Ordering)]) {
+    for (depart, track, action, want) in rows {
+        let a = [leg(AB, 2, true, Action::Halt(30))];
+        let b = [leg(*track, *depart, true, *action)];
+        assert_eq!(rt; walk_order(&a, &b), *want);
+    }
+}
+
+/// One leg from A to B, which runs 14 minutes, by its departure.
 fn check_one_leg(rt: &impl Abort, net: &Network, bid: &Bid, rows: &[(Minute, Option<Cents>)]) {
     for (minute, want) in rows {
         assert_eq!(rt;
@@ -215,32 +208,6 @@ fn check_one_leg(rt: &impl Abort, net: &Network, bid: &Bid, rows: &[(Minute, Opt
             *want
         );
     }
-}
-
-#[test]
-fn one_leg_keeps_both_windows_and_pays_by_its_times(rt: HostRuntime) -> Result<(), Fail> {
-    let net = network(rt.alloc())?;
-    // It runs 14 minutes. At 2 it is 3 minutes early and arrives 4 early; at 8 it is 3 minutes late and arrives 2 late.
-    check_one_leg(
-        &rt,
-        &net,
-        &bid(rt.alloc(), B, [2, 5, 8], [0, 20, 2879], &[])?,
-        &[
-            (1, None),
-            (2, Some(836)),
-            (5, Some(956)),
-            (6, Some(966)),
-            (8, Some(846)),
-            (9, None),
-        ],
-    );
-    check_one_leg(
-        &rt,
-        &net,
-        &bid(rt.alloc(), B, [0, 5, 20], [16, 20, 23], &[])?,
-        &[(1, None), (2, Some(836)), (9, Some(786)), (10, None)],
-    );
-    Ok(())
 }
 
 /// A departure, a mode and an action on the track from A to B; a departure and a mode on the track from B to C.
@@ -256,13 +223,85 @@ fn check_two_legs(rt: &impl Abort, net: &Network, bid: &Bid, rows: &[(TwoLegs, O
     }
 }
 
-#[test]
-fn two_legs_pass_or_wait_on_the_way(rt: HostRuntime) -> Result<(), Fail> {
-    // The walks that are walks arrive at 33, 39 and 43, where 40 is ideal.
-    check_two_legs(
-        &rt,
-        &network(rt.alloc())?,
-        &through(rt.alloc(), &[])?,
+fn windows(
+    rt: &impl Abort,
+    alloc: Global,
+    net: &Network,
+    depart: [u64; 3],
+    arrive: [u64; 3],
+    rows: &[(Minute, Option<Cents>)],
+) -> Result<(), Fail> {
+    let bid = bid(alloc, B, depart, arrive, &[])?;
+    check_one_leg(rt, net, &bid, rows);
+    Ok(())
+}
+
+/// A bid from A to C, whose ideal times are 0 and 40.
+fn through(
+    rt: &impl Abort,
+    alloc: Global,
+    net: &Network,
+    stops: &[RawStop],
+    rows: &[(TwoLegs, Option<Cents>)],
+) -> Result<(), Fail> {
+    let bid = bid(alloc, C, [0, 0, 10], [0, 40, 100], stops)?;
+    check_two_legs(rt, net, &bid, rows);
+    Ok(())
+}
+
+/// The walk halts at B, goes back to A, halts there, and runs through B to C, where it arrives at 59.
+fn there_and_back(
+    rt: &impl Abort,
+    alloc: Global,
+    net: &Network,
+    stops: &[RawStop],
+    want: Option<Cents>,
+) -> Result<(), Fail> {
+    let bid = bid(alloc, C, [0, 0, 10], [0, 40, 100], stops)?;
+    let legs = [
+        leg(AB, 0, true, Action::Halt(2)),
+        leg(BA, 16, true, Action::Halt(2)),
+        leg(AB, 26, true, Action::Pass),
+        leg(BC, 38, false, Action::Finish),
+    ];
+    assert_eq!(rt; worth(net, &bid, &legs), want);
+    Ok(())
+}
+
+fn both_windows(rt: &impl Abort, alloc: Global, net: &Network) -> Result<(), Fail> {
+    // At 2 it is 3 minutes early and arrives 4 early; at 8 it is 3 minutes late and arrives 2 late.
+    windows(
+        rt,
+        alloc,
+        net,
+        [2, 5, 8],
+        [0, 20, 2879],
+        &[
+            (1, None),
+            (2, Some(836)),
+            (5, Some(956)),
+            (6, Some(966)),
+            (8, Some(846)),
+            (9, None),
+        ],
+    )?;
+    windows(
+        rt,
+        alloc,
+        net,
+        [0, 5, 20],
+        [16, 20, 23],
+        &[(1, None), (2, Some(836)), (9, Some(786)), (10, None)],
+    )
+}
+
+fn passes_and_waits(rt: &impl Abort, alloc: Global, net: &Network) -> Result<(), Fail> {
+    // Those that are walks arrive at 33, 39 and 43.
+    through(
+        rt,
+        alloc,
+        net,
+        &[],
         &[
             ((0, true, Action::Pass, 12, false), Some(757)),
             ((0, true, Action::Pass, 12, true), None),
@@ -276,17 +315,16 @@ fn two_legs_pass_or_wait_on_the_way(rt: HostRuntime) -> Result<(), Fail> {
             ((0, true, Action::Finish, 14, true), None),
             ((0, true, Action::Halt(2), 16, true), None),
         ],
-    );
-    Ok(())
+    )
 }
 
-#[test]
-fn a_halt_meets_its_stop(rt: HostRuntime) -> Result<(), Fail> {
-    // The walks that are walks arrive at 40, 42 and 41.
-    check_two_legs(
-        &rt,
-        &network(rt.alloc())?,
-        &through(rt.alloc(), &[stop(B, 14, 15)])?,
+fn halts(rt: &impl Abort, alloc: Global, net: &Network) -> Result<(), Fail> {
+    // Those that are walks arrive at 40, 42 and 41.
+    through(
+        rt,
+        alloc,
+        net,
+        &[stop(B, 14, 15)],
         &[
             ((0, true, Action::Halt(1), 15, true), None),
             ((0, true, Action::Halt(2), 16, true), Some(960)),
@@ -297,64 +335,54 @@ fn a_halt_meets_its_stop(rt: HostRuntime) -> Result<(), Fail> {
             ((0, true, Action::Wait(2), 16, true), None),
             ((0, true, Action::Pass, 12, false), None),
         ],
-    );
-    Ok(())
+    )
 }
 
-/// To B, back to A, and through B to C.
-fn there_and_back() -> [Leg; 4] {
-    [
-        leg(AB, 0, true, Action::Halt(2)),
-        leg(BA, 16, true, Action::Halt(2)),
-        leg(AB, 26, true, Action::Pass),
-        leg(BC, 38, false, Action::Finish),
-    ]
+fn stops_in_order(rt: &impl Abort, alloc: Global, net: &Network) -> Result<(), Fail> {
+    let (at_b, at_a) = (stop(B, 0, 100), stop(A, 0, 100));
+    there_and_back(rt, alloc, net, &[at_b, at_a], Some(181))?;
+    there_and_back(rt, alloc, net, &[at_a, at_b], None)?;
+    there_and_back(rt, alloc, net, &[at_b], None)
 }
 
-#[test]
-fn stops_are_met_in_order_and_a_station_may_be_passed_again(rt: HostRuntime) -> Result<(), Fail> {
-    let net = network(rt.alloc())?;
-    let legs = there_and_back();
-    let in_order = through(rt.alloc(), &[stop(B, 0, 100), stop(A, 0, 100)])?;
-    let turned = through(rt.alloc(), &[stop(A, 0, 100), stop(B, 0, 100)])?;
-    // It arrives at 59, 19 minutes late.
-    assert_eq!(rt; worth(&net, &in_order, &legs), Some(181));
-    assert_eq!(rt; worth(&net, &turned, &legs), None);
-    // The walk is one of its bid, and yet its two entries of one track are in conflict.
-    assert_eq!(rt; in_conflict(&net, 0, SLOW, 26), Some(true));
-    Ok(())
-}
-
-fn check_headways(rt: &impl Abort, net: &Network, rows: &[(Minute, Minute, bool)]) {
-    for (slow, fast, want) in rows {
-        assert_eq!(rt; in_conflict(net, *slow, FAST, *fast), Some(*want));
-    }
-}
-
-#[test]
-fn headways_may_differ_both_ways(rt: HostRuntime) -> Result<(), Fail> {
-    check_headways(
-        &rt,
-        &network(rt.alloc())?,
+fn legs_and_headways(rt: &impl Abort, net: &Network) {
+    check_legs(
+        rt,
+        net,
         &[
-            (10, 10, true),
-            (10, 11, true),
-            (10, 13, true),
-            (10, 14, false),
-            (11, 10, false),
-            (13, 10, false),
-            (14, 10, false),
+            (SLOW, false, Action::Pass, Some(110), Some(110)),
+            (SLOW, false, Action::Halt(3), Some(111), Some(114)),
+            (SLOW, true, Action::Pass, Some(112), Some(112)),
+            (SLOW, true, Action::Wait(5), Some(114), Some(119)),
+            (SLOW, true, Action::Finish, Some(114), None),
+            (TypeId(9), true, Action::Pass, None, None),
         ],
     );
-    Ok(())
+    // The last row has the two entries of the walk there and back, which is a walk of its bid all the same.
+    check_headways(
+        rt,
+        net,
+        &[
+            (10, FAST, 10, true),
+            (10, FAST, 11, true),
+            (10, FAST, 13, true),
+            (10, FAST, 14, false),
+            (11, FAST, 10, false),
+            (13, FAST, 10, false),
+            (14, FAST, 10, false),
+            (0, SLOW, 26, true),
+        ],
+    );
 }
 
-fn check_order(rt: &impl Abort, rows: &[(Minute, TrackId, Action, Ordering)]) {
-    for (depart, track, action, want) in rows {
-        let a = [leg(AB, 2, true, Action::Halt(30))];
-        let b = [leg(*track, *depart, true, *action)];
-        assert_eq!(rt; walk_order(&a, &b), *want);
-    }
+#[test]
+fn walks_have_the_values_that_were_worked_by_hand(rt: HostRuntime) -> Result<(), Fail> {
+    let net = network(rt.alloc())?;
+    legs_and_headways(&rt, &net);
+    both_windows(&rt, rt.alloc(), &net)?;
+    passes_and_waits(&rt, rt.alloc(), &net)?;
+    halts(&rt, rt.alloc(), &net)?;
+    stops_in_order(&rt, rt.alloc(), &net)
 }
 
 #[test]

@@ -1,8 +1,6 @@
-use Rattle.std.proofs.Common.{◌≡◌, ap, arith, sym, IsTrue, rules}
+use Rattle.std.proofs.Common.{◌≡◌, rules}
 use Rattle.std.specs.Bool.{Decides}
 use Rattle.std.proofs.lemmas.Slice.Eq.{slice_eq-Decides}
-use Rattle.std.proofs.lemmas.Grind.{common_steps}
-use Rattle.std.proofs.lemmas.Bool.Decides.{nat_tests}
 use Rattle.optra_bid.specs.declared.Stop.{Stop}
 use Rattle.optra_bid.specs.contracts.StopPartialEq.TheImpl.{eq-value}
 use Rattle.optra_bid.proofs.bids.same_stops.Goals as goal
