@@ -12,3 +12,4 @@ pub mod CompleteLemmas
 pub mod NetworkLemmas
 pub mod BidLemmas
 pub mod BidStepLemmas
+pub mod KeptLemmas

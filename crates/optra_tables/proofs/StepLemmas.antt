@@ -45,7 +45,7 @@ place_in : (name : List ℕ) (names : List (List ℕ)) (o : Option ℕ) → plac
 place_in name names None e = tt
 place_in name names (Some i) e = (position-Some (bytes_eq name) names i [] e).0
 
-place_within : (name : List ℕ) (names : List (List ℕ)) → IfSome (place_of name names) (λ i. i < length names)
+pub place_within : (name : List ℕ) (names : List (List ℕ)) → IfSome (place_of name names) (λ i. i < length names)
 place_within name names = place_in name names (place_of name names) refl
 
 abbrev track_of : ℕ → TrackId

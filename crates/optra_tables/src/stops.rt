@@ -2,6 +2,8 @@
 
 ghost use Rattle.std.specs.Prelude.{◌≡◌, ◌<◌, ◌≤◌, length, map, slice_get, IfOk, IfSome, OnOk};
 ghost use Rattle.csv.specs.Records.{fields_of};
+ghost use Rattle.optra_network.specs.Names.{AllDiffer};
+ghost use Rattle.optra_bid.specs.Instances.{IsInstance};
 ghost use Rattle.optra_tables.specs.Bids.{parts_of};
 ghost use Rattle.optra_tables.specs.Outcomes.{Gives};
 ghost use Rattle.optra_tables.specs.Rows.{rows_from, table_read};
@@ -128,6 +130,9 @@ fn read_stops(
 ///   record has its name; `Bid(UnknownName)`, where its type or an end isn't there; then what `Bid::checked` refuses.
 /// - Of a stop, in this order: `Bid(UnknownName)`, where its bid or station isn't there; then what `Bid::add_stop`
 ///   refuses.
+///
+/// The bids that are read are an instance of the network: at most 1,000, of its types and stations, with different
+/// names.
 #[tactic(auto, unfolding(crate::specs::Stops::bids_of))]
 pub fn read_bids(
     alloc: Global,
@@ -135,7 +140,9 @@ pub fn read_bids(
     bids: &[u8],
     stops: &[u8],
 ) -> Result<Vec<Bid>, ReadError>
-    ensures { Gives (λ bids. map parts_of bids.items) result (bids_of net.now bids.now stops.now) }
+    ensures gives { Gives (λ bids. map parts_of bids.items) result (bids_of net.now bids.now stops.now) }
+    ensures instance { IfOk result (λ bids. IsInstance net.now bids.items) }
+    ensures names { IfOk result (λ bids. AllDiffer (map (λ bid. bid.name) bids.items)) }
 {
     let mut cells = ByteRecord::new(alloc);
     let mut list = BidList::new(alloc);
