@@ -7,7 +7,8 @@ ghost use Rattle.optra_walk.specs.Legs.{dwell_of};
 ghost use Rattle.optra_walk.specs.Walks.{IsWalk, tail_of, head_of};
 ghost use Rattle.optra_walk.specs.Choices.{IsChoice};
 ghost use Rattle.optra_records.specs.Texts.{record_text, records_text};
-ghost use Rattle.optra_text.specs.PlanTexts.{action_word, entry_records, head_records, leg_record, plan_text_of, station_text, status_word, track_text, train_record, train_records};
+ghost use Rattle.optra_text.specs.PlanTexts.{plan_text_of, head_records, train_records, entry_records, train_record, leg_record};
+ghost use Rattle.optra_text.specs.PlanTexts.{status_word, track_text, station_text, action_word};
 ghost use Rattle.optra_text.specs.PlanLaws.{TextTellsPlan};
 
 use optra_bid::Bid;
@@ -36,7 +37,8 @@ pub struct PlanView<'a> {
 #[tactic(auto, unfolding(crate::specs::PlanTexts::plan_text_of))]
 pub fn plan_text(alloc: Global, view: PlanView<'_>) -> Result<Vec<u8>, NoMemory>
     requires { IsChoice view.inst.net.now view.inst.bids.now view.choice.now }
-    ensures { IfOk result (λ text. text.items ≡ plan_text_of view.entry.inst.net.now view.entry.inst.bids.now view.entry.choice.now view.entry.revenue view.entry.bound view.entry.nodes) }
+    ensures { IfOk result (λ text. text.items ≡
+        plan_text_of view.entry.inst.net.now view.entry.inst.bids.now view.entry.choice.now view.entry.revenue view.entry.bound view.entry.nodes) }
 {
     let choice = view.choice;
     let mut printer = Printer::new(alloc);
