@@ -1,15 +1,17 @@
 -- The tracks that leave a station: lists for each station, and all of them in one array.
-use Rattle.std.proofs.Common.{◌≡◌, ℕ, suc, ◌+◌, ◌-◌, ◌<◌, ◌≤◌, Bool, true, false, cond, nat_eq, List, [], ◌∷◌, ◌++◌, length, get_or, set, take, drop, slice_get, slice_index, map, filter, Some, sym, ap, ◌∙◌, arith, ⊎_elim, add-one, length-append, length-set, append-nil}
+use Rattle.std.proofs.Common.{◌≡◌, ℕ, suc, ◌+◌, ◌-◌, ◌<◌, ◌≤◌, Bool, true, false, cond, nat_eq, List, [], ◌∷◌, ◌++◌, length, get_or, replicate, set, take, drop, slice_get, All, slice_index, map, filter, Some, sym, ap, ◌∙◌, arith, ⊎_elim, add-one, length-append, length-set, append-nil}
 use Rattle.std.proofs.lemmas.Bool.{cases_eq, eq-eqb, ne_eqb}
 use Rattle.std.proofs.lemmas.List.FromFn.{filter_of_map_range_with_len_more}
-use Rattle.std.proofs.lemmas.List.{get_or_append_left, take_all, take-append-drop}
+use Rattle.std.proofs.lemmas.List.{get_or_append_left, get_or-map, get_or-replicate, length-replicate, take_all, take-append-drop}
 use Rattle.std.proofs.lemmas.Grind.{flat_map-append}
 use Rattle.std.proofs.lemmas.List.Folds.{length-flat_map-take}
 use Rattle.std.proofs.Math.Seq.{get_or-append_seam, take-suc, drop-cons, drop-append_seam, take-append_seam}
 use Rattle.std.proofs.lemmas.Option.{slice_get-get_or, get_or_from_slice_get}
 use Rattle.std.specs.List.{flat_map, range_with_len, slice_range}
 use Rattle.std.specs.Option.{option_map_or}
-use Rattle.optra_network.specs.Net.{leaves, track_id, out_tracks_of}
+use Rattle.std.proofs.lemmas.List.Elements.{All-filter, All-map}
+use Rattle.std.proofs.lemmas.List.FromFn.{length-range_with_len, get_or-range_with_len}
+use Rattle.optra_network.specs.Net.{Net, IsTrack, leaves, track_id, out_tracks_of}
 use Rattle.optra_network.specs.Tables.{HoldsOut, AreOut, AreJoined}
 use Rattle.optra_network.specs.declared.StationId.{StationId}
 use Rattle.optra_network.specs.declared.TrackId.{TrackId}
@@ -28,21 +30,14 @@ out_more tracks s n d b l e =
     let at : leaves tracks s (track_id n) ≡ b = ap (λ o. option_map_or (λ (t : Track). nat_eq t.tail.0 s.0) o false) (slice_get-get_or tracks n d l) ∙ e in
     filter_of_map_range_with_len_more (leaves tracks s) track_id 0 n n (omega arith) ∙ ap (λ c. first_out tracks n s ++ cond c (track_id n ∷ []) []) at
 
--- with an empty list for one more station, before any track
-pub HoldsOut-push : (tracks : List Track) (n : ℕ) (lists : List (List TrackId)) → HoldsOut tracks 0 n lists → HoldsOut tracks 0 (n + 1) (lists ++ [] ∷ [])
-HoldsOut-push tracks n lists h = record {
-  len = length-append lists ([] ∷ []) ∙ ap (λ k. k + 1) h.len;
-  each = λ s l.
-      let within : s.0 < length (lists ++ [] ∷ []) = omega (arith, length-append lists ([] ∷ []), h.len, l) in
-      let at = slice_get-get_or (lists ++ [] ∷ []) s.0 [] within in
-      at
-      ∙ ap Some (⊎_elim
-      (λ same. ap (λ k. get_or (lists ++ [] ∷ []) k []) (same ∙ sym h.len) ∙ get_or-append_seam lists [] [] [])
-      (λ ne.
-      let below : s.0 < n = omega arith in
-      get_or_append_left lists ([] ∷ []) [] s.0 (omega (arith, h.len)) ∙ get_or_from_slice_get lists s.0 [] [] (h.each s below))
-      (cases_eq s.0 n));
-}
+-- empty lists, before any track
+pub HoldsOut-empty : (tracks : List Track) (stations : ℕ) (lists : List (List TrackId)) → lists ≡ replicate stations [] → HoldsOut tracks 0 stations lists
+HoldsOut-empty tracks stations lists is =
+    let len : length lists ≡ stations = ap length is ∙ length-replicate stations [] in
+    record {
+      len = len;
+      each = λ s l. slice_get-get_or lists s.0 [] (omega arith) ∙ ap Some (ap (λ xs. get_or xs s.0 []) is ∙ get_or-replicate stations s.0 [] [] l);
+    }
 
 -- the next track goes to the list of its tail
 pub HoldsOut-set : (tracks : List Track) (n stations : ℕ) (lists : List (List TrackId)) (tail : ℕ) (list : List TrackId) (d : Track) → HoldsOut tracks n stations lists
@@ -88,14 +83,20 @@ start_more lists i tracks starts h j l =
     (λ ne. let below : j < i = omega arith in get_or_append_left starts (length tracks ∷ []) 0 j (omega (arith, h.len)) ∙ h.each j below)
     (cases_eq j i)
 
+-- what is read at an index is the list there
+pub list_at : {V : Type 0} (items : V → List TrackId) (vecs : List V) (i : ℕ) (v : V) (list : List TrackId) → i < length vecs → v ≡ get_or vecs i v → list ≡ items v → list ≡ get_or (map items vecs) i []
+list_at items vecs i v list l at is = is ∙ ap items at ∙ sym (get_or-map items vecs i v [] l)
+
 -- with one more list
-pub AreJoinedTo-more : (lists : List (List TrackId)) (i : ℕ) (tracks new : List TrackId) (starts more : List ℕ) (list : List TrackId) → AreJoinedTo lists i tracks starts → i < length lists
-    → list ≡ get_or lists i [] → more ≡ starts ++ length tracks ∷ [] → new ≡ tracks ++ list → AreJoinedTo lists (i + 1) new more
-AreJoinedTo-more lists i tracks new starts more list h l is more_is new_is = record {
-  tracks_are = new_is ∙ (λ j. h.tracks_are j ++ is j) ∙ sym (joined_more lists i l);
-  len = ap length more_is ∙ length-append starts (length tracks ∷ []) ∙ ap (λ n. n + 1) h.len;
-  each = λ j below. ap (λ (xs : List ℕ). slice_index xs j) more_is ∙ start_more lists i tracks starts h j (omega arith);
-}
+pub AreJoinedTo-more : (lists : List (List TrackId)) (i : ℕ) (tracks new : List TrackId) (starts more : List ℕ) (start : ℕ) (list : List TrackId) → AreJoinedTo lists i tracks starts
+    → i < length lists → list ≡ get_or lists i [] → start ≡ length tracks → more ≡ starts ++ start ∷ [] → new ≡ tracks ++ list → AreJoinedTo lists (i + 1) new more
+AreJoinedTo-more lists i tracks new starts more start list h l is start_is more_is new_is =
+    let more_are : more ≡ starts ++ length tracks ∷ [] = more_is ∙ ap (λ n. starts ++ n ∷ []) start_is in
+    record {
+      tracks_are = new_is ∙ (λ j. h.tracks_are j ++ is j) ∙ sym (joined_more lists i l);
+      len = ap length more_are ∙ length-append starts (length tracks ∷ []) ∙ ap (λ n. n + 1) h.len;
+      each = λ j below. ap (λ (xs : List ℕ). slice_index xs j) more_are ∙ start_more lists i tracks starts h j (omega arith);
+    }
 
 -- with all lists, and the end
 pub AreJoined-end : (lists : List (List TrackId)) (i : ℕ) (out : Outgoing) (starts : List ℕ) → AreJoinedTo lists i out.tracks.items starts → i ≡ length lists
@@ -136,3 +137,10 @@ AreOut-from_joined tracks stations lists out h j s l =
       are =
           (λ i. slice_range (j.tracks i) (first i) (next i)) ∙ joined-range lists s.0 within ∙ get_or_from_slice_get lists s.0 (out_tracks_of tracks s) [] (h.each s l);
     }
+
+-- the tracks that leave a station are there
+pub out_tracks-there : (net : Net) (s : StationId) → All (IsTrack net) (out_tracks_of net.tracks s)
+out_tracks-there net s =
+    All-filter (leaves net.tracks s) (IsTrack net) (map track_id (range_with_len 0 (length net.tracks)))
+    (All-map (IsTrack net) track_id (range_with_len 0 (length net.tracks))
+    (λ k d l. let n = length-range_with_len 0 (length net.tracks) in let e = get_or-range_with_len 0 (length net.tracks) k d (omega arith) in omega (arith, e)))

@@ -1,8 +1,8 @@
 -- What the tables of a network say of it.
-use Rattle.std.proofs.Common.{◌≡◌, ℕ, ◌<◌, ◌≤◌, Bool, true, false, cond, not, ◌==◌, ◌⊎◌, ⊎_elim, Some, None, Option, IfSome, IsSome, is_some, unwrap_or, List, length, All, refl, sym, ap, ◌∙◌, arith, rules}
+use Rattle.std.proofs.Common.{◌≡◌, ℕ, ◌<◌, ◌≤◌, Bool, true, false, cond, not, ◌==◌, ◌⊎◌, ⊎_elim, Some, None, Option, IfSome, IsSome, is_some, unwrap_or, List, length, All, refl, sym, ap, ◌∙◌, arith, rules, subst}
 use Rattle.std.proofs.lemmas.Bool.{ne_eqb}
 use Rattle.std.specs.Option.{option_map}
-use Rattle.optra_network.specs.Net.{Net, IsBuilt, IsProper, MayUse, IsRunningRow, IsHeadwayRow, times_of, headway_of, minutes_by, track_id}
+use Rattle.optra_network.specs.Net.{Net, IsBuilt, IsFromTo, IsProper, MayUse, IsRunningRow, IsHeadwayRow, times_of, headway_of, minutes_by, track_id}
 use Rattle.optra_network.specs.Headways.{type_id, least_of, headway_before, hmin_of, hmin_or_0}
 use Rattle.optra_network.specs.Tables.{no_times, found_times, found_headway, hmin_at, HoldsPairs, IsPair, IsTriple, AreRows, at_pair, at_triple}
 use Rattle.optra_network.specs.declared.TrackId.{TrackId}
@@ -111,6 +111,43 @@ module _ (net : Net) (built : IsBuilt net) where
   pub least_read : (leasts : List ℕ) → HoldsPairs (hmin_at net) (length net.tracks) leasts → (t k : ℕ) → at_pair 0 leasts t k ≡ hmin_at net t k
   least_read leasts are t k = at_pair_is (hmin_at net) (length net.tracks) 0 leasts are (λ a b past. hmin_or_0-none (track_id a) (type_id b) (never_past a b past)) t k
 
+some_is : (o : Option Times) → is_some o ≡ true → IsSome o
+some_is None e = absurd (cc)
+some_is (Some v) e = search rules
+
+-- ---- the ranges
+
+module _ (net : Net) (built : IsBuilt net) where
+  minutes_from_to : (o : Option Times) (tracks types t k : ℕ) (a b : Bool) → IfSome o (λ times. IsRunningRow tracks types ((t, k), times)) → IfSome (option_map (minutes_by a b) o) (IsFromTo 1 240)
+  minutes_from_to None tracks types t k a b h = tt
+  minutes_from_to (Some times) tracks types t k true true h = h.2.halt_halt
+  minutes_from_to (Some times) tracks types t k true false h = h.2.halt_pass
+  minutes_from_to (Some times) tracks types t k false true h = h.2.pass_halt
+  minutes_from_to (Some times) tracks types t k false false h = h.2.pass_pass
+
+  pub run_range : (t : TrackId) (k : TypeId) (a b : Bool) → IfSome (option_map (minutes_by a b) (times_of net t k)) (IsFromTo 1 240)
+  run_range t k a b = minutes_from_to (times_of net t k) (length net.tracks) (length net.types) t.0 k.0 a b (times_built net t k built)
+
+  headway_from_to : (o : Option ℕ) (tracks types t a b : ℕ) → IfSome o (λ h. IsHeadwayRow tracks types ((t, a, b), h)) → IfSome o (IsFromTo 1 120)
+  headway_from_to None tracks types t a b h = tt
+  headway_from_to (Some n) tracks types t a b h = h.3
+
+  pub headway_range : (t : TrackId) (a b : TypeId) → IfSome (headway_of net t a b) (IsFromTo 1 120)
+  headway_range t a b = headway_from_to (headway_of net t a b) (length net.tracks) (length net.types) t.0 a.0 b.0 (headway_built net t a b built)
+
+pub hmin_range : (net : Net) → IsProper net → (t : TrackId) (k : TypeId) → IfSome (hmin_of net t k) (IsFromTo 1 120)
+hmin_range net p t k = go (is_some (times_of net t k)) refl
+  where
+    go : (b : Bool) → is_some (times_of net t k) ≡ b → IfSome (hmin_of net t k) (IsFromTo 1 120)
+    go false f = subst (λ o. IfSome o (IsFromTo 1 120)) (sym (ap (λ c. cond c (least_of (λ n. headway_before net t k (type_id n)) (length net.types)) None) f)) tt
+    go true f =
+        let may : MayUse net t k = some_is (times_of net t k) f in
+        let g = headways_are net t k k p may may in
+        let low = g.positive in
+        let least = g.least in
+        let most = g.most in
+        subst (λ o. IfSome o (IsFromTo 1 120)) (sym g.hmin_is) (omega arith, omega arith)
+
 -- ---- the same of the tables
 
 module _ (net : Net) (rows : Rows) (are : AreRows net rows) where
@@ -126,10 +163,6 @@ module _ (net : Net) (rows : Rows) (are : AreRows net rows) where
 
   pub has_minutes_read : (t : TrackId) (a b : TypeId) (n : ℕ) → n ≡ at_triple 0 rows.headways.items t.0 a.0 b.0 → not (n == 0) ≡ is_some (headway_of net t a b)
   has_minutes_read t a b n e = has_headway_is net are.built t a b n (e ∙ headway_read net are.built rows are t.0 a.0 b.0)
-
-some_is : (o : Option Times) → is_some o ≡ true → IsSome o
-some_is None e = absurd (cc)
-some_is (Some v) e = search rules
 
 -- a least headway is at least 1, so 0 stands for none
 pub hmin_is : (net : Net) → IsProper net → (t : TrackId) (k : TypeId) (n : ℕ) → n ≡ hmin_or_0 net t k → cond (n == 0) None (Some n) ≡ hmin_of net t k

@@ -2,7 +2,7 @@
 //!
 //! A table by track and type has sixteen places for each track, and one by track and two types has 256, so that a
 //! place is found by shifts alone. A running time is 1 to 240 and a headway 1 to 120, so 0 stands for none.
-ghost use Rattle.std.specs.Prelude.{◌≡◌, ℕ, ◌+◌, ◌*◌, ◌<◌, ◌≤◌, [], length, map, not, ◌==◌, All, IfOk, Some, None, if◌then◌else◌};
+ghost use Rattle.std.specs.Prelude.{◌≡◌, ℕ, ◌+◌, ◌*◌, ◌<◌, ◌≤◌, [], length, map, not, ◌==◌, All, IfOk, replicate, Some, None, if◌then◌else◌};
 ghost use Rattle.optra_network.specs.Net.{out_tracks_of};
 ghost use Rattle.optra_network.specs.Tables.{no_times, IsPair, IsTriple, found_times, found_headway, HoldsPairs, HoldsTriples, at_pair, at_triple, HoldsOut, HasRange, range_of, AreOut, AreJoined};
 
@@ -169,7 +169,7 @@ fn out_lists(
     requires ends { All (λ t. t.tail.0 < stations) tracks.now }
     ensures { IfOk result (λ lists. HoldsOut tracks.now (length tracks.now) stations (map (λ list. list.items) lists.items)) }
 {
-    let mut lists = empty_lists(alloc, tracks, stations)?;
+    let mut lists = empty_lists(alloc, stations)?;
     for place in 0..tracks.len() {
         let tail = tracks[place].tail.0 as usize;
         lists[tail].push(TrackId(place as u16))?;
@@ -177,16 +177,12 @@ fn out_lists(
     Ok(lists)
 }
 
-/// An empty list for each station.
-fn empty_lists(
-    alloc: Global,
-    tracks: &[Track],
-    stations: usize,
-) -> Result<Vec<Vec<TrackId>>, NoMemory>
-    ensures { IfOk result (λ lists. HoldsOut tracks.now 0 stations (map (λ list. list.items) lists.items)) }
+/// So many empty lists.
+fn empty_lists(alloc: Global, count: usize) -> Result<Vec<Vec<TrackId>>, NoMemory>
+    ensures { IfOk result (λ lists. map (λ list. list.items) lists.items ≡ replicate count []) }
 {
     let mut lists = Vec::new(alloc);
-    for station in 0..stations {
+    'lists: for _ in 0..count {
         lists.push(Vec::new(alloc))?;
     }
     Ok(lists)

@@ -1,8 +1,8 @@
 //! A finished network, its look-ups, and when two uses of tracks are in conflict.
-ghost use Rattle.std.specs.Prelude.{◌≡◌, ◌+◌, ◌<◌, ◌≤◌, ◌↔◌, length, IsTrue, MatchBool, Some, slice_get};
+ghost use Rattle.std.specs.Prelude.{◌≡◌, ◌+◌, ◌<◌, ◌≤◌, ◌↔◌, length, All, IfSome, IsTrue, MatchBool, Some, slice_get};
 ghost use Rattle.std.specs.Option.{option_map};
 ghost use Rattle.optra_network.specs.Headways.{hmin_of};
-ghost use Rattle.optra_network.specs.Net.{times_of, headway_of, minutes_by, out_tracks_of, MayUse, IsProper, IsStation, IsTrack, IsKind};
+ghost use Rattle.optra_network.specs.Net.{times_of, headway_of, minutes_by, out_tracks_of, IsFromTo, MayUse, IsProper, IsStation, IsTrack, IsKind};
 ghost use Rattle.optra_network.specs.Refusals.{station_named, track_named, type_named};
 ghost use Rattle.optra_network.specs.Conflict.{AreCompatible, KeepsHeadway};
 
@@ -41,7 +41,8 @@ impl Network {
     /// The running time in minutes, 1 to 240, from a halt or a pass at the tail to a halt or a pass at the head. None
     /// exactly where the type may not use the track, so also for a track or a type that isn't there.
     pub fn run(&self, track: TrackId, kind: TypeId, from_halt: bool, to_halt: bool) -> Option<u16>
-        ensures { result ≡ option_map (minutes_by from_halt to_halt) (times_of self.now track kind) }
+        ensures minutes { result ≡ option_map (minutes_by from_halt to_halt) (times_of self.now track kind) }
+        ensures range { IfSome result (IsFromTo 1 240) }
     {
         let times = self.tables.rows.times(track, kind);
         above_zero(minutes(times, from_halt, to_halt))
@@ -50,7 +51,8 @@ impl Network {
     /// The headway in minutes, 1 to 120, that a train of the second type keeps after one of the first type on the
     /// track. None exactly where no row gave one, so also for a track or a type that isn't there.
     pub fn headway(&self, track: TrackId, first: TypeId, second: TypeId) -> Option<u16>
-        ensures { result ≡ headway_of self.now track first second }
+        ensures minutes { result ≡ headway_of self.now track first second }
+        ensures range { IfSome result (IsFromTo 1 120) }
     {
         above_zero(self.tables.rows.headway(track, first, second))
     }
@@ -58,7 +60,8 @@ impl Network {
     /// The least headway after the type in minutes, 1 to 120, over the types that may use the track. None exactly
     /// where the type may not use the track, so also for a track or a type that isn't there.
     pub fn hmin(&self, track: TrackId, kind: TypeId) -> Option<u16>
-        ensures { result ≡ hmin_of self.now track kind }
+        ensures minutes { result ≡ hmin_of self.now track kind }
+        ensures range { IfSome result (IsFromTo 1 120) }
     {
         above_zero(self.tables.least(track, kind))
     }
@@ -66,7 +69,8 @@ impl Network {
     /// The station that the track leads from.
     pub fn tail(&self, track: TrackId) -> StationId
         requires { IsTrack self.now track }
-        ensures { option_map (λ t. t.tail) (slice_get self.now.tracks track.0) ≡ Some result }
+        ensures tail { option_map (λ t. t.tail) (slice_get self.now.tracks track.0) ≡ Some result }
+        ensures there { IsStation self.now result }
     {
         self.tracks[track.0 as usize].tail
     }
@@ -74,7 +78,8 @@ impl Network {
     /// The station that the track leads to.
     pub fn head(&self, track: TrackId) -> StationId
         requires { IsTrack self.now track }
-        ensures { option_map (λ t. t.head) (slice_get self.now.tracks track.0) ≡ Some result }
+        ensures head { option_map (λ t. t.head) (slice_get self.now.tracks track.0) ≡ Some result }
+        ensures there { IsStation self.now result }
     {
         self.tracks[track.0 as usize].head
     }
@@ -82,7 +87,8 @@ impl Network {
     /// The tracks that lead from the station, by track position.
     pub fn out_tracks(&self, station: StationId) -> &[TrackId]
         requires { IsStation self.now station }
-        ensures { result.now ≡ out_tracks_of self.now.tracks station }
+        ensures tracks { result.now ≡ out_tracks_of self.now.tracks station }
+        ensures there { All (IsTrack self.now) result.now }
     {
         self.tables.out.of(station)
     }
@@ -113,7 +119,8 @@ impl Network {
 
     /// The station of the name. None exactly where no station has it.
     pub fn station_id(&self, name: &str) -> Option<StationId>
-        ensures { result ≡ station_named self.now name.now }
+        ensures id { result ≡ station_named self.now name.now }
+        ensures there { IfSome result (IsStation self.now) }
     {
         self.stations
             .place(name)
@@ -122,7 +129,8 @@ impl Network {
 
     /// The track of the name. None exactly where no track has it.
     pub fn track_id(&self, name: &str) -> Option<TrackId>
-        ensures { result ≡ track_named self.now name.now }
+        ensures id { result ≡ track_named self.now name.now }
+        ensures there { IfSome result (IsTrack self.now) }
     {
         self.track_names
             .place(name)
@@ -131,7 +139,8 @@ impl Network {
 
     /// The train type of the name. None exactly where no type has it.
     pub fn type_id(&self, name: &str) -> Option<TypeId>
-        ensures { result ≡ type_named self.now name.now }
+        ensures id { result ≡ type_named self.now name.now }
+        ensures there { IfSome result (IsKind self.now) }
     {
         self.types.place(name).map(|place| TypeId(place as u16))
     }

@@ -7,6 +7,7 @@ use optra_network::{
 };
 use std::alloc::Global;
 use std::cmp::Ordering;
+use std::process::Abort;
 use std::test::Fail;
 
 const A: StationId = StationId(0);
@@ -178,150 +179,198 @@ fn in_conflict(net: &Network, slow: Minute, kind: TypeId, time: Minute) -> Optio
     Some(conflict(net, first, second))
 }
 
+fn check_legs(
+    rt: &impl Abort,
+    net: &Network,
+    rows: &[(TypeId, bool, Action, Option<u32>, Option<u32>)],
+) {
+    for (kind, from_halt, action, arrives, goes_on) in rows {
+        let leg = leg(AB, 100, *from_halt, *action);
+        assert_eq!(rt; arrival(net, *kind, leg), *arrives);
+        assert_eq!(rt; next_depart(net, *kind, leg), *goes_on);
+    }
+}
+
 #[test]
 fn a_leg_runs_by_the_modes_at_its_ends(rt: HostRuntime) -> Result<(), Fail> {
-    let net = network(rt.alloc())?;
-    for (kind, from_halt, action, arrives, goes_on) in [
-        (SLOW, false, Action::Pass, Some(110), Some(110)),
-        (SLOW, false, Action::Halt(3), Some(111), Some(114)),
-        (SLOW, true, Action::Pass, Some(112), Some(112)),
-        (SLOW, true, Action::Wait(5), Some(114), Some(119)),
-        (SLOW, true, Action::Finish, Some(114), None),
-        (TypeId(9), true, Action::Pass, None, None),
-    ] {
-        let leg = leg(AB, 100, from_halt, action);
-        assert_eq!(rt; arrival(&net, kind, leg), arrives);
-        assert_eq!(rt; next_depart(&net, kind, leg), goes_on);
-    }
+    check_legs(
+        &rt,
+        &network(rt.alloc())?,
+        &[
+            (SLOW, false, Action::Pass, Some(110), Some(110)),
+            (SLOW, false, Action::Halt(3), Some(111), Some(114)),
+            (SLOW, true, Action::Pass, Some(112), Some(112)),
+            (SLOW, true, Action::Wait(5), Some(114), Some(119)),
+            (SLOW, true, Action::Finish, Some(114), None),
+            (TypeId(9), true, Action::Pass, None, None),
+        ],
+    );
     Ok(())
+}
+
+fn check_one_leg(rt: &impl Abort, net: &Network, bid: &Bid, rows: &[(Minute, Option<Cents>)]) {
+    for (minute, want) in rows {
+        assert_eq!(rt;
+            worth(net, bid, &[leg(AB, *minute, true, Action::Finish)]),
+            *want
+        );
+    }
 }
 
 #[test]
 fn one_leg_keeps_both_windows_and_pays_by_its_times(rt: HostRuntime) -> Result<(), Fail> {
     let net = network(rt.alloc())?;
-    let by_departure = bid(rt.alloc(), B, [2, 5, 8], [0, 20, 2879], &[])?;
-    for (minute, want) in [
-        (1, None),
-        (2, Some(836)), // 1000 less 3 minutes early, 4 minutes early and 14 under way
-        (5, Some(956)),
-        (6, Some(966)),
-        (8, Some(846)), // 1000 less 3 minutes late, 2 minutes late and 14 under way
-        (9, None),
-    ] {
-        let legs = [leg(AB, minute, true, Action::Finish)];
-        assert_eq!(rt; worth(&net, &by_departure, &legs), want);
+    // It runs 14 minutes. At 2 it is 3 minutes early and arrives 4 early; at 8 it is 3 minutes late and arrives 2 late.
+    check_one_leg(
+        &rt,
+        &net,
+        &bid(rt.alloc(), B, [2, 5, 8], [0, 20, 2879], &[])?,
+        &[
+            (1, None),
+            (2, Some(836)),
+            (5, Some(956)),
+            (6, Some(966)),
+            (8, Some(846)),
+            (9, None),
+        ],
+    );
+    check_one_leg(
+        &rt,
+        &net,
+        &bid(rt.alloc(), B, [0, 5, 20], [16, 20, 23], &[])?,
+        &[(1, None), (2, Some(836)), (9, Some(786)), (10, None)],
+    );
+    Ok(())
+}
+
+/// A departure, a mode and an action on the track from A to B; a departure and a mode on the track from B to C.
+type TwoLegs = (Minute, bool, Action, Minute, bool);
+
+fn check_two_legs(rt: &impl Abort, net: &Network, bid: &Bid, rows: &[(TwoLegs, Option<Cents>)]) {
+    for ((depart, from_halt, action, then, then_from_halt), want) in rows {
+        let legs = [
+            leg(AB, *depart, *from_halt, *action),
+            leg(BC, *then, *then_from_halt, Action::Finish),
+        ];
+        assert_eq!(rt; worth(net, bid, &legs), *want);
     }
-    let by_arrival = bid(rt.alloc(), B, [0, 5, 20], [16, 20, 23], &[])?;
-    for (minute, want) in [(1, None), (2, Some(836)), (9, Some(786)), (10, None)] {
-        let legs = [leg(AB, minute, true, Action::Finish)];
-        assert_eq!(rt; worth(&net, &by_arrival, &legs), want);
-    }
+}
+
+#[test]
+fn two_legs_pass_or_wait_on_the_way(rt: HostRuntime) -> Result<(), Fail> {
+    // The walks that are walks arrive at 33, 39 and 43, where 40 is ideal.
+    check_two_legs(
+        &rt,
+        &network(rt.alloc())?,
+        &through(rt.alloc(), &[])?,
+        &[
+            ((0, true, Action::Pass, 12, false), Some(757)),
+            ((0, true, Action::Pass, 12, true), None),
+            ((0, true, Action::Pass, 13, false), None),
+            ((0, false, Action::Pass, 10, false), None),
+            ((0, true, Action::Wait(0), 14, true), None),
+            ((0, true, Action::Wait(1), 15, true), Some(924)),
+            ((0, true, Action::Wait(5), 19, true), Some(802)),
+            ((0, true, Action::Wait(5), 19, false), None),
+            ((0, true, Action::Wait(6), 20, true), None),
+            ((0, true, Action::Finish, 14, true), None),
+            ((0, true, Action::Halt(2), 16, true), None),
+        ],
+    );
     Ok(())
 }
 
 #[test]
-fn two_legs_pass_wait_or_halt_on_the_way(rt: HostRuntime) -> Result<(), Fail> {
-    let net = network(rt.alloc())?;
-    let direct = through(rt.alloc(), &[])?;
-    let stopping = through(rt.alloc(), &[stop(B, 14, 15)])?;
-    for (depart, from_halt, action, then, then_from_halt, want_direct, want_stopping) in [
-        (0, true, Action::Pass, 12, false, Some(757), None), // arrives at 33
-        (0, true, Action::Pass, 12, true, None, None),
-        (0, true, Action::Pass, 13, false, None, None),
-        (0, false, Action::Pass, 10, false, None, None),
-        (0, true, Action::Wait(0), 14, true, None, None),
-        (0, true, Action::Wait(1), 15, true, Some(924), None), // arrives at 39
-        (0, true, Action::Wait(5), 19, true, Some(802), None), // arrives at 43
-        (0, true, Action::Wait(5), 19, false, None, None),
-        (0, true, Action::Wait(6), 20, true, None, None),
-        (0, true, Action::Finish, 14, true, None, None),
-        (0, true, Action::Halt(1), 15, true, None, None),
-        (0, true, Action::Halt(2), 16, true, None, Some(960)), // arrives at 40
-        (0, true, Action::Halt(4), 18, true, None, Some(878)), // arrives at 42
-        (0, true, Action::Halt(5), 19, true, None, None),
-        (1, true, Action::Halt(2), 17, true, None, Some(900)), // arrives at 41
-        (2, true, Action::Halt(2), 18, true, None, None),
-    ] {
-        let legs = [
-            leg(AB, depart, from_halt, action),
-            leg(BC, then, then_from_halt, Action::Finish),
-        ];
-        assert_eq!(rt; worth(&net, &direct, &legs), want_direct);
-        assert_eq!(rt; worth(&net, &stopping, &legs), want_stopping);
-    }
-    assert_eq!(rt; worth(&net, &direct, &[]), None);
-    assert_eq!(rt;
-        worth(&net, &direct, &[leg(AB, 0, true, Action::Pass)]),
-        None
+fn a_halt_meets_its_stop(rt: HostRuntime) -> Result<(), Fail> {
+    // The walks that are walks arrive at 40, 42 and 41.
+    check_two_legs(
+        &rt,
+        &network(rt.alloc())?,
+        &through(rt.alloc(), &[stop(B, 14, 15)])?,
+        &[
+            ((0, true, Action::Halt(1), 15, true), None),
+            ((0, true, Action::Halt(2), 16, true), Some(960)),
+            ((0, true, Action::Halt(4), 18, true), Some(878)),
+            ((0, true, Action::Halt(5), 19, true), None),
+            ((1, true, Action::Halt(2), 17, true), Some(900)),
+            ((2, true, Action::Halt(2), 18, true), None),
+            ((0, true, Action::Wait(2), 16, true), None),
+            ((0, true, Action::Pass, 12, false), None),
+        ],
     );
     Ok(())
+}
+
+/// To B, back to A, and through B to C.
+fn there_and_back() -> [Leg; 4] {
+    [
+        leg(AB, 0, true, Action::Halt(2)),
+        leg(BA, 16, true, Action::Halt(2)),
+        leg(AB, 26, true, Action::Pass),
+        leg(BC, 38, false, Action::Finish),
+    ]
 }
 
 #[test]
 fn stops_are_met_in_order_and_a_station_may_be_passed_again(rt: HostRuntime) -> Result<(), Fail> {
     let net = network(rt.alloc())?;
-    let legs = [
-        leg(AB, 0, true, Action::Halt(2)),
-        leg(BA, 16, true, Action::Halt(2)),
-        leg(AB, 26, true, Action::Pass),
-        leg(BC, 38, false, Action::Finish),
-    ];
-    let first = stop(B, 0, 100);
-    let second = stop(A, 0, 100);
+    let legs = there_and_back();
+    let in_order = through(rt.alloc(), &[stop(B, 0, 100), stop(A, 0, 100)])?;
+    let turned = through(rt.alloc(), &[stop(A, 0, 100), stop(B, 0, 100)])?;
     // It arrives at 59, 19 minutes late.
-    assert_eq!(rt;
-        worth(&net, &through(rt.alloc(), &[first, second])?, &legs),
-        Some(181)
-    );
-    assert_eq!(rt;
-        worth(&net, &through(rt.alloc(), &[second, first])?, &legs),
-        None
-    );
-    assert_eq!(rt; worth(&net, &through(rt.alloc(), &[first])?, &legs), None);
+    assert_eq!(rt; worth(&net, &in_order, &legs), Some(181));
+    assert_eq!(rt; worth(&net, &turned, &legs), None);
     // The walk is one of its bid, and yet its two entries of one track are in conflict.
     assert_eq!(rt; in_conflict(&net, 0, SLOW, 26), Some(true));
     Ok(())
 }
 
+fn check_headways(rt: &impl Abort, net: &Network, rows: &[(Minute, Minute, bool)]) {
+    for (slow, fast, want) in rows {
+        assert_eq!(rt; in_conflict(net, *slow, FAST, *fast), Some(*want));
+    }
+}
+
 #[test]
 fn headways_may_differ_both_ways(rt: HostRuntime) -> Result<(), Fail> {
-    let net = network(rt.alloc())?;
-    for (slow, fast, want) in [
-        (10, 10, true),
-        (10, 11, true),
-        (10, 13, true),
-        (10, 14, false),
-        (11, 10, false),
-        (13, 10, false),
-        (14, 10, false),
-    ] {
-        assert_eq!(rt; in_conflict(&net, slow, FAST, fast), Some(want));
-    }
+    check_headways(
+        &rt,
+        &network(rt.alloc())?,
+        &[
+            (10, 10, true),
+            (10, 11, true),
+            (10, 13, true),
+            (10, 14, false),
+            (11, 10, false),
+            (13, 10, false),
+            (14, 10, false),
+        ],
+    );
     Ok(())
+}
+
+fn check_order(rt: &impl Abort, rows: &[(Minute, TrackId, Action, Ordering)]) {
+    for (depart, track, action, want) in rows {
+        let a = [leg(AB, 2, true, Action::Halt(30))];
+        let b = [leg(*track, *depart, true, *action)];
+        assert_eq!(rt; walk_order(&a, &b), *want);
+    }
 }
 
 #[test]
 fn walks_are_ordered_by_departure_then_track_then_action(rt: HostRuntime) {
-    for (depart, track, action, want) in [
-        (2, AB, Action::Halt(30), Ordering::Equal),
-        (1, BC, Action::Finish, Ordering::Greater),
-        (3, AB, Action::Pass, Ordering::Less),
-        (2, AB, Action::Pass, Ordering::Greater),
-        (2, AB, Action::Halt(29), Ordering::Greater),
-        (2, AB, Action::Halt(31), Ordering::Less),
-        (2, AB, Action::Wait(1), Ordering::Less),
-        (2, AB, Action::Finish, Ordering::Less),
-        (2, BC, Action::Pass, Ordering::Less),
-    ] {
-        let a = [
-            leg(AB, 2, true, Action::Halt(30)),
-            leg(BC, 46, true, Action::Finish),
-        ];
-        let b = [
-            leg(track, depart, true, action),
-            leg(BC, 46, true, Action::Finish),
-        ];
-        assert_eq!(rt; walk_order(&a, &b), want);
-        assert_eq!(rt; walk_order(&b, &a), want.reverse());
-    }
+    check_order(
+        &rt,
+        &[
+            (2, AB, Action::Halt(30), Ordering::Equal),
+            (1, BC, Action::Finish, Ordering::Greater),
+            (3, AB, Action::Pass, Ordering::Less),
+            (2, AB, Action::Pass, Ordering::Greater),
+            (2, AB, Action::Halt(29), Ordering::Greater),
+            (2, AB, Action::Halt(31), Ordering::Less),
+            (2, AB, Action::Wait(1), Ordering::Less),
+            (2, AB, Action::Finish, Ordering::Less),
+            (2, BC, Action::Pass, Ordering::Less),
+        ],
+    );
 }

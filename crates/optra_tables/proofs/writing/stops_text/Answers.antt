@@ -1,0 +1,24 @@
+-- What is printed is the table, and the two tables mean the bids.
+use Rattle.std.proofs.Common.{◌≡◌, ◌++◌, ℕ, List, map, IfOk, ap, ◌∙◌, subst}
+use Rattle.optra_records.specs.Texts.{record_text, records_text}
+use Rattle.std.specs.List.{flat_map}
+use Rattle.optra_tables.specs.Bids.{parts_of}
+use Rattle.optra_tables.specs.Stops.{stops_header}
+use Rattle.optra_tables.specs.Written.{stop_records, stops_table}
+use Rattle.optra_tables.proofs.WrittenLaw.{stops_mean}
+use Rattle.optra_tables.proofs.WrittenPrints.{if_there}
+use Rattle.optra_tables.proofs.writing.stops_text.Goals as goal
+
+pub returns-clause-text : goal.returns-clause-text
+unfolding stops_table
+returns-clause-text c =
+    let header = c.in_ok-print_stops_header.ensures ∙ ap (λ (t : List ℕ). t ++ record_text stops_header) c.new-printer.ensures in
+    let same : c.print_stops.new.printer ≡ stops_table c.args.net.now (map parts_of c.args.bids.now) =
+    c.in_ok-print_stops.ensures.text ∙ ap (λ (t : List ℕ). t ++ records_text (flat_map (stop_records c.args.net.now) (map parts_of c.args.bids.now))) header in
+    subst (λ (all : List ℕ). IfOk c.finish.result (λ text. text.items ≡ all)) same c.finish.ensures
+
+pub returns-clause-again : goal.returns-clause-again
+returns-clause-again c =
+    if_there _ _ c.finish.result
+    (λ text e. stops_mean c.args.net.now c.args.bids.now text.items c.track_count-proper.ensures.proper c.requires.instance c.requires.differ c.in_ok-print_stops.ensures.sound e)
+    (returns-clause-text c)
