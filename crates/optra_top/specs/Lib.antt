@@ -1,0 +1,10 @@
+pub mod Words
+pub mod WordsRead
+pub mod Replies
+pub mod Gathering
+pub mod Putting
+pub mod Lines
+pub mod Plans
+pub mod Commands
+pub mod Ending
+pub mod Faults

@@ -1,0 +1,16 @@
+//! The commands of the planner, over any shelf and any pens.
+#![tactic(auto)]
+
+mod answering;
+mod faults;
+mod gathering;
+mod performing;
+mod planning;
+mod putting;
+mod running;
+mod wording;
+
+pub use running::run;
+
+#[cfg(test)]
+mod tests;

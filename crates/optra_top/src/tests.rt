@@ -1,0 +1,1 @@
+// The commands over shelves and pens in memory.
