@@ -1,7 +1,7 @@
 -- Contents that the plan command refuses have no other reply.
 use Rattle.std.proofs.Common.{◌≡◌, ℕ, List, sym, ap, ◌∙◌, true, false}
 use Rattle.optra_top.specs.Replies.{Reply, refused, answered}
-use Rattle.optra_top.specs.Plans.{PlanReplies, is_served}
+use Rattle.optra_top.specs.PlanCommand.{PlanReplies, is_served}
 
 pub plan-refused-alone : (contents : List (List ℕ)) (line : List ℕ) (reply : Reply) → PlanReplies contents (refused line) → PlanReplies contents reply → reply ≡ refused line
 plan-refused-alone contents line (refused other) refuses replies = ap (λ l. refused l) (replies.1 ∙ sym refuses.1)

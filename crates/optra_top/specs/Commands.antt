@@ -5,7 +5,7 @@ use Rattle.std.specs.declared.alloc.Global.{Global}
 use Rattle.std.specs.Option.{option_map}
 use Rattle.optra_top.specs.Words.{PlanForm, plan_form_of, plan_files}
 use Rattle.optra_top.specs.Replies.{Reply}
-use Rattle.optra_top.specs.Plans.{PlanReplies}
+use Rattle.optra_top.specs.PlanCommand.{PlanReplies}
 
 pub data Command : Type 0 where
   plan : PlanForm → Command

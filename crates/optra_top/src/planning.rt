@@ -3,7 +3,7 @@ ghost use Rattle.std.specs.Prelude.{◌≡◌, ◌<◌, ◌++◌, [], ◌∷◌,
 ghost use Rattle.optra_top.specs.Words.{plan_files};
 ghost use Rattle.optra_top.specs.Replies.{answered};
 ghost use Rattle.optra_top.specs.Putting.{texts_of};
-ghost use Rattle.optra_top.specs.Plans.{PlanReplies};
+ghost use Rattle.optra_top.specs.PlanCommand.{PlanReplies};
 ghost use Rattle.optra_top.specs.Faults.{Refusing};
 ghost use Rattle.optra_top.specs.Ending.{IsDoneStatus};
 
