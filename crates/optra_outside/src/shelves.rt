@@ -1,7 +1,7 @@
 //! Where a program's files stand.
 ghost use Rattle.std.specs.Prelude.{◌≡◌, true, OnOk, OnErr};
 ghost use Rattle.std.specs.FinMap.{insert};
-ghost use Rattle.optra_outside.specs.declared.shelf.ShelfError.TheVariants.{NoMemory};
+ghost use Rattle.optra_outside.specs.declared.shelves.ShelfError.TheVariants.{NoMemory};
 ghost use Rattle.optra_outside.specs.Shelf.{ShelfState, GetLeaves, GetCause, Answers, PutLeaves, PutFailed};
 
 use std::alloc::{AllocError, Global};
