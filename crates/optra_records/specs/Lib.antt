@@ -1,0 +1,5 @@
+-- The definitions that all tables and texts share.
+pub mod Reading
+pub mod Numbers
+pub mod Texts
+pub mod Printing
