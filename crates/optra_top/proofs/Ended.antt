@@ -6,8 +6,9 @@ use Rattle.optra_outside.specs.Shelf.{ShelfState, GetLeaves, PutLeaves}
 use Rattle.optra_outside.specs.declared.shelf.ShelfError.{ShelfError}
 use Rattle.optra_outside.specs.declared.shelf.ShelfError.TheVariants.{Absent as NotThere, Failed, TooLong as Overlong, NoMemory as NoRoom}
 use Rattle.optra_top.specs.declared.faults.Fault.{Fault}
-use Rattle.optra_top.specs.declared.faults.Fault.TheVariants.{NotServed, Read, Absent, TooLong, Write, NoMemory}
-use Rattle.optra_top.specs.Lines.{status_of, line_of, read_line}
+use Rattle.optra_top.specs.declared.faults.Fault.TheVariants.{Table, NotServed, Read, Absent, TooLong, Write, NoMemory}
+use Rattle.optra_text.specs.FaultLines.{read_line}
+use Rattle.optra_top.specs.Lines.{status_of, line_of}
 use Rattle.optra_top.specs.Replies.{Reply}
 use Rattle.optra_top.specs.Commands.{Command, files_of, MayReply}
 use Rattle.optra_top.specs.Gathering.{HoldsAll, Refuses}
@@ -27,6 +28,7 @@ EndsBy-refusal command s s' o at NoRoom fault refuses leaves is = rw is (record 
 -- the fault of refused contents says how the command ended
 pub EndsBy-refused : (command : Command) (s s' : ShelfState) (o : PenState) (contents : List (List ℕ)) (fault : Fault) → ((reply : Reply) → MayReply command contents reply → Replies command s contents reply) → GetLeaves s s'
     → Refusing (λ reply. MayReply command contents reply) fault → EndsBy command s s' o o fault
+EndsBy-refused command s s' o contents (Table fault) got leaves refuses = record { contents = contents; replied = got _ refuses; silent = record { shelf = leaves; out = refl } }
 EndsBy-refused command s s' o contents NotServed got leaves refuses = record { contents = contents; replied = got _ refuses; silent = record { shelf = leaves; out = refl } }
 EndsBy-refused command s s' o contents (Read name) got leaves refuses = absurd refuses
 EndsBy-refused command s s' o contents (Absent name) got leaves refuses = absurd refuses
@@ -57,6 +59,7 @@ RunLeaves-both a b c gets puts = record {
 -- status 5 is a read fault alone
 pub said-read : (command : Command) (s s' : ShelfState) (o o' e e' : PenState) (fault : Fault) → status_of fault ≡ 5 → EndsBy command s s' o o' fault → Says e e' (line_of fault) → (name : List ℕ) × IsMissing command s s' o o' Failed name × Says e e' (read_line name)
 said-read command s s' o o' e e' (Read name) is ends says = (string_bytes name, ends, says)
+said-read command s s' o o' e e' (Table fault) is ends says = absurd (omega arith)
 said-read command s s' o o' e e' NotServed is ends says = absurd (omega arith)
 said-read command s s' o o' e e' (Absent name) is ends says = absurd (omega arith)
 said-read command s s' o o' e e' (TooLong name) is ends says = absurd (omega arith)

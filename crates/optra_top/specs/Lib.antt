@@ -4,7 +4,9 @@ pub mod Replies
 pub mod Gathering
 pub mod Putting
 pub mod Lines
+pub mod Plans
 pub mod PlanCommand
+pub mod TablesRead
 pub mod Commands
 pub mod Ending
 pub mod Faults

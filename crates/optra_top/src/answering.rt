@@ -1,5 +1,5 @@
 //! What a command answers to the contents of its files.
-ghost use Rattle.std.specs.Prelude.{◌≡◌, ◌<◌, map, string_bytes, vec_items, IfOk, IfErr};
+ghost use Rattle.std.specs.Prelude.{◌≡◌, ◌<◌, length, map, string_bytes, vec_items, IfOk, IfErr};
 ghost use Rattle.optra_top.specs.WordsRead.{command_read};
 ghost use Rattle.optra_top.specs.Replies.{answered};
 ghost use Rattle.optra_top.specs.Putting.{texts_of};
@@ -32,6 +32,7 @@ pub fn file_names(alloc: Global, words: Words<'_>) -> Result<Vec<String>, AllocE
 
 /// The command's answer to the contents of its files. It errs exactly where they are refused, or by want of memory.
 pub fn reply_to(alloc: Global, words: Words<'_>, contents: &[Vec<u8>]) -> Result<Answer, Fault>
+    requires { length contents.now ≡ length (files_of (command_read words)) }
     ensures ok { IfOk result (λ answer.
         MayReply (command_read words.entry) (map vec_items contents.now) (answered answer.status answer.text.items (texts_of answer.puts.items))) }
     ensures done { IfOk result (λ answer. IsDoneStatus answer.status) }

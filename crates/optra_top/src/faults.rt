@@ -1,16 +1,21 @@
 //! The faults that end a command, their lines and their statuses.
-ghost use Rattle.std.specs.Prelude.{◌≡◌, ◌++◌, [], ◌∷◌};
+ghost use Rattle.std.specs.Prelude.{◌≡◌};
 ghost use Rattle.optra_outside.specs.Pen.{Writes};
 ghost use Rattle.optra_top.specs.declared.faults.Fault.TheVariants.{NoMemory};
-ghost use Rattle.optra_top.specs.Lines.{line_of, status_of, line};
+ghost use Rattle.optra_top.specs.Lines.{line_of, status_of};
+ghost use Rattle.optra_top.specs.Faults.{IsUnread};
 
 use optra_outside::{Pen, PenFailed};
+use optra_tables::{ReadError, TableFault};
+use optra_text::{FaultView, fault_text};
 use std::alloc::{AllocError, AllocFailed};
 
 /// What ended a command.
 #[derive(Drop)]
 pub enum Fault {
-    /// The tables are accepted, but have more or less than one track, or a stop.
+    /// The tables are refused, by their first fault.
+    Table(TableFault),
+    /// The tables are accepted, but the number of tracks isn't one, or a bid has a stop.
     NotServed,
     /// The file of this name could not be read.
     Read(String),
@@ -30,7 +35,7 @@ impl Fault {
         ensures { result ≡ status_of self.now }
     {
         match self {
-            Fault::NotServed => 3,
+            Fault::Table(_) | Fault::NotServed => 3,
             Fault::Read(_) => 5,
             Fault::Absent(_) => 6,
             Fault::TooLong(_) => 9,
@@ -44,22 +49,15 @@ impl Fault {
         ensures { Writes (P.state pen.old) (P.state pen.new) (line_of self.now) result }
     {
         match self {
+            Fault::Table(fault) => fault_text(pen, FaultView::Table(*fault)),
             Fault::NotServed => pen.write(b"refused: tracks row 0 OneTrackOnly\n"),
-            Fault::Read(name) => write_named(pen, b"read fault: ", name.as_str()),
-            Fault::Absent(name) => write_named(pen, b"absent: ", name.as_str()),
-            Fault::TooLong(name) => write_named(pen, b"too long: ", name.as_str()),
-            Fault::Write => pen.write(b"write fault\n"),
-            Fault::NoMemory => pen.write(b"no memory\n"),
+            Fault::Read(name) => fault_text(pen, FaultView::Read(name.as_str())),
+            Fault::Absent(name) => fault_text(pen, FaultView::Absent(name.as_str())),
+            Fault::TooLong(name) => fault_text(pen, FaultView::TooLong(name.as_str())),
+            Fault::Write => fault_text(pen, FaultView::Write),
+            Fault::NoMemory => fault_text(pen, FaultView::NoMemory),
         }
     }
-}
-
-fn write_named<P: Pen>(pen: &mut P, label: &[u8], name: &str) -> Result<(), PenFailed>
-    ensures { Writes (P.state pen.old) (P.state pen.new) (label.now ++ line name.now) result }
-{
-    pen.write(label)?;
-    pen.write(name.as_bytes())?;
-    pen.write(b"\n")
 }
 
 impl From<AllocError> for Fault {
@@ -75,5 +73,16 @@ impl<T: Drop> From<AllocFailed<T>> for Fault {
 
     fn from(_: AllocFailed<T>) -> Fault {
         Fault::NoMemory
+    }
+}
+
+impl From<ReadError> for Fault {
+    ghost from_gives = { IsUnread };
+
+    fn from(error: ReadError) -> Fault {
+        match error {
+            ReadError::Fault(fault) => Fault::Table(fault),
+            ReadError::NoMemory => Fault::NoMemory,
+        }
     }
 }

@@ -4,6 +4,7 @@
 mod answering;
 mod faults;
 mod gathering;
+mod one_track;
 mod performing;
 mod planning;
 mod putting;

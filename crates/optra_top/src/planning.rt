@@ -1,30 +1,112 @@
 //! The plan command: from the contents of its files to what is printed.
-ghost use Rattle.std.specs.Prelude.{◌≡◌, ◌<◌, ◌++◌, [], ◌∷◌, map, string_bytes, vec_items, OnOk, IfOk, IfErr};
+ghost use Rattle.std.specs.Prelude.{◌≡◌, ◌<◌, ◌++◌, ◌==◌, [], ◌∷◌, length, map, string_bytes, vec_items, OnOk, IfOk, IfErr, Ok};
+ghost use Rattle.std.specs.Prelude.{◌≤ℤ◌};
+ghost use Rattle.optra_bid.specs.Instances.{IsInstance};
+ghost use Rattle.optra_tables.specs.Bids.{parts_of};
 ghost use Rattle.optra_top.specs.Words.{plan_files};
 ghost use Rattle.optra_top.specs.Replies.{answered};
 ghost use Rattle.optra_top.specs.Putting.{texts_of};
-ghost use Rattle.optra_top.specs.PlanCommand.{PlanReplies};
+ghost use Rattle.optra_top.specs.PlanCommand.{meaning_of, have_no_stop, is_served, IsStatusOf, PrintsPlan, PlanReplies};
+ghost use Rattle.optra_top.specs.TablesRead.{tables_seen};
 ghost use Rattle.optra_top.specs.Faults.{Refusing};
 ghost use Rattle.optra_top.specs.Ending.{IsDoneStatus};
 
 use crate::answering::Answer;
 use crate::faults::Fault;
+use crate::one_track::plan_one_track;
+use optra_bid::Bid;
+use optra_network::{Cents, Network, NoMemory};
+use optra_tables::{NetFiles, read_bids, read_network};
+use optra_text::{PlanView, plan_text};
+use optra_walk::Instance;
 use std::alloc::{AllocError, Global};
 
 /// Reads the tables and plans.
 pub fn plan(alloc: Global, contents: &[Vec<u8>]) -> Result<Answer, Fault>
+    requires { length contents.now ≡ 7 }
     ensures ok { IfOk result (λ answer. PlanReplies (map vec_items contents.now) (answered answer.status answer.text.items (texts_of answer.puts.items))) }
     ensures done { IfOk result (λ answer. IsDoneStatus answer.status) }
     ensures err { IfErr result (λ fault. Refusing (λ reply. PlanReplies (map vec_items contents.now) reply) fault) }
 {
-    match contents.first() {
-        Some(stations) if !stations.is_empty() => Ok(Answer {
-            status: u8::from(stations.len() > 100),
-            text: stations.to_vec(alloc)?,
-            puts: Vec::new(alloc),
-        }),
-        _ => Err(Fault::NotServed),
+    let tables = read_tables(alloc, contents)?;
+    if !is_served(&tables) {
+        return Err(Fault::NotServed);
     }
+    let inst = Instance {
+        net: &tables.net,
+        bids: &tables.bids,
+    };
+    Ok(plan_served(alloc, inst)?)
+}
+
+// A network and its bids.
+#[derive(Drop)]
+struct Tables {
+    net: Network,
+    bids: Vec<Bid>,
+}
+
+// The tables that the files mean. It errs by their first fault, or by want of memory.
+fn read_tables(alloc: Global, contents: &[Vec<u8>]) -> Result<Tables, Fault>
+    requires { length contents.now ≡ 7 }
+    ensures ok { IfOk result (λ tables. meaning_of (map vec_items contents.now) ≡ Ok (tables_seen tables)) }
+    ensures instance { IfOk result (λ tables. IsInstance tables.net tables.bids.items) }
+    ensures err { IfErr result (λ fault. Refusing (λ reply. PlanReplies (map vec_items contents.now) reply) fault) }
+{
+    let files = NetFiles {
+        stations: &contents[0],
+        tracks: &contents[1],
+        types: &contents[2],
+        running: &contents[3],
+        headways: &contents[4],
+    };
+    let net = read_network(alloc, &files)?;
+    let bids = read_bids(alloc, &net, &contents[5], &contents[6])?;
+    Ok(Tables { net, bids })
+}
+
+// Whether there is one track and no stop.
+fn is_served(tables: &Tables) -> bool
+    ensures { result ≡ is_served (tables_seen tables.now) }
+{
+    tables.net.track_count() == 1 && have_no_stop(&tables.bids)
+}
+
+fn have_no_stop(bids: &[Bid]) -> bool
+    ensures { result ≡ have_no_stop (map parts_of bids.now) }
+{
+    bids.iter().all(|bid| bid.path.stops.is_empty())
+}
+
+// Plans tables that are served.
+fn plan_served(alloc: Global, inst: Instance<'_>) -> Result<Answer, NoMemory>
+    requires instance { IsInstance inst.net.now inst.bids.now }
+    requires one { length inst.net.now.tracks ≡ 1 }
+    ensures plan { IfOk result (λ answer. PrintsPlan (record { net = inst.entry.net.now; bids = map parts_of inst.entry.bids.now }) answer.status answer.text.items) }
+    ensures puts { IfOk result (λ answer. answer.puts.items ≡ []) }
+{
+    let plan = plan_one_track(alloc, inst)?;
+    let view = PlanView {
+        inst,
+        choice: &plan.choice,
+        revenue: plan.revenue,
+        bound: plan.bound,
+        nodes: 1,
+    };
+    let text = plan_text(alloc, view)?;
+    Ok(Answer {
+        status: status(plan.revenue, plan.bound),
+        text,
+        puts: Vec::new(alloc),
+    })
+}
+
+// 0 where the bound is the revenue, and 1 where it is above.
+fn status(revenue: Cents, bound: Cents) -> u8
+    requires { revenue ≤ℤ bound }
+    ensures { IsStatusOf revenue bound result }
+{
+    u8::from(revenue != bound)
 }
 
 /// The names of the plan command's files, in the order in which they are got.

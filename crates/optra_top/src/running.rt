@@ -2,7 +2,8 @@
 ghost use Rattle.std.specs.Prelude.{◌≡◌, ◌≢◌, ◌⊎◌, ◌<◌, IfSome, IsSomeAnd, IsNone, List, ℕ};
 ghost use Rattle.optra_outside.specs.declared.shelf.ShelfError.TheVariants.{Failed, Absent, TooLong};
 ghost use Rattle.optra_outside.specs.Counts.{Rose};
-ghost use Rattle.optra_top.specs.Lines.{usage_line, read_line, absent_line, too_long_line, write_line, memory_line, line_of, status_of};
+ghost use Rattle.optra_text.specs.FaultLines.{usage_line, read_line, absent_line, too_long_line, write_line, memory_line};
+ghost use Rattle.optra_top.specs.Lines.{line_of, status_of};
 ghost use Rattle.optra_top.specs.Commands.{asked};
 ghost use Rattle.optra_top.specs.Ending.{IsDone, IsDoneStatus, IsSilent, IsRefusal, IsMissing, IsWriteFault, Says, IsValid, IsRefused, NoFaults};
 
@@ -10,6 +11,7 @@ use crate::faults::Fault;
 use crate::performing::perform;
 use crate::wording::read_words;
 use optra_outside::{NeverPen, NeverShelf, Pen, Shelf};
+use optra_text::{FaultView, fault_text};
 use std::alloc::Global;
 
 /// Runs the command of these words, which are those after the program's name, and answers its exit status.
@@ -79,7 +81,7 @@ pub fn run<S: Shelf, O: Pen, E: Pen>(
         ⊎ (result ≡ 7) ⊎ (result ≡ 8) ⊎ (result ≡ 9) }
 {
     let Some(words) = read_words(words) else {
-        let _ = err.write(b"usage: optra plan|check|auction|demo\n");
+        let _ = fault_text(err, FaultView::Usage);
         return 2;
     };
     match perform(alloc, words, shelf, out) {
