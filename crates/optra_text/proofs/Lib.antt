@@ -1,0 +1,7 @@
+-- Lemmas on the printed texts.
+pub mod PieceLemmas
+pub mod TrackLemmas
+pub mod TrainLemmas
+pub mod LegsTold
+pub mod TrainsTold
+pub mod PlanTold

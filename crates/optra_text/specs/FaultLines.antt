@@ -1,0 +1,88 @@
+-- The line of each fault that ends a command.
+use Rattle.std.specs.Prelude.{ℕ, List, [], ◌∷◌, ◌++◌, codes}
+use Rattle.std.specs.Fmt.{decimal}
+use Rattle.optra_network.specs.declared.NetRefusal.{NetRefusal}
+use Rattle.optra_network.specs.declared.NetRefusal.TheVariants as net
+use Rattle.optra_bid.specs.declared.BidRefusal.{BidRefusal}
+use Rattle.optra_bid.specs.declared.BidRefusal.TheVariants as bid
+use Rattle.optra_tables.specs.declared.Kind.{Kind}
+use Rattle.optra_tables.specs.declared.Kind.TheVariants.{Csv, Header, Name, Number, Net, Bid}
+use Rattle.optra_tables.specs.declared.Table.{Table}
+use Rattle.optra_tables.specs.declared.Table.TheVariants.{Stations, Tracks, Types, Running, Headways, Bids, Stops}
+use Rattle.optra_tables.specs.declared.TableFault.{TableFault}
+use Rattle.optra_text.specs.declared.faults.FaultView.{FaultView}
+use Rattle.optra_text.specs.declared.faults.FaultView.TheVariants as view
+
+-- a text and one line feed
+abbrev pub line : List ℕ → List ℕ
+line text = text ++ 10 ∷ []
+
+-- the name of a table in a line
+abbrev pub table_word : Table → List ℕ
+table_word Stations = codes "stations"
+table_word Tracks = codes "tracks"
+table_word Types = codes "types"
+table_word Running = codes "running"
+table_word Headways = codes "headways"
+table_word Bids = codes "bids"
+table_word Stops = codes "stops"
+
+-- the code of what the network refuses
+abbrev pub net_code : NetRefusal → List ℕ
+net_code net.TakenName = codes "N1"
+net_code net.UnknownName = codes "N2"
+net_code net.Range = codes "N3"
+net_code net.SelfLoop = codes "N4"
+net_code net.Repeated = codes "N5"
+net_code net.MissingHeadway = codes "N6"
+net_code net.TooMany = codes "N7"
+
+-- the code of what a bid refuses
+abbrev pub bid_code : BidRefusal → List ℕ
+bid_code bid.Ends = codes "B1"
+bid_code bid.Window = codes "B2"
+bid_code bid.Range = codes "B3"
+bid_code bid.UnknownName = codes "B4"
+bid_code bid.Stops = codes "B5"
+
+-- the code of a fault
+abbrev pub kind_code : Kind → List ℕ
+kind_code Csv = codes "Csv"
+kind_code Header = codes "Header"
+kind_code Name = codes "Name"
+kind_code Number = codes "Number"
+kind_code (Net why) = net_code why
+kind_code (Bid why) = bid_code why
+
+-- refused: <table> row <row> <code>
+abbrev pub refusal_line : TableFault → List ℕ
+refusal_line fault =
+    codes "refused: " ++ table_word fault.table ++ codes " row " ++ decimal fault.row ++ codes " " ++ line (kind_code fault.kind)
+
+abbrev pub usage_line : List ℕ
+usage_line = line (codes "usage: optra plan|check|auction|demo")
+
+abbrev pub read_line : List ℕ → List ℕ
+read_line name = codes "read fault: " ++ line name
+
+abbrev pub absent_line : List ℕ → List ℕ
+absent_line name = codes "absent: " ++ line name
+
+abbrev pub too_long_line : List ℕ → List ℕ
+too_long_line name = codes "too long: " ++ line name
+
+abbrev pub write_line : List ℕ
+write_line = line (codes "write fault")
+
+abbrev pub memory_line : List ℕ
+memory_line = line (codes "no memory")
+
+-- the line of a fault
+abbrev pub fault_line : FaultView → List ℕ
+fault_line view.Usage = usage_line
+fault_line (view.Table fault) = refusal_line fault
+fault_line (view.Read name) = read_line name.now
+fault_line (view.Absent name) = absent_line name.now
+fault_line (view.TooLong name) = too_long_line name.now
+fault_line view.Write = write_line
+fault_line view.NoMemory = memory_line
