@@ -1,0 +1,2 @@
+mod NetworkFacts
+mod MinuteLemmas

@@ -1,0 +1,4 @@
+pub mod Plans
+pub mod OneTrack
+pub mod Minutes
+pub mod Offers
