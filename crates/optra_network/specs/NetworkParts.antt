@@ -1,9 +1,10 @@
 -- What contracts see of a network.
-use Rattle.std.specs.Prelude.{◌≡◌, length, map}
-use Rattle.optra_network.specs.Net.{Net, IsProper, HoldsOut}
-use Rattle.optra_network.specs.Tables.{AreTables}
+use Rattle.std.specs.Prelude.{length, map}
+use Rattle.optra_network.specs.Net.{Net, IsProper}
+use Rattle.optra_network.specs.Tables.{AreTables, HoldsOut}
 use Rattle.optra_network.specs.declared.finished.Network.TheInside.{Inside}
 
+-- the network that the fields are
 abbrev pub net_of : Inside → Net
 net_of a = record {
   stations = a.stations;

@@ -1,4 +1,3 @@
-use Rattle.std.proofs.Common.{sym, ap, ◌∙◌, ◌++◌, ◌∷◌, []}
 use Rattle.std.proofs.lemmas.List.{map_push}
 use Rattle.optra_network.proofs.OutLemmas.{HoldsOut-push}
 use Rattle.optra_network.proofs.building.out_lists.Goals as goal

@@ -1,5 +1,5 @@
 use Rattle.std.proofs.Common.{map}
-use Rattle.optra_network.specs.Net.{HoldsOut}
+use Rattle.optra_network.specs.Tables.{HoldsOut}
 use Rattle.optra_network.proofs.building.out_lists.Given as goal
 
 abbrev pub invariant-loop-s : goal.invariant-loop-s

@@ -1,5 +1,4 @@
-use Rattle.std.proofs.Common.{arith, ◌≡◌, true, false, ap, sym, ◌∙◌, ◌++◌, ◌∷◌, [], append-nil, eq-eqb}
-use Rattle.std.proofs.lemmas.Grind.{common_steps}
+use Rattle.std.proofs.Common.{arith, true, false, ap, sym, ◌∙◌, ◌++◌, ◌∷◌, [], append-nil, eq-eqb}
 use Rattle.optra_network.specs.Net.{track_id}
 use Rattle.optra_network.specs.declared.Track.{Track}
 use Rattle.optra_network.proofs.OutLemmas.{out_more}

@@ -1,7 +1,6 @@
-use Rattle.std.proofs.Common.{◌≡◌, rules, sym, subst, ◌∙◌, ap}
-use Rattle.optra_network.specs.Net.{Net, HasAllHeadways, IsProper, IsBuilt}
+use Rattle.std.proofs.Common.{rules, sym, subst}
+use Rattle.optra_network.specs.Net.{Net, HasAllHeadways, IsBuilt}
 use Rattle.optra_network.specs.Tables.{AreTables}
-use Rattle.optra_network.specs.declared.finished.Tables.{Tables}
 use Rattle.optra_network.proofs.building.Builder.finish.Goals as goal
 
 pub tables-requires : goal.tables-requires

@@ -1,5 +1,5 @@
-use Rattle.optra_network.specs.Near.{least_at}
-use Rattle.optra_network.proofs.NearLemmas.{table_more}
+use Rattle.optra_network.specs.Tables.{least_at}
+use Rattle.optra_network.proofs.TableLemmas.{table_more}
 use Rattle.optra_network.proofs.building.Builder.leasts.Goals as goal
 
 pub loop-n-preserved : goal.loop-n-preserved

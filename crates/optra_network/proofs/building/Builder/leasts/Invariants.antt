@@ -1,6 +1,6 @@
 use Rattle.std.proofs.Common.{◌≡◌, map}
 use Rattle.std.specs.List.{range_with_len}
-use Rattle.optra_network.specs.Near.{least_at}
+use Rattle.optra_network.specs.Tables.{least_at}
 use Rattle.optra_network.proofs.building.Builder.leasts.Given as goal
 
 abbrev pub invariant-loop-n : goal.invariant-loop-n
