@@ -1,2 +1,4 @@
 mod NetworkFacts
 mod MinuteLemmas
+mod OneLegLemmas
+mod OfferLemmas

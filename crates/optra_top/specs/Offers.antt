@@ -2,13 +2,13 @@
 use Rattle.std.specs.Prelude.{◌≡◌, ℕ, ◌+◌, ◌<◌, ℤ, pos, Bool, true, false, List, [], ◌∷◌, slice_index_or, slice_get, Option, Some, MatchOption, ◌⊎◌}
 use Rattle.std.specs.Prelude.{◌≤ℤ◌, ◌<ℤ◌}
 use Rattle.std.specs.Option.{option_map}
-use Rattle.optra_network.specs.Net.{Net, track_id}
+use Rattle.optra_network.specs.Net.{Net, IsFromTo, track_id}
 use Rattle.optra_bid.specs.Specs.{Path}
 use Rattle.optra_bid.specs.declared.Window.{Window}
 use Rattle.optra_bid.specs.declared.bids.Bid.{Bid}
 use Rattle.optra_walk.specs.declared.Leg.{Leg}
 use Rattle.optra_walk.specs.declared.Action.TheVariants.{Finish}
-use Rattle.optra_walk.specs.Walks.{IsWalk, IsWithin}
+use Rattle.optra_walk.specs.Walks.{IsWalk}
 use Rattle.optra_top.specs.OneTrack.{worth_of}
 use Rattle.optra_top.specs.declared.one_track.offers.Offer.{Offer}
 
@@ -28,7 +28,7 @@ pub record LeadsAlong (net : Net) (path : Path) : Type 0 where
 
 -- a train that departs at the minute and is under way for so many departs and arrives within the windows
 abbrev pub IsWithinBoth : Window → Window → ℕ → ℕ → Type 0
-IsWithinBoth depart arrive under_way minute = IsWithin depart.from depart.to minute × IsWithin arrive.from arrive.to (minute + under_way)
+IsWithinBoth depart arrive under_way minute = IsFromTo depart.from depart.to minute × IsFromTo arrive.from arrive.to (minute + under_way)
 
 -- a minute that isn't excluded is the first one of the greatest value, which is above zero
 pub record IsFirstMinute (May : ℕ → Type 0) (value : ℕ → ℤ) (excluded : ℕ → Bool) (worth : ℤ) (minute : ℕ) : Type 0 where

@@ -1,6 +1,7 @@
 //! What a bid takes and offers on the one track, by the minutes at which its train may depart.
 ghost use Rattle.std.specs.Prelude.{◌≡◌, ℕ, ◌+◌, ◌<◌, ◌≤◌, ◌↔◌, [], ◌∷◌, Some, IsTrue, not, ◌&&◌, int_lt, length, if◌then◌else◌, pos};
 ghost use Rattle.std.specs.Int.{int_max};
+ghost use Rattle.optra_network.specs.Net.{IsProper};
 ghost use Rattle.optra_bid.specs.Specs.{IsWindow, IsBetween};
 ghost use Rattle.optra_walk.specs.Walks.{IsWalk};
 ghost use Rattle.optra_top.specs.OneTrack.{worth_of};
@@ -102,6 +103,7 @@ fn with_minute(offer: Offer, minute: Minute, worth: Cents, excluded: bool) -> Of
 
 /// What the bid takes and offers, where these minutes are excluded for its type.
 pub(crate) fn offer_of(net: &Network, bid: &Bid, excluded: &[bool]) -> Offer
+    requires proper { IsProper net.now }
     requires one { length net.now.tracks ≡ 1 }
     requires day { length excluded.now ≡ 2880 }
     ensures best { IsOffer net.now bid.now excluded.now result }
