@@ -22,7 +22,8 @@ pub(crate) fn none_excluded(alloc: Global, net: &Network) -> Result<Vec<bool>, N
 pub(crate) fn day_of<'a>(net: &Network, table: &'a [bool], kind: TypeId) -> &'a [bool]
     requires kind { IsKind net.now kind }
     requires len { length table.now ≡ length net.now.types * 2880 }
-    ensures { result.now ≡ take 2880 (drop (kind.0 * 2880) table.now) }
+    ensures day { result.now ≡ take 2880 (drop (kind.0 * 2880) table.now) }
+    ensures len { length result.now ≡ 2880 }
 {
     let start = usize::from(kind.0) * DAY;
     &table[start..start + DAY]
