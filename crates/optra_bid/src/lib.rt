@@ -106,9 +106,11 @@ pub enum BidRefusal {
 /// Why there is no bid, or no further stop.
 #[derive(Clone, Copy, Debug, PartialEq, Eq, Error)]
 pub enum BidFault {
-    #[error("{0}")]
+    /// The call breaks a rule.
+    #[error(transparent)]
     Refused(BidRefusal),
-    #[error("no memory")]
+    /// Memory couldn't be had.
+    #[error("out of memory")]
     NoMemory,
 }
 
@@ -133,3 +135,6 @@ impl<T: Drop> From<AllocFailed<T>> for BidFault {
         BidFault::NoMemory
     }
 }
+
+#[cfg(test)]
+mod tests;

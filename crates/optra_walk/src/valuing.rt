@@ -31,13 +31,7 @@ pub fn value(net: &Network, bid: &Bid, legs: &[Leg]) -> Cents
     };
     let waits = wait_minutes(legs);
     let ideals = (path.depart.ideal, path.arrive.ideal);
-    value_by(
-        ideals,
-        bid.money,
-        first.depart,
-        arrive as u16,
-        waits as u16,
-    )
+    value_by(ideals, bid.money, first.depart, arrive as u16, waits as u16)
 }
 
 /// A rate times minutes.

@@ -15,6 +15,7 @@ returns-clause-differ c =
 pub returns-clause-few : goal.returns-clause-few
 returns-clause-few c =
     λ (yes : IsTrue c.obeys_rules-is_walk.result).
-    let walk = c.obeys_rules-is_walk.ensures.0 yes in
-    (some_leg c.args.net.now c.args.bid.now.path c.args.legs.now c.track_count-proper.ensures.proper walk,
-    few_legs c.args.net.now c.args.bid.now.path c.args.legs.now c.track_count-proper.ensures.proper walk c.args.bid.now.bounds.arrive.day)
+    let walk = c.obeys_rules-is_walk.ensures.0 yes in (
+      some_leg c.args.net.now c.args.bid.now.path c.args.legs.now c.track_count-proper.ensures.proper walk,
+      few_legs c.args.net.now c.args.bid.now.path c.args.legs.now c.track_count-proper.ensures.proper walk c.args.bid.now.bounds.arrive.day,
+    )
