@@ -3,3 +3,10 @@ pub mod PlanRefusals
 pub mod Ended
 pub mod Completed
 pub mod Put
+mod NetworkFacts
+mod MinuteLemmas
+mod OneLegLemmas
+mod OfferLemmas
+mod ChoiceLemmas
+mod RuleLemmas
+mod PlannedLemmas

@@ -1,3 +1,4 @@
+-- What the commands are, what they reply, and how they end; and the rule of the plan on one track.
 pub mod Words
 pub mod WordsRead
 pub mod Replies
@@ -10,3 +11,6 @@ pub mod TablesRead
 pub mod Commands
 pub mod Ending
 pub mod Faults
+pub mod OneTrack
+pub mod Minutes
+pub mod Offers
