@@ -3,7 +3,7 @@ use Rattle.std.proofs.Common.{◌≡◌, ◌⊎◌, inl, inr, ℕ, ◌<◌, List
 use Rattle.optra_outside.specs.Counts.{Rose}
 use Rattle.optra_outside.specs.Pen.{PenState}
 use Rattle.optra_outside.specs.Shelf.{ShelfState}
-use Rattle.optra_outside.specs.declared.shelf.ShelfError.TheVariants.{Absent as NotThere, TooLong as Overlong}
+use Rattle.optra_outside.specs.declared.shelves.ShelfError.TheVariants.{Absent as NotThere, TooLong as Overlong}
 use Rattle.optra_top.specs.declared.faults.Fault.{Fault}
 use Rattle.optra_top.specs.declared.faults.Fault.TheVariants.{Table, NotServed, Read, Absent, TooLong, Write, NoMemory}
 use Rattle.optra_text.specs.FaultLines.{refusal_line}
@@ -62,21 +62,21 @@ complete command s s' o o' Write ends valid none = elim ends.cause [ inl put ↦
 complete command s s' o o' NoMemory ends valid none = refl
 
 -- what the shelf holds is refused, and no read failed
-pub refuses : (command : Command) (s s' : ShelfState) (o o' e e' : PenState) (fault : Fault) → EndsBy command s s' o o' fault → Says e e' (line_of fault) → ¬ (Rose s.read_faults s'.read_faults) → (line : List ℕ) → IsRefused command s line
-    → ((status_of fault ≡ 3) × Says e e' line) ⊎ (status_of fault ≡ 8)
-refuses command s s' o o' e e' (Table fault) ends says none line refused-so =
+pub refuses : (command : Command) (s s' : ShelfState) (o o' e e' : PenState) (fault : Fault) (status : ℕ) → status ≡ status_of fault → EndsBy command s s' o o' fault → Says e e' (line_of fault) → ¬ (Rose s.read_faults s'.read_faults) → (line : List ℕ) → IsRefused command s line
+    → ((status ≡ 3) × Says e e' line) ⊎ (status ≡ 8)
+refuses command s s' o o' e e' (Table fault) status is ends says none line refused-so =
     let same = same_line line (refusal_line fault) (refused-alone command refused-so.contents line (refused (refusal_line fault)) refused-so.refuses (reply-held command s refused-so.contents ends.contents (refused (refusal_line fault)) refused-so.holds ends.replied)) in
     let P : List ℕ → Type 0 = λ l. Says e e' l in
-    inl (refl, subst P same says)
-refuses command s s' o o' e e' NotServed ends says none line refused-so =
+    inl (is, subst P same says)
+refuses command s s' o o' e e' NotServed status is ends says none line refused-so =
     let same = same_line line one_track_line (refused-alone command refused-so.contents line (refused one_track_line) refused-so.refuses (reply-held command s refused-so.contents ends.contents (refused one_track_line) refused-so.holds ends.replied)) in
     let P : List ℕ → Type 0 = λ l. Says e e' l in
-    inl (refl, subst P same says)
-refuses command s s' o o' e e' (Read name) ends says none line refused-so = absurd (none (ends.refuses.failed refl))
-refuses command s s' o o' e e' (Absent name) ends says none line refused-so = absurd (never-absent command s s' o o' refused-so.contents _ refused-so.holds ends)
-refuses command s s' o o' e e' (TooLong name) ends says none line refused-so = absurd (never-overlong command s s' o o' refused-so.contents _ refused-so.holds ends)
-refuses command s s' o o' e e' Write ends says none line refused-so = absurd (never-answered command s line ends.contents ends.status ends.text ends.puts refused-so ends.replied)
-refuses command s s' o o' e e' NoMemory ends says none line refused-so = inr refl
+    inl (is, subst P same says)
+refuses command s s' o o' e e' (Read name) status is ends says none line refused-so = absurd (none (ends.refuses.failed refl))
+refuses command s s' o o' e e' (Absent name) status is ends says none line refused-so = absurd (never-absent command s s' o o' refused-so.contents _ refused-so.holds ends)
+refuses command s s' o o' e e' (TooLong name) status is ends says none line refused-so = absurd (never-overlong command s s' o o' refused-so.contents _ refused-so.holds ends)
+refuses command s s' o o' e e' Write status is ends says none line refused-so = absurd (never-answered command s line ends.contents ends.status ends.text ends.puts refused-so ends.replied)
+refuses command s s' o o' e e' NoMemory status is ends says none line refused-so = inr is
 
 -- a command that did its work was not refused
 pub refuses-done : (command : Command) (s s' : ShelfState) (o o' : PenState) (status : ℕ) → IsDone command s s' o o' status → (line : List ℕ) → IsRefused command s line → ⊥

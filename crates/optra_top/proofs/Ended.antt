@@ -3,8 +3,8 @@ use Rattle.std.proofs.Common.{◌≡◌, ℕ, List, [], length, map, get_or, tru
 use Rattle.std.proofs.lemmas.List.{length-map}
 use Rattle.optra_outside.specs.Pen.{PenState}
 use Rattle.optra_outside.specs.Shelf.{ShelfState, GetLeaves, PutLeaves}
-use Rattle.optra_outside.specs.declared.shelf.ShelfError.{ShelfError}
-use Rattle.optra_outside.specs.declared.shelf.ShelfError.TheVariants.{Absent as NotThere, Failed, TooLong as Overlong, NoMemory as NoRoom}
+use Rattle.optra_outside.specs.declared.shelves.ShelfError.{ShelfError}
+use Rattle.optra_outside.specs.declared.shelves.ShelfError.TheVariants.{Absent as NotThere, Failed, TooLong as Overlong, NoMemory as NoRoom}
 use Rattle.optra_top.specs.declared.faults.Fault.{Fault}
 use Rattle.optra_top.specs.declared.faults.Fault.TheVariants.{Table, NotServed, Read, Absent, TooLong, Write, NoMemory}
 use Rattle.optra_text.specs.FaultLines.{read_line}

@@ -35,7 +35,7 @@ excludes_tells net a b same = by (is_after net a b) (is_after net b a) (after_de
 -- the minutes that a train excludes, by the headways before it and after it
 pub between_is : (start minute before after time : ℕ) → time < 2880
     → (nat_le (start + (minute + 1 - before)) (start + time) && nat_lt (start + time) (start + min (minute + after) 2880))
-        ≡ (not (nat_le (minute + after) time) && not (nat_le (time + before) minute))
+    ≡ (not (nat_le (minute + after) time) && not (nat_le (time + before) minute))
 between_is start minute before after time day = grind (arith, nat_tests)
 
 -- what is placed after one more train

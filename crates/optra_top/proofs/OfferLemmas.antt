@@ -147,23 +147,23 @@ module _ (first : ℕ) (value : ℕ → ℤ) (excluded : ℕ → Bool) where
         → IsOfferOf (IsFromUpTo first (n + 1)) value excluded next
     offer_more greatest worth departure = elim (picks offer.worth (value n) (excluded n)) [
       | inl now ↦
-        let w : next.worth ≡ value n = worth ∙ ap (λ b. cond b (value n) offer.worth) now.0 in
-        let d : next.departure ≡ Some n = departure ∙ ap (λ b. cond b (Some n) offer.departure) now.0 in
-        record {
-          positive = let p = best.positive in let u = subst (λ z. offer.greatest ≤ℤ z) (sym greatest) (max_is offer.greatest (value n)).0 in omega (arith, ints);
-          most = most_more greatest;
-          reached = reached_more greatest;
-          most_free = free_now w now.1;
-          taken = taken_now w d now.1 now.2;
-        }
+          let w : next.worth ≡ value n = worth ∙ ap (λ b. cond b (value n) offer.worth) now.0 in
+          let d : next.departure ≡ Some n = departure ∙ ap (λ b. cond b (Some n) offer.departure) now.0 in
+          record {
+            positive = let p = best.positive in let u = subst (λ z. offer.greatest ≤ℤ z) (sym greatest) (max_is offer.greatest (value n)).0 in omega (arith, ints);
+            most = most_more greatest;
+            reached = reached_more greatest;
+            most_free = free_now w now.1;
+            taken = taken_now w d now.1 now.2;
+          }
       | inr still ↦
-        let w : next.worth ≡ offer.worth = worth ∙ ap (λ b. cond b (value n) offer.worth) still.0 in
-        let d : next.departure ≡ offer.departure = departure ∙ ap (λ b. cond b (Some n) offer.departure) still.0 in
-        record {
-          positive = let p = best.positive in let u = subst (λ z. offer.greatest ≤ℤ z) (sym greatest) (max_is offer.greatest (value n)).0 in omega (arith, ints);
-          most = most_more greatest;
-          reached = reached_more greatest;
-          most_free = free_still w still.1;
-          taken = taken_still w d;
-        }
+          let w : next.worth ≡ offer.worth = worth ∙ ap (λ b. cond b (value n) offer.worth) still.0 in
+          let d : next.departure ≡ offer.departure = departure ∙ ap (λ b. cond b (Some n) offer.departure) still.0 in
+          record {
+            positive = let p = best.positive in let u = subst (λ z. offer.greatest ≤ℤ z) (sym greatest) (max_is offer.greatest (value n)).0 in omega (arith, ints);
+            most = most_more greatest;
+            reached = reached_more greatest;
+            most_free = free_still w still.1;
+            taken = taken_still w d;
+          }
     ]

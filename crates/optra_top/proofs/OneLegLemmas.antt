@@ -41,8 +41,7 @@ arrives (Some times) minute under_way P e =
 pub walk_at-walks : (net : Net) (path : Path) (under_way : ℕ) → LeadsAlong net path → option_map (minutes_by true true) (times_of net (track_id 0) path.kind) ≡ Some under_way → (minute : ℕ)
     → (IsWalk net path (walk_at minute) → IsWithinBoth path.depart path.arrive under_way minute) × (IsWithinBoth path.depart path.arrive under_way minute → IsWalk net path (walk_at minute))
 walk_at-walks net path under_way leads runs minute =
-    let time = arrives (times_of net (track_id 0) path.kind) minute under_way (IsFromTo path.arrive.from path.arrive.to) runs in
-    (
+    let time = arrives (times_of net (track_id 0) path.kind) minute under_way (IsFromTo path.arrive.from path.arrive.to) runs in (
       (λ walk. (walk.start.window, time.0 walk.end.time)),
       (λ within. record {
         start = record { origin = leads.origin; halted = refl; window = within.0 };
@@ -52,7 +51,7 @@ walk_at-walks net path under_way leads runs minute =
         waits = All-cons (λ (leg : Leg). IsAllowedWait path.wait_max leg.action) (leg_at minute) [] tt (All-nil (λ (leg : Leg). IsAllowedWait path.wait_max leg.action));
         end = record { finish = refl; place = leads.destination; time = time.1 within.1 };
         finishes_last = λ k l. absurd (omega arith);
-      })
+      }),
     )
 
 -- and where the track does not serve the path, it is none

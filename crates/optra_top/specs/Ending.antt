@@ -4,7 +4,7 @@ use Rattle.std.specs.Prelude.{◌≡◌, ◌⊎◌, ℕ, ◌<◌, ◌≤◌, Lis
 use Rattle.optra_outside.specs.Counts.{Rose}
 use Rattle.optra_outside.specs.Pen.{PenState, Wrote, WrotePart}
 use Rattle.optra_outside.specs.Shelf.{ShelfState, GetLeaves}
-use Rattle.optra_outside.specs.declared.shelf.ShelfError.{ShelfError}
+use Rattle.optra_outside.specs.declared.shelves.ShelfError.{ShelfError}
 use Rattle.optra_top.specs.Replies.{Reply, refused, answered}
 use Rattle.optra_top.specs.Commands.{Command, files_of, MayReply}
 use Rattle.optra_top.specs.Gathering.{HoldsAll, Refuses}

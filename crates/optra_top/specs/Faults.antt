@@ -3,8 +3,8 @@ use Rattle.std.specs.Prelude.{◌≡◌, ℕ, List, String, string_bytes, ⊤}
 use Rattle.std.specs.declared.alloc.Global.{Global}
 use Rattle.optra_outside.specs.Pen.{PenState}
 use Rattle.optra_outside.specs.Shelf.{ShelfState}
-use Rattle.optra_outside.specs.declared.shelf.ShelfError.{ShelfError}
-use Rattle.optra_outside.specs.declared.shelf.ShelfError.TheVariants.{Failed, Absent as NotThere, TooLong as Overlong, NoMemory as NoRoom}
+use Rattle.optra_outside.specs.declared.shelves.ShelfError.{ShelfError}
+use Rattle.optra_outside.specs.declared.shelves.ShelfError.TheVariants.{Failed, Absent as NotThere, TooLong as Overlong, NoMemory as NoRoom}
 use Rattle.optra_top.specs.declared.faults.Fault.{Fault}
 use Rattle.optra_top.specs.declared.faults.Fault.TheVariants.{Table, NotServed, Read, Absent, TooLong, Write, NoMemory}
 use Rattle.optra_text.specs.FaultLines.{refusal_line}

@@ -36,4 +36,4 @@ pub record TellsExcluded (net : Net) (placed : List TrackUse) (table : List Bool
 abbrev pub ExcludesMore : Net → TrackUse → List Bool → List Bool → Type 0
 ExcludesMore net placed old new = (kind : TypeId) (minute : ℕ) → MayUse net (track_id 0) kind → minute < 2880
     → slice_index_or new (place_in_table kind minute) false
-        ≡ (slice_index_or old (place_in_table kind minute) false || excludes net placed (use_at kind minute))
+    ≡ (slice_index_or old (place_in_table kind minute) false || excludes net placed (use_at kind minute))

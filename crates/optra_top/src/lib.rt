@@ -11,7 +11,7 @@ mod putting;
 mod running;
 mod wording;
 
-pub use running::run;
+pub use running::{run, run_without_faults};
 
 #[cfg(test)]
 mod tests;

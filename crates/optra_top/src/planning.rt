@@ -1,12 +1,15 @@
 //! The plan command: from the contents of its files to what is printed.
-ghost use Rattle.std.specs.Prelude.{◌≡◌, ◌<◌, ◌++◌, ◌==◌, [], ◌∷◌, length, map, string_bytes, vec_items, OnOk, IfOk, IfErr, Ok};
+ghost use Rattle.std.specs.Prelude.{◌≡◌, ◌<◌, ◌++◌, ◌==◌, [], ◌∷◌, length, map, string_bytes, vec_items, OnOk, IfOk, IfErr, Ok, nat_eq};
 ghost use Rattle.std.specs.Prelude.{◌≤ℤ◌};
 ghost use Rattle.optra_bid.specs.Instances.{IsInstance};
+ghost use Rattle.std.specs.List.{list_all};
+ghost use Rattle.optra_tables.specs.Outcomes.{Gives};
+ghost use Rattle.optra_tables.specs.Networks.{network_of};
 ghost use Rattle.optra_tables.specs.Bids.{parts_of};
 ghost use Rattle.optra_top.specs.Words.{plan_files};
 ghost use Rattle.optra_top.specs.Replies.{answered};
 ghost use Rattle.optra_top.specs.Putting.{texts_of};
-ghost use Rattle.optra_top.specs.PlanCommand.{meaning_of, have_no_stop, is_served, IsStatusOf, PrintsPlan, PlanReplies};
+ghost use Rattle.optra_top.specs.PlanCommand.{meaning_of, content_at, net_files, is_served, IsStatusOf, PrintsPlan, PlanReplies};
 ghost use Rattle.optra_top.specs.TablesRead.{tables_seen};
 ghost use Rattle.optra_top.specs.Faults.{Refusing};
 ghost use Rattle.optra_top.specs.Ending.{IsDoneStatus};
@@ -16,7 +19,7 @@ use crate::faults::Fault;
 use crate::one_track::plan_one_track;
 use optra_bid::Bid;
 use optra_network::{Cents, Network, NoMemory};
-use optra_tables::{NetFiles, read_bids, read_network};
+use optra_tables::{NetFiles, ReadError, read_bids, read_network};
 use optra_text::{PlanView, plan_text};
 use optra_walk::Instance;
 use std::alloc::{AllocError, Global};
@@ -36,7 +39,10 @@ pub fn plan(alloc: Global, contents: &[Vec<u8>]) -> Result<Answer, Fault>
         net: &tables.net,
         bids: &tables.bids,
     };
-    Ok(plan_served(alloc, inst)?)
+    let Ok(answer) = plan_served(alloc, inst) else {
+        return Err(Fault::NoMemory);
+    };
+    Ok(answer)
 }
 
 // A network and its bids.
@@ -47,22 +53,37 @@ struct Tables {
 }
 
 // The tables that the files mean. It errs by their first fault, or by want of memory.
-fn read_tables(alloc: Global, contents: &[Vec<u8>]) -> Result<Tables, Fault>
+fn read_tables(alloc: Global, contents: &[Vec<u8>]) -> Result<Tables, ReadError>
     requires { length contents.now ≡ 7 }
-    ensures ok { IfOk result (λ tables. meaning_of (map vec_items contents.now) ≡ Ok (tables_seen tables)) }
+    ensures read { Gives tables_seen result (meaning_of (map vec_items contents.now)) }
     ensures instance { IfOk result (λ tables. IsInstance tables.net tables.bids.items) }
-    ensures err { IfErr result (λ fault. Refusing (λ reply. PlanReplies (map vec_items contents.now) reply) fault) }
+{
+    let net = read_net(alloc, contents)?;
+    let bids = read_bids(alloc, &net, content(contents, 5), content(contents, 6))?;
+    Ok(Tables { net, bids })
+}
+
+// The network that the first five files mean.
+fn read_net(alloc: Global, contents: &[Vec<u8>]) -> Result<Network, ReadError>
+    requires { length contents.now ≡ 7 }
+    ensures { Gives (λ net. net) result (network_of (net_files (map vec_items contents.now))) }
 {
     let files = NetFiles {
-        stations: &contents[0],
-        tracks: &contents[1],
-        types: &contents[2],
-        running: &contents[3],
-        headways: &contents[4],
+        stations: content(contents, 0),
+        tracks: content(contents, 1),
+        types: content(contents, 2),
+        running: content(contents, 3),
+        headways: content(contents, 4),
     };
-    let net = read_network(alloc, &files)?;
-    let bids = read_bids(alloc, &net, &contents[5], &contents[6])?;
-    Ok(Tables { net, bids })
+    read_network(alloc, &files)
+}
+
+// The content of the file at a place.
+fn content(contents: &[Vec<u8>], place: usize) -> &[u8]
+    requires { place < length contents.now }
+    ensures { result.now ≡ content_at (map vec_items contents.now) place }
+{
+    &contents[place]
 }
 
 // Whether there is one track and no stop.
@@ -73,9 +94,15 @@ fn is_served(tables: &Tables) -> bool
 }
 
 fn have_no_stop(bids: &[Bid]) -> bool
-    ensures { result ≡ have_no_stop (map parts_of bids.now) }
+    ensures { result ≡ list_all (λ bid. length bid.path.stops == 0) bids.now }
 {
-    bids.iter().all(|bid| bid.path.stops.is_empty())
+    bids.iter().all(|bid| has_no_stop(bid))
+}
+
+fn has_no_stop(bid: &Bid) -> bool
+    ensures { result ≡ (length bid.now.path.stops == 0) }
+{
+    bid.path.stops.is_empty()
 }
 
 // Plans tables that are served.

@@ -1,6 +1,6 @@
 //! The top call.
 ghost use Rattle.std.specs.Prelude.{◌≡◌, ◌≢◌, ◌⊎◌, ◌<◌, IfSome, IsSomeAnd, IsNone, List, ℕ};
-ghost use Rattle.optra_outside.specs.declared.shelf.ShelfError.TheVariants.{Failed, Absent, TooLong};
+ghost use Rattle.optra_outside.specs.declared.shelves.ShelfError.TheVariants.{Failed, Absent, TooLong};
 ghost use Rattle.optra_outside.specs.Counts.{Rose};
 ghost use Rattle.optra_text.specs.FaultLines.{usage_line, read_line, absent_line, too_long_line, write_line, memory_line};
 ghost use Rattle.optra_top.specs.Lines.{line_of, status_of};

@@ -50,7 +50,7 @@ fn exclude_for(net: &Network, kind: TypeId, minute: Minute, other: TypeId, table
     requires len { length table.old ≡ length net.now.types * 2880 }
     ensures here { MayUse net.now (track_id 0) other → (time : ℕ) → time < 2880
         → slice_index_or table.new (place_in_table other time) false
-            ≡ (slice_index_or table.old (place_in_table other time) false || excludes net.now (use_at kind minute) (use_at other time)) }
+        ≡ (slice_index_or table.old (place_in_table other time) false || excludes net.now (use_at kind minute) (use_at other time)) }
     ensures others { (another : Kind) (time : ℕ) → another.0 ≢ other.0 → time < 2880
         → slice_index_or table.new (place_in_table another time) false ≡ slice_index_or table.old (place_in_table another time) false }
 {

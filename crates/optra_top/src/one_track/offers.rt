@@ -40,9 +40,7 @@ fn leads_along(net: &Network, path: &PathSpec) -> bool
     requires { length net.now.tracks ≡ 1 }
     ensures { IsTrue result ↔ LeadsAlong net.now path.now }
 {
-    path.stops.is_empty()
-        && net.tail(TRACK) == path.origin
-        && net.head(TRACK) == path.destination
+    path.stops.is_empty() && net.tail(TRACK) == path.origin && net.head(TRACK) == path.destination
 }
 
 /// The minutes of departure that lie within the windows: the first one, and one past the last one.
@@ -52,9 +50,7 @@ fn minutes_within(depart: Window, arrive: Window, under_way: u16) -> (Minute, Mi
     ensures within { (minute : ℕ) → IsWithinBoth depart arrive under_way minute ↔ ((result.0 ≤ minute) × (minute < result.1)) }
     ensures day { result.1 ≤ 2880 }
 {
-    let first = depart
-        .from
-        .max(arrive.from.saturating_sub(under_way));
+    let first = depart.from.max(arrive.from.saturating_sub(under_way));
     let end = (depart.to + 1).min((arrive.to + 1).saturating_sub(under_way));
     (first, end)
 }

@@ -45,16 +45,16 @@ loop-bid-preserved c =
     sym (written_back c.loop-bid.excluded.len c.exclude_taken.new.table c.loop-bid.excluded.items (omega arith) (omega arith)) in
     record {
       so = planned_same c.args.net.now (take c.loop-bid.bid-index c.args.bids.now ++ c.bid-item.result ∷ []) (take (c.loop-bid.bid-index + 1) c.args.bids.now)
-      (c.loop-bid.walks.items ++ option_map walk_at c.offer_of-offer.result.departure ∷ []) c.push.new.self.items
-      c.exclude_taken.new.table (take c.loop-bid.excluded.len (c.exclude_taken.new.table ++ drop (length c.exclude_taken.new.table) c.loop-bid.excluded.items))
-      (to_z w64 c.loop-bid.revenue-bits +ℤ c.offer_of-offer.result.worth) (to_z w64 (of_z w64 (to_z w64 c.loop-bid.revenue-bits +ℤ to_z w64 (of_z w64 c.offer_of-offer.result.worth))))
-      (to_z w64 c.loop-bid.bound-bits +ℤ c.offer_of-offer.result.greatest) (to_z w64 (of_z w64 (to_z w64 c.loop-bid.bound-bits +ℤ to_z w64 (of_z w64 c.offer_of-offer.result.greatest))))
-      bids walks table (sym revenue.0) (sym bound.0)
-      (planned_more c.args.net.now c.type_count-proper.ensures.proper c.requires.one c.bid-item.result (take c.loop-bid.bid-index c.args.bids.now) c.loop-bid.walks.items
-      c.loop-bid.excluded.items c.exclude_taken.new.table (to_z w64 c.loop-bid.revenue-bits) (to_z w64 c.loop-bid.bound-bits) c.offer_of-offer.result
-      c.loop-bid.invariant.so (search rules) 
-      (λ tells. c.exclude_taken.ensures (uses_of (take c.loop-bid.bid-index c.args.bids.now) c.loop-bid.walks.items)
-      (subst (TellsExcluded c.args.net.now (uses_of (take c.loop-bid.bid-index c.args.bids.now) c.loop-bid.walks.items)) (sym c.deref_mut.ensures.value) tells)));
+          (c.loop-bid.walks.items ++ option_map walk_at c.offer_of-offer.result.departure ∷ []) c.push.new.self.items
+          c.exclude_taken.new.table (take c.loop-bid.excluded.len (c.exclude_taken.new.table ++ drop (length c.exclude_taken.new.table) c.loop-bid.excluded.items))
+          (to_z w64 c.loop-bid.revenue-bits +ℤ c.offer_of-offer.result.worth) (to_z w64 (of_z w64 (to_z w64 c.loop-bid.revenue-bits +ℤ to_z w64 (of_z w64 c.offer_of-offer.result.worth))))
+          (to_z w64 c.loop-bid.bound-bits +ℤ c.offer_of-offer.result.greatest) (to_z w64 (of_z w64 (to_z w64 c.loop-bid.bound-bits +ℤ to_z w64 (of_z w64 c.offer_of-offer.result.greatest))))
+          bids walks table (sym revenue.0) (sym bound.0)
+          (planned_more c.args.net.now c.type_count-proper.ensures.proper c.requires.one c.bid-item.result (take c.loop-bid.bid-index c.args.bids.now) c.loop-bid.walks.items
+          c.loop-bid.excluded.items c.exclude_taken.new.table (to_z w64 c.loop-bid.revenue-bits) (to_z w64 c.loop-bid.bound-bits) c.offer_of-offer.result
+          c.loop-bid.invariant.so (search rules)
+          (λ tells. c.exclude_taken.ensures (uses_of (take c.loop-bid.bid-index c.args.bids.now) c.loop-bid.walks.items)
+          (subst (TellsExcluded c.args.net.now (uses_of (take c.loop-bid.bid-index c.args.bids.now) c.loop-bid.walks.items)) (sym c.deref_mut.ensures.value) tells)));
       revenue_within = subst (IsBetween (pos 0) (pos (1000000000 * (c.loop-bid.bid-index + 1)))) (sym revenue.0) revenue.1;
       bound_within = subst (IsBetween (pos 0) (pos (1000000000 * (c.loop-bid.bid-index + 1)))) (sym bound.0) bound.1;
     }

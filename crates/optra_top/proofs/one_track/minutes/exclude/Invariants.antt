@@ -9,7 +9,7 @@ use Rattle.optra_top.proofs.one_track.minutes.exclude.Given as goal
 pub record IsDoneUpTo (net : Net) (placed : TrackUse) (old : List Bool) (done : ℕ) (new : List Bool) : Type 0 where
   pub here : (kind : TypeId) (minute : ℕ) → kind.0 < done → MayUse net (track_id 0) kind → minute < 2880
       → slice_index_or new (place_in_table kind minute) false
-          ≡ (slice_index_or old (place_in_table kind minute) false || excludes net placed (use_at kind minute))
+      ≡ (slice_index_or old (place_in_table kind minute) false || excludes net placed (use_at kind minute))
   pub others : (kind : TypeId) (minute : ℕ) → done ≤ kind.0 → minute < 2880
       → slice_index_or new (place_in_table kind minute) false ≡ slice_index_or old (place_in_table kind minute) false
 

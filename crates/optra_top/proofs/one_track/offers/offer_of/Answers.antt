@@ -26,13 +26,12 @@ loop-minute-preserved c =
     let fits : FitsSigned w64 c.worth_at-worth.result = search rules in
     let worth : to_z w64 (of_z w64 c.worth_at-worth.result) ≡ value c.loop-minute.minute = to_z-of_z w64 c.worth_at-worth.result fits ∙ c.worth_at-worth.ensures in
     let at : c.from.result ≡ c.loop-minute.minute = c.from.ensures in
-    let gives = c.with_minute-offer.ensures in
-    (
+    let gives = c.with_minute-offer.ensures in (
       offer_more c.departures-first.result.0 value excluded c.loop-minute.minute offer c.with_minute-offer.result c.loop-minute.auto.minute c.loop-minute.invariant.0
-      (gives.greatest ∙ (λ i. int_max offer.greatest (worth i)))
-      (gives.worth ∙ (λ i. cond (int_lt offer.worth (worth i) && not (excluded (at i))) (worth i) offer.worth))
-      (gives.departure ∙ (λ i. cond (int_lt offer.worth (worth i) && not (excluded (at i))) (Some c.loop-minute.minute) offer.departure)),
-      grind arith
+          (gives.greatest ∙ (λ i. int_max offer.greatest (worth i)))
+          (gives.worth ∙ (λ i. cond (int_lt offer.worth (worth i) && not (excluded (at i))) (worth i) offer.worth))
+          (gives.departure ∙ (λ i. cond (int_lt offer.worth (worth i) && not (excluded (at i))) (Some c.loop-minute.minute) offer.departure)),
+      grind arith,
     )
 
 pub returns-clause-best : goal.returns-clause-best
