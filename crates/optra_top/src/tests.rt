@@ -83,7 +83,7 @@ const PLAIN: Case = Case {
     err: "",
 };
 
-const CASES: [Case; 32] = [
+static CASES: [Case; 32] = [
     Case {
         name: "one bid gets its best minute",
         out: "status,optimal\nrevenue,1000\nbound,1000\nnodes,1\ntrain,1,b1,ann,1000\nleg,ab,A,2,B,12,finish,0\n",
