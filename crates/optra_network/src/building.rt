@@ -1,17 +1,17 @@
 //! Makes a network step by step.
 ghost use Rattle.std.specs.Prelude.{◌≡◌, ℕ, ◌+◌, ◌<◌, ◌≤◌, ◌↔◌, ◌≢◌, [], ◌∷◌, ◌++◌, length, OnOk, OnErr, IfOk, IfErr, IsTrue, Some, None, true, map};
 ghost use Rattle.optra_network.specs.Names.{is_name};
-ghost use Rattle.optra_network.specs.Headways.{type_id, lesser, hmin_or_0, headway_before};
-ghost use Rattle.optra_network.specs.Tables.{least_table, HoldsOut, has_headway};
-ghost use Rattle.optra_network.specs.Net.{IsProper, track_id, empty_net, HasAllHeadways, out_tracks_of};
+ghost use Rattle.optra_network.specs.Net.{empty_net, HasAllHeadways};
 ghost use Rattle.optra_network.specs.Refusals.{IsFinishFault, is_from_to, are_minutes, FollowsRule, station_refusal, type_refusal, track_refusal, after_track, running_refusal, after_running, headway_refusal, after_headway};
 
-use crate::finished::{Network, Tables};
+use crate::finished::Network;
 use crate::names::Names;
 use crate::{NetFault, NetRefusal, NoMemory, StationId, Times, Track, TrackId, TypeId};
 use indexmap::IndexMap;
 use std::alloc::Global;
 use std::marker::Model;
+
+mod finishing;
 
 /// A network in the making. Each call names what is there already. A refused call, or one that finds no memory, leaves
 /// the builder as it was.
@@ -196,12 +196,12 @@ impl Builder {
         ensures complete { OnOk result (HasAllHeadways self) }
         ensures err { IfErr result (IsFinishFault self) }
     {
-        if !self.has_all_headways() {
+        let alloc = *self.tracks.allocator();
+        let rows = self.rows(alloc)?;
+        if !self.has_all_headways(&rows) {
             return Err(NetFault::Refused(NetRefusal::MissingHeadway));
         }
-        let alloc = *self.tracks.allocator();
-        let out = out_lists(alloc, &self.tracks, self.stations.len())?;
-        let tables = self.tables(alloc)?;
+        let tables = self.tables(alloc, rows)?;
         let Builder {
             stations,
             track_names,
@@ -217,141 +217,9 @@ impl Builder {
             types,
             running,
             headways,
-            out,
             tables,
         })
     }
-
-    fn has_all_headways(&self) -> bool
-        ensures { IsTrue result ↔ HasAllHeadways self.now }
-    {
-        for t in 0..self.tracks.len() {
-            if !self.has_headways_on(t as u16) {
-                return false;
-            }
-        }
-        true
-    }
-
-    fn has_headways_on(&self, t: u16) -> bool
-        ensures { IsTrue result ↔ ((a b : ℕ) → a < length self.now.types → b < length self.now.types → has_headway self.now t a b ≡ true) }
-    {
-        for a in 0..self.types.len() {
-            if !self.has_headways_after(t, a as u16) {
-                return false;
-            }
-        }
-        true
-    }
-
-    fn has_headways_after(&self, t: u16, a: u16) -> bool
-        ensures { IsTrue result ↔ ((b : ℕ) → b < length self.now.types → has_headway self.now t a b ≡ true) }
-    {
-        for b in 0..self.types.len() {
-            if !self.has_headway(t, a, b as u16) {
-                return false;
-            }
-        }
-        true
-    }
-
-    fn has_headway(&self, t: u16, a: u16, b: u16) -> bool
-        ensures { result ≡ has_headway self.now t a b }
-    {
-        if !self.running.contains_key(&(t, a)) {
-            return true;
-        }
-        if !self.running.contains_key(&(t, b)) {
-            return true;
-        }
-        self.headways.contains_key(&(t, a, b))
-    }
-}
-
-impl Builder {
-    ghost use Rattle.optra_network.specs.Tables.{AreTables};
-
-    /// The least headway after a type, over the types that may use the track; 0 where it may not itself.
-    fn least(&self, track: u16, kind: u16) -> u16
-        ensures { result ≡ hmin_or_0 self.now (track_id track) (type_id kind) }
-    {
-        if !self.running.contains_key(&(track, kind)) {
-            return 0;
-        }
-        let mut least = None;
-        for other in 0..self.types.len() {
-            least = lesser(least, self.headway_before(track, kind, other as u16));
-        }
-        least.unwrap_or(0)
-    }
-
-    fn headway_before(&self, track: u16, kind: u16, other: u16) -> Option<u16>
-        ensures { result ≡ headway_before self.now (track_id track) (type_id kind) (type_id other) }
-    {
-        if self.running.contains_key(&(track, other)) {
-            self.headways.get(&(track, kind, other)).copied()
-        } else {
-            None
-        }
-    }
-
-    fn tables(&self, alloc: Global) -> Result<Tables, NoMemory>
-        requires proper { IsProper self.now }
-        ensures { IfOk result (AreTables self.now) }
-    {
-        let leasts = self.leasts(alloc)?;
-        Ok(Tables { leasts })
-    }
-
-    fn leasts(&self, alloc: Global) -> Result<Vec<u16>, NoMemory>
-        ensures { IfOk result (λ v. v.items ≡ least_table self.now) }
-    {
-        let mut leasts = Vec::new(alloc);
-        for n in 0..self.tracks.len() * 16 {
-            leasts.push(self.least((n / 16) as u16, (n % 16) as u16))?;
-        }
-        Ok(leasts)
-    }
-}
-
-fn lesser(a: Option<u16>, b: Option<u16>) -> Option<u16>
-    ensures { result ≡ lesser a b }
-{
-    match (a, b) {
-        (Some(a), Some(b)) => Some(a.min(b)),
-        (Some(a), None) => Some(a),
-        (None, b) => b,
-    }
-}
-
-/// The tracks that leave each station.
-fn out_lists(
-    alloc: Global,
-    tracks: &[Track],
-    stations: usize,
-) -> Result<Vec<Vec<TrackId>>, NoMemory>
-    requires many { length tracks.now ≤ 1000 }
-    requires few { stations ≤ 300 }
-    ensures { IfOk result (λ out. HoldsOut tracks.now stations (map (λ v. v.items) out.items)) }
-{
-    let mut out = Vec::new(alloc);
-    for s in 0..stations {
-        out.push(out_of(alloc, tracks, StationId(s as u16))?)?;
-    }
-    Ok(out)
-}
-
-fn out_of(alloc: Global, tracks: &[Track], station: StationId) -> Result<Vec<TrackId>, NoMemory>
-    requires { length tracks.now ≤ 1000 }
-    ensures { IfOk result (λ out. out.items ≡ out_tracks_of tracks.now station) }
-{
-    let mut out = Vec::new(alloc);
-    for i in 0..tracks.len() {
-        if tracks[i].tail.0 == station.0 {
-            out.push(TrackId(i as u16))?;
-        }
-    }
-    Ok(out)
 }
 
 /// Whether each number is 1 to 240.

@@ -6,6 +6,7 @@ ghost use Rattle.optra_network.specs.Net.{times_of, headway_of, minutes_by, out_
 ghost use Rattle.optra_network.specs.Refusals.{station_named, track_named, type_named};
 ghost use Rattle.optra_network.specs.Conflict.{AreCompatible, KeepsHeadway};
 
+use crate::dense::{Tables, above_zero};
 use crate::names::Names;
 use crate::{StationId, Times, Track, TrackId, TrackUse, TypeId};
 use indexmap::IndexMap;
@@ -20,15 +21,8 @@ pub struct Network {
     pub(crate) types: Names,
     pub(crate) running: IndexMap<(u16, u16), Times>,
     pub(crate) headways: IndexMap<(u16, u16, u16), u16>,
-    pub(crate) out: Vec<Vec<TrackId>>,
+    /// All that is held ready for look-ups. The invariant ties it to the other fields.
     pub(crate) tables: Tables,
-}
-
-/// What is held ready of the headways.
-#[derive(Drop)]
-pub(crate) struct Tables {
-    /// By track and type, sixteen a track.
-    pub(crate) leasts: Vec<u16>,
 }
 
 impl Model for Network {
@@ -49,13 +43,8 @@ impl Network {
     pub fn run(&self, track: TrackId, kind: TypeId, from_halt: bool, to_halt: bool) -> Option<u16>
         ensures { result ≡ option_map (minutes_by from_halt to_halt) (times_of self.now track kind) }
     {
-        let times = self.running.get(&(track.0, kind.0))?;
-        Some(match (from_halt, to_halt) {
-            (false, false) => times.pass_pass,
-            (false, true) => times.pass_halt,
-            (true, false) => times.halt_pass,
-            (true, true) => times.halt_halt,
-        })
+        let times = self.tables.rows.times(track, kind);
+        above_zero(minutes(times, from_halt, to_halt))
     }
 
     /// The headway in minutes, 1 to 120, that a train of the second type keeps after one of the first type on the
@@ -63,7 +52,7 @@ impl Network {
     pub fn headway(&self, track: TrackId, first: TypeId, second: TypeId) -> Option<u16>
         ensures { result ≡ headway_of self.now track first second }
     {
-        self.headways.get(&(track.0, first.0, second.0)).copied()
+        above_zero(self.tables.rows.headway(track, first, second))
     }
 
     /// The least headway after the type in minutes, 1 to 120, over the types that may use the track. None exactly
@@ -71,18 +60,7 @@ impl Network {
     pub fn hmin(&self, track: TrackId, kind: TypeId) -> Option<u16>
         ensures { result ≡ hmin_of self.now track kind }
     {
-        if !self.running.contains_key(&(track.0, kind.0)) {
-            return None;
-        }
-        self.least(track, kind)
-    }
-
-    fn least(&self, track: TrackId, kind: TypeId) -> Option<u16>
-        requires { MayUse self.now track kind }
-        ensures { result ≡ hmin_of self.now track kind }
-    {
-        let least = self.tables.leasts[track.0 as usize * 16 + kind.0 as usize];
-        if least == 0 { None } else { Some(least) }
+        above_zero(self.tables.least(track, kind))
     }
 
     /// The station that the track leads from.
@@ -106,7 +84,7 @@ impl Network {
         requires { IsStation self.now station }
         ensures { result.now ≡ out_tracks_of self.now.tracks station }
     {
-        &self.out[station.0 as usize]
+        self.tables.out.of(station)
     }
 
     /// How many stations there are, at most 300.
@@ -202,5 +180,17 @@ fn keeps_headway(net: &Network, a: TrackUse, b: TrackUse) -> bool
     match net.headway(a.track, a.kind, b.kind) {
         Some(gap) => u32::from(a.time) + u32::from(gap) <= u32::from(b.time),
         None => false,
+    }
+}
+
+/// The minutes by the modes at the two ends.
+fn minutes(times: Times, from_halt: bool, to_halt: bool) -> u16
+    ensures { result ≡ minutes_by from_halt to_halt times }
+{
+    match (from_halt, to_halt) {
+        (false, false) => times.pass_pass,
+        (false, true) => times.pass_halt,
+        (true, false) => times.halt_pass,
+        (true, true) => times.halt_halt,
     }
 }

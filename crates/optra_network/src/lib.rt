@@ -5,6 +5,7 @@
 #![tactic(auto)]
 
 mod building;
+mod dense;
 mod finished;
 mod names;
 

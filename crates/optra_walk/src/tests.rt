@@ -25,28 +25,56 @@ const SLOW: TypeId = TypeId(0);
 
 const FAST: TypeId = TypeId(1);
 
-/// Three stations, two of which a track joins both ways, and a headway of 4 one way and 1 the other.
-fn network(alloc: Global) -> Result<Network, Fail> {
-    let mut net = Builder::new(alloc)?;
+fn unnamed() -> Fail {
+    Fail::from(NetFault::Refused(NetRefusal::UnknownName))
+}
+
+fn station(net: &mut Builder, name: &str) -> Result<(), Fail> {
+    if !is_name(name) {
+        return Err(unnamed());
+    }
+    net.station(name)?;
+    Ok(())
+}
+
+fn track(net: &mut Builder, name: &str, from: &str, to: &str) -> Result<(), Fail> {
+    if !is_name(name) {
+        return Err(unnamed());
+    }
+    net.track(name, from, to)?;
+    Ok(())
+}
+
+fn train_type(net: &mut Builder, name: &str) -> Result<(), Fail> {
+    if !is_name(name) {
+        return Err(unnamed());
+    }
+    net.train_type(name)?;
+    Ok(())
+}
+
+fn add_names(net: &mut Builder) -> Result<(), Fail> {
     for name in ["A", "B", "C"] {
-        if is_name(name) {
-            net.station(name)?;
-        }
+        station(net, name)?;
     }
     for (name, from, to) in [("ab", "A", "B"), ("bc", "B", "C"), ("ba", "B", "A")] {
-        if is_name(name) {
-            net.track(name, from, to)?;
-        }
+        track(net, name, from, to)?;
     }
     for name in ["slow", "fast"] {
-        if is_name(name) {
-            net.train_type(name)?;
-        }
+        train_type(net, name)?;
     }
-    net.running("ab", "slow", [10, 11, 12, 14])?;
-    net.running("bc", "slow", [20, 21, 22, 24])?;
-    net.running("ba", "slow", [5, 6, 7, 8])?;
-    net.running("ab", "fast", [1, 1, 1, 1])?;
+    Ok(())
+}
+
+fn add_minutes(net: &mut Builder) -> Result<(), Fail> {
+    for (track, kind, times) in [
+        ("ab", "slow", [10, 11, 12, 14]),
+        ("bc", "slow", [20, 21, 22, 24]),
+        ("ba", "slow", [5, 6, 7, 8]),
+        ("ab", "fast", [1, 1, 1, 1]),
+    ] {
+        net.running(track, kind, times)?;
+    }
     for (track, first, second, minutes) in [
         ("ab", "slow", "slow", 30),
         ("ab", "slow", "fast", 4),
@@ -57,9 +85,26 @@ fn network(alloc: Global) -> Result<Network, Fail> {
     ] {
         net.headway(track, first, second, minutes)?;
     }
+    Ok(())
+}
+
+/// Three stations, two of which tracks join both ways, and a headway of 4 one way and 1 the other.
+fn network(alloc: Global) -> Result<Network, Fail> {
+    let mut net = Builder::new(alloc)?;
+    add_names(&mut net)?;
+    add_minutes(&mut net)?;
     Ok(net.finish()?)
 }
 
+fn name(alloc: Global, text: &str) -> Result<Name, Fail> {
+    match Name::new(alloc, text)? {
+        Some(name) => Ok(name),
+        None => Err(unnamed()),
+    }
+}
+
+/// A bid from A with base 1000; the rates are 10 and 20 for an early and a late departure, 30 and 40 for an early and a
+/// late arrival, 1 for travel and 7 for waits of at most 5 minutes.
 fn bid(
     alloc: Global,
     destination: StationId,
@@ -77,14 +122,16 @@ fn bid(
         rates: [10, 20, 30, 40, 1, 7],
         wait_max: 5,
     };
-    let (Some(name), Some(bidder)) = (Name::new(alloc, "b1")?, Name::new(alloc, "ann")?) else {
-        return Err(Fail::from(NetFault::Refused(NetRefusal::UnknownName)));
-    };
-    let mut bid = Bid::checked(alloc, name, bidder, &raw)?;
+    let mut bid = Bid::checked(alloc, name(alloc, "b1")?, name(alloc, "ann")?, &raw)?;
     for stop in stops {
         bid.add_stop(stop)?;
     }
     Ok(bid)
+}
+
+/// A bid from A to C whose ideal times are 0 and 40.
+fn through(alloc: Global, stops: &[RawStop]) -> Result<Bid, Fail> {
+    bid(alloc, C, [0, 0, 10], [0, 40, 100], stops)
 }
 
 fn stop(station: StationId, from: u64, to: u64) -> RawStop {
@@ -114,19 +161,21 @@ fn worth(net: &Network, bid: &Bid, legs: &[Leg]) -> Option<Cents> {
     }
 }
 
-/// Whether the uses are in conflict, where both types may use their tracks.
-fn in_conflict(net: &Network, a: TrackUse, b: TrackUse) -> Option<bool> {
-    net.run(a.track, a.kind, true, true)?;
-    net.run(b.track, b.kind, true, true)?;
-    Some(conflict(net, a, b))
-}
-
-fn entry(kind: TypeId, time: Minute) -> TrackUse {
-    TrackUse {
+/// Whether the slow and the fast type are in conflict on the track from A to B.
+fn in_conflict(net: &Network, slow: Minute, kind: TypeId, time: Minute) -> Option<bool> {
+    net.run(AB, SLOW, true, true)?;
+    net.run(AB, kind, true, true)?;
+    let first = TrackUse {
+        track: AB,
+        kind: SLOW,
+        time: slow,
+    };
+    let second = TrackUse {
         track: AB,
         kind,
         time,
-    }
+    };
+    Some(conflict(net, first, second))
 }
 
 #[test]
@@ -144,105 +193,67 @@ fn a_leg_runs_by_the_modes_at_its_ends(rt: HostRuntime) -> Result<(), Fail> {
         assert_eq!(rt; arrival(&net, kind, leg), arrives);
         assert_eq!(rt; next_depart(&net, kind, leg), goes_on);
     }
-    assert_eq!(rt; arrival(&net, FAST, leg(BC, 0, true, Action::Finish)), None);
     Ok(())
 }
 
 #[test]
 fn one_leg_keeps_both_windows_and_pays_by_its_times(rt: HostRuntime) -> Result<(), Fail> {
     let net = network(rt.alloc())?;
-    for (depart, arrive, minute, want) in [
-        ([2, 5, 8], [0, 20, 2879], 1, None),
-        ([2, 5, 8], [0, 20, 2879], 2, Some(1000 - 30 - 120 - 14)),
-        ([2, 5, 8], [0, 20, 2879], 5, Some(1000 - 30 - 14)),
-        ([2, 5, 8], [0, 20, 2879], 6, Some(1000 - 20 - 14)),
-        ([2, 5, 8], [0, 20, 2879], 8, Some(1000 - 60 - 80 - 14)),
-        ([2, 5, 8], [0, 20, 2879], 9, None),
-        ([0, 5, 20], [16, 20, 23], 1, None),
-        ([0, 5, 20], [16, 20, 23], 2, Some(1000 - 30 - 120 - 14)),
-        ([0, 5, 20], [16, 20, 23], 9, Some(1000 - 80 - 120 - 14)),
-        ([0, 5, 20], [16, 20, 23], 10, None),
+    let by_departure = bid(rt.alloc(), B, [2, 5, 8], [0, 20, 2879], &[])?;
+    for (minute, want) in [
+        (1, None),
+        (2, Some(836)), // 1000 less 3 minutes early, 4 minutes early and 14 under way
+        (5, Some(956)),
+        (6, Some(966)),
+        (8, Some(846)), // 1000 less 3 minutes late, 2 minutes late and 14 under way
+        (9, None),
     ] {
-        let bid = bid(rt.alloc(), B, depart, arrive, &[])?;
         let legs = [leg(AB, minute, true, Action::Finish)];
-        assert_eq!(rt; worth(&net, &bid, &legs), want, "at {minute}");
+        assert_eq!(rt; worth(&net, &by_departure, &legs), want);
+    }
+    let by_arrival = bid(rt.alloc(), B, [0, 5, 20], [16, 20, 23], &[])?;
+    for (minute, want) in [(1, None), (2, Some(836)), (9, Some(786)), (10, None)] {
+        let legs = [leg(AB, minute, true, Action::Finish)];
+        assert_eq!(rt; worth(&net, &by_arrival, &legs), want);
     }
     Ok(())
 }
 
 #[test]
-fn two_legs_pass_wait_and_finish(rt: HostRuntime) -> Result<(), Fail> {
+fn two_legs_pass_wait_or_halt_on_the_way(rt: HostRuntime) -> Result<(), Fail> {
     let net = network(rt.alloc())?;
-    let bid = bid(rt.alloc(), C, [0, 0, 10], [0, 40, 100], &[])?;
-    for (from_halt, action, then, then_from_halt, last, want) in [
-        (
-            true,
-            Action::Pass,
-            12,
-            false,
-            Action::Finish,
-            Some(1000 - 210 - 33),
-        ),
-        (true, Action::Pass, 12, true, Action::Finish, None),
-        (true, Action::Pass, 13, false, Action::Finish, None),
-        (false, Action::Pass, 10, false, Action::Finish, None),
-        (true, Action::Wait(0), 14, true, Action::Finish, None),
-        (
-            true,
-            Action::Wait(1),
-            15,
-            true,
-            Action::Finish,
-            Some(1000 - 30 - 39 - 7),
-        ),
-        (
-            true,
-            Action::Wait(5),
-            19,
-            true,
-            Action::Finish,
-            Some(1000 - 120 - 43 - 35),
-        ),
-        (true, Action::Wait(5), 19, false, Action::Finish, None),
-        (true, Action::Wait(6), 20, true, Action::Finish, None),
-        (true, Action::Halt(2), 16, true, Action::Finish, None),
-        (true, Action::Finish, 14, true, Action::Finish, None),
-        (true, Action::Pass, 12, false, Action::Wait(1), None),
+    let direct = through(rt.alloc(), &[])?;
+    let stopping = through(rt.alloc(), &[stop(B, 14, 15)])?;
+    for (depart, from_halt, action, then, then_from_halt, want_direct, want_stopping) in [
+        (0, true, Action::Pass, 12, false, Some(757), None), // arrives at 33
+        (0, true, Action::Pass, 12, true, None, None),
+        (0, true, Action::Pass, 13, false, None, None),
+        (0, false, Action::Pass, 10, false, None, None),
+        (0, true, Action::Wait(0), 14, true, None, None),
+        (0, true, Action::Wait(1), 15, true, Some(924), None), // arrives at 39
+        (0, true, Action::Wait(5), 19, true, Some(802), None), // arrives at 43
+        (0, true, Action::Wait(5), 19, false, None, None),
+        (0, true, Action::Wait(6), 20, true, None, None),
+        (0, true, Action::Finish, 14, true, None, None),
+        (0, true, Action::Halt(1), 15, true, None, None),
+        (0, true, Action::Halt(2), 16, true, None, Some(960)), // arrives at 40
+        (0, true, Action::Halt(4), 18, true, None, Some(878)), // arrives at 42
+        (0, true, Action::Halt(5), 19, true, None, None),
+        (1, true, Action::Halt(2), 17, true, None, Some(900)), // arrives at 41
+        (2, true, Action::Halt(2), 18, true, None, None),
     ] {
         let legs = [
-            leg(AB, 0, from_halt, action),
-            leg(BC, then, then_from_halt, last),
+            leg(AB, depart, from_halt, action),
+            leg(BC, then, then_from_halt, Action::Finish),
         ];
-        assert_eq!(rt; worth(&net, &bid, &legs), want, "then {then}");
+        assert_eq!(rt; worth(&net, &direct, &legs), want_direct);
+        assert_eq!(rt; worth(&net, &stopping, &legs), want_stopping);
     }
-    assert_eq!(rt; worth(&net, &bid, &[]), None);
+    assert_eq!(rt; worth(&net, &direct, &[]), None);
     assert_eq!(rt;
-        worth(&net, &bid, &[leg(AB, 0, true, Action::Finish)]),
+        worth(&net, &direct, &[leg(AB, 0, true, Action::Pass)]),
         None
     );
-    Ok(())
-}
-
-#[test]
-fn a_halt_meets_its_stop(rt: HostRuntime) -> Result<(), Fail> {
-    let net = network(rt.alloc())?;
-    let bid = bid(rt.alloc(), C, [0, 0, 10], [0, 40, 100], &[stop(B, 14, 15)])?;
-    for (depart, action, then, from_halt, want) in [
-        (0, Action::Halt(1), 15, true, None),
-        (0, Action::Halt(2), 16, true, Some(1000 - 40)),
-        (0, Action::Halt(4), 18, true, Some(1000 - 80 - 42)),
-        (0, Action::Halt(5), 19, true, None),
-        (1, Action::Halt(2), 17, true, Some(1000 - 20 - 40 - 40)),
-        (2, Action::Halt(2), 18, true, None),
-        (0, Action::Wait(2), 16, true, None),
-        (0, Action::Pass, 12, false, None),
-    ] {
-        let legs = [
-            leg(AB, depart, true, action),
-            leg(BC, then, from_halt, Action::Finish),
-        ];
-        assert_eq!(rt; worth(&net, &bid, &legs), want, "at {depart}, then {then}");
-    }
     Ok(())
 }
 
@@ -257,69 +268,18 @@ fn stops_are_met_in_order_and_a_station_may_be_passed_again(rt: HostRuntime) -> 
     ];
     let first = stop(B, 0, 100);
     let second = stop(A, 0, 100);
-    let in_order = bid(rt.alloc(), C, [0, 0, 10], [0, 40, 100], &[first, second])?;
-    assert_eq!(rt; worth(&net, &in_order, &legs), Some(1000 - 760 - 59));
-    let turned = bid(rt.alloc(), C, [0, 0, 10], [0, 40, 100], &[second, first])?;
-    assert_eq!(rt; worth(&net, &turned, &legs), None);
-    let one_more = bid(
-        rt.alloc(),
-        C,
-        [0, 0, 10],
-        [0, 40, 100],
-        &[first, second, first],
-    )?;
-    assert_eq!(rt; worth(&net, &one_more, &legs), None);
-    // The walk is one of its bid, and yet two of its own entries are in conflict.
+    // It arrives at 59, 19 minutes late.
     assert_eq!(rt;
-        in_conflict(&net, entry(SLOW, 0), entry(SLOW, 26)),
-        Some(true)
+        worth(&net, &through(rt.alloc(), &[first, second])?, &legs),
+        Some(181)
     );
-    Ok(())
-}
-
-#[test]
-fn walks_are_ordered_by_departure_then_leg_by_leg(rt: HostRuntime) -> Result<(), Fail> {
-    let early = [leg(AB, 1, true, Action::Finish)];
-    let pass = [
-        leg(AB, 2, true, Action::Pass),
-        leg(BC, 14, false, Action::Finish),
-    ];
-    let halt = [
-        leg(AB, 2, true, Action::Halt(30)),
-        leg(BC, 46, true, Action::Finish),
-    ];
-    let short = [
-        leg(AB, 2, true, Action::Wait(1)),
-        leg(BC, 17, true, Action::Finish),
-    ];
-    let long = [
-        leg(AB, 2, true, Action::Wait(2)),
-        leg(BC, 18, true, Action::Finish),
-    ];
-    let back = [
-        leg(AB, 2, true, Action::Wait(2)),
-        leg(BA, 18, true, Action::Finish),
-    ];
-    let finish = [leg(AB, 2, true, Action::Finish)];
-    let other = [leg(BC, 2, true, Action::Pass)];
-    let walks = [
-        &early[..],
-        &pass[..],
-        &halt[..],
-        &short[..],
-        &long[..],
-        &back[..],
-        &finish[..],
-        &other[..],
-    ];
-    for (i, a) in walks.iter().enumerate() {
-        for (j, b) in walks.iter().enumerate() {
-            if !a.is_empty() && !b.is_empty() {
-                assert_eq!(rt; walk_order(a, b), i.cmp(&j), "{i} and {j}");
-            }
-        }
-    }
-    assert_eq!(rt; walk_order(&long, &long), Ordering::Equal);
+    assert_eq!(rt;
+        worth(&net, &through(rt.alloc(), &[second, first])?, &legs),
+        None
+    );
+    assert_eq!(rt; worth(&net, &through(rt.alloc(), &[first])?, &legs), None);
+    // The walk is one of its bid, and yet its two entries of one track are in conflict.
+    assert_eq!(rt; in_conflict(&net, 0, SLOW, 26), Some(true));
     Ok(())
 }
 
@@ -335,9 +295,33 @@ fn headways_may_differ_both_ways(rt: HostRuntime) -> Result<(), Fail> {
         (13, 10, false),
         (14, 10, false),
     ] {
-        let (slow, fast) = (entry(SLOW, slow), entry(FAST, fast));
-        assert_eq!(rt; in_conflict(&net, slow, fast), Some(want));
-        assert_eq!(rt; in_conflict(&net, fast, slow), Some(want));
+        assert_eq!(rt; in_conflict(&net, slow, FAST, fast), Some(want));
     }
     Ok(())
+}
+
+#[test]
+fn walks_are_ordered_by_departure_then_track_then_action(rt: HostRuntime) {
+    for (depart, track, action, want) in [
+        (2, AB, Action::Halt(30), Ordering::Equal),
+        (1, BC, Action::Finish, Ordering::Greater),
+        (3, AB, Action::Pass, Ordering::Less),
+        (2, AB, Action::Pass, Ordering::Greater),
+        (2, AB, Action::Halt(29), Ordering::Greater),
+        (2, AB, Action::Halt(31), Ordering::Less),
+        (2, AB, Action::Wait(1), Ordering::Less),
+        (2, AB, Action::Finish, Ordering::Less),
+        (2, BC, Action::Pass, Ordering::Less),
+    ] {
+        let a = [
+            leg(AB, 2, true, Action::Halt(30)),
+            leg(BC, 46, true, Action::Finish),
+        ];
+        let b = [
+            leg(track, depart, true, action),
+            leg(BC, 46, true, Action::Finish),
+        ];
+        assert_eq!(rt; walk_order(&a, &b), want);
+        assert_eq!(rt; walk_order(&b, &a), want.reverse());
+    }
 }

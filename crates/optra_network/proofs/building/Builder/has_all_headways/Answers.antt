@@ -5,12 +5,12 @@ use Rattle.optra_network.proofs.building.Builder.has_all_headways.Goals as goal
 
 pub returns-then-not-has_headways_on : goal.returns-then-not-has_headways_on
 returns-then-not-has_headways_on c =
-    ((λ t. absurd (true≢false (sym t))), (λ all. c.if-not-has_headways_on.ensures.1 (λ a b _ _. tests_from-HasAllHeadways c.args.self.now all c.loop-t.t a b)))
+    ((λ t. absurd (true≢false (sym t))), (λ all. c.if-not-has_headways_on.ensures.1 (λ a b _ _. tests_from-HasAllHeadways c.args.self.now all c.loop-track.track a b)))
 
 pub returns : goal.returns
 returns c =
     let view = c.self.view_is in (
       (λ _. HasAllHeadways-from_tests c.args.self.now (subst IsBuilt view c.self.invariant)
-          (λ t a b tl. c.loop-t.invariant t a b (omega (arith, tl, ap (λ (n : Net). length n.tracks) view)))),
+          (λ t a b tl. c.loop-track.invariant t a b (omega (arith, tl, ap (λ (n : Net). length n.tracks) view)))),
       (λ _. search rules),
     )

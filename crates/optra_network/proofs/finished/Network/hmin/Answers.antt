@@ -1,0 +1,13 @@
+use Rattle.std.proofs.Common.{ap, ◌∙◌}
+use Rattle.optra_network.specs.Net.{Net}
+use Rattle.optra_network.specs.Headways.{hmin_of}
+use Rattle.optra_network.specs.NetworkParts.{net_of}
+use Rattle.optra_network.proofs.ReadLemmas.{least_read, hmin_is}
+use Rattle.optra_network.proofs.finished.Network.hmin.Goals as goal
+
+pub returns : goal.returns
+returns c =
+    c.above_zero.ensures
+    ∙ hmin_is (net_of c.self.inside) c.self.invariant.proper c.args.track c.args.kind c.least.result
+    (c.least.ensures ∙ least_read (net_of c.self.inside) c.self.invariant.proper.built c.self.inside.tables.leasts.items c.self.invariant.tables.leasts c.args.track.0 c.args.kind.0)
+    ∙ ap (λ (n : Net). hmin_of n c.args.track c.args.kind) c.self.view_is

@@ -1,0 +1,272 @@
+-- What each accepted record of a network's table adds, and that there are never too many.
+use Rattle.std.proofs.Common.{◌≡◌, ◌+◌, ◌-◌, ◌*◌, ◌/◌, ◌%◌, ◌<◌, ◌≤◌, ◌||◌, ◌++◌, ℕ, bytes_eq, Bool, true, false, cond, not, List, [], ◌∷◌, length, Option, Some, None, IfSome, is_none, is_some, nat_le, refl, sym, ap, ◌∙◌, arith, subst, unwrap_or, length-append}
+use Rattle.std.proofs.lemmas.Bool.{leb-false}
+use Rattle.std.proofs.lemmas.List.Quantifiers.{position-Some}
+use Rattle.std.proofs.lemmas.Nat.{div-mul-add, mod-mul-add}
+use Rattle.std.specs.Map.{lookup}
+use Rattle.std.specs.Option.{option_and_then, option_map}
+use Rattle.std.specs.Prelude.{Result, Ok, Err, if◌then◌else◌}
+use Rattle.optra_network.specs.Names.{place_of}
+use Rattle.optra_network.specs.Net.{Net, headway_of, same_pair, same_triple, times_of}
+use Rattle.optra_network.specs.Refusals.{after_headway, after_running, after_track, first_of, headway_refusal, running_refusal, station_refusal, times_from, track_refusal, type_refusal}
+use Rattle.optra_network.specs.declared.NetRefusal.{NetRefusal}
+use Rattle.optra_network.specs.declared.Times.{Times}
+use Rattle.optra_network.specs.declared.Track.{Track}
+use Rattle.optra_network.specs.declared.TrackId.{TrackId}
+use Rattle.optra_network.specs.declared.TypeId.{TypeId}
+use Rattle.optra_network.proofs.NetLemmas.{pair_self, triple_self}
+use Rattle.optra_records.specs.Reading.{Record}
+use Rattle.optra_tables.specs.Fields.{four_at, name_at, number_at, shaped}
+use Rattle.optra_tables.specs.Networks.{HasFew, headway_row, running_row, station_row, track_row, type_row}
+use Rattle.optra_tables.specs.Outcomes.{◌>>=◌, fault, net_outcome}
+use Rattle.optra_tables.specs.declared.Table.{Table}
+use Rattle.optra_tables.specs.declared.Table.TheVariants.{Headways, Running, Stations, Tracks, Types}
+use Rattle.optra_tables.specs.declared.TableFault.{TableFault}
+use Rattle.optra_tables.proofs.FreeLemmas.{free_below, free_less, free_within, lookup_added, lookup_stays}
+
+-- ---- what an outcome without a fault says
+
+-- a value that was read from a value that was read
+pub from_bind : {A B : Type 0} (r : Result A TableFault) (f : A → Result B TableFault) (y : B) → (r >>= f) ≡ Ok y → (x : A) × (r ≡ Ok x) × (f x ≡ Ok y)
+from_bind (Ok x) f y e = (x, refl, e)
+from_bind (Err w) f y e = absurd (cc e)
+
+pub from_outcome : {A : Type 0} (table : Table) (row : ℕ) (rule : Option NetRefusal) (after new : A) → net_outcome table row rule after ≡ Ok new → (rule ≡ None) × (after ≡ new)
+from_outcome table row None after new e = (refl, cc e)
+from_outcome table row (Some why) after new e = absurd (cc e)
+
+-- a rule that refuses nothing has no test that holds
+pub not_first : {R : Type 0} (t : Bool) (r : R) (rest : Option R) → (if t then Some r else rest) ≡ None → (t ≡ false) × (rest ≡ None)
+not_first true r rest e = absurd (cc e)
+not_first false r rest e = (refl, e)
+
+-- a place is within its list
+place_in : (name : List ℕ) (names : List (List ℕ)) (o : Option ℕ) → place_of name names ≡ o → IfSome o (λ i. i < length names)
+place_in name names None e = tt
+place_in name names (Some i) e = (position-Some (bytes_eq name) names i [] e).0
+
+place_within : (name : List ℕ) (names : List (List ℕ)) → IfSome (place_of name names) (λ i. i < length names)
+place_within name names = place_in name names (place_of name names) refl
+
+abbrev track_of : ℕ → TrackId
+track_of n = record { 0 = n }
+
+abbrev kind_of : ℕ → TypeId
+kind_of n = record { 0 = n }
+
+-- ---- stations
+
+pub stations_room : Net → ℕ
+stations_room net = 300 - length net.stations
+
+one_less : {X : Type 0} (top : ℕ) (xs : List X) (x : X) → nat_le top (length xs) ≡ false → (top - length (xs ++ x ∷ [])) + 1 ≤ top - length xs
+one_less top xs x e = let low = leb-false top (length xs) e in rw (length-append xs (x ∷ [])) (omega (arith, low))
+
+stations_added : (net new : Net) (name : List ℕ) → nat_le 300 (length net.stations) ≡ false → record net { stations = net.stations ++ name ∷ [] } ≡ new → HasFew net
+    → HasFew new × (300 - length new.stations + 1 ≤ 300 - length net.stations)
+stations_added net new name full same few =
+    subst (λ (n : Net). HasFew n × (300 - length n.stations + 1 ≤ 300 - length net.stations)) same
+    (record { tracks = few.tracks; named = few.named; types = few.types }, one_less 300 net.stations name full)
+
+-- a station that is accepted takes one of the places
+pub station_step : (net new : Net) (row : ℕ) (fields : Record) → station_row net row fields ≡ Ok new → HasFew net → HasFew new × (stations_room new + 1 ≤ stations_room net)
+unfolding station_row stations_room
+station_step net new row fields e few =
+    let a = from_bind (shaped Stations row 1 fields) _ new e in
+    let b = from_bind (name_at Stations row fields 0) _ new a.2 in
+    let c = from_outcome Stations row (station_refusal net b.0) _ new b.2 in
+    let d = not_first _ _ _ c.0 in
+    stations_added net new b.0 d.0 c.1 few
+
+-- ---- types
+
+pub types_room : Net → ℕ
+types_room net = 16 - length net.types
+
+types_added : (net new : Net) (name : List ℕ) → nat_le 16 (length net.types) ≡ false → record net { types = net.types ++ name ∷ [] } ≡ new → HasFew net
+    → HasFew new × (16 - length new.types + 1 ≤ 16 - length net.types)
+types_added net new name full same few =
+    let low = leb-false 16 (length net.types) full in
+    subst (λ (n : Net). HasFew n × (16 - length n.types + 1 ≤ 16 - length net.types)) same
+    (record { tracks = few.tracks; named = few.named; types = rw (length-append net.types (name ∷ [])) (omega (arith, low)) }, one_less 16 net.types name full)
+
+-- a type that is accepted takes one of the places
+pub type_step : (net new : Net) (row : ℕ) (fields : Record) → type_row net row fields ≡ Ok new → HasFew net → HasFew new × (types_room new + 1 ≤ types_room net)
+unfolding type_row types_room
+type_step net new row fields e few =
+    let a = from_bind (shaped Types row 1 fields) _ new e in
+    let b = from_bind (name_at Types row fields 0) _ new a.2 in
+    let c = from_outcome Types row (type_refusal net b.0) _ new b.2 in
+    let d = not_first _ _ _ c.0 in
+    types_added net new b.0 d.0 c.1 few
+
+-- ---- tracks
+
+pub tracks_room : Net → ℕ
+tracks_room net = 1000 - length net.tracks
+
+abbrev track_at : ℕ → ℕ → Track
+track_at a b = record { tail = record { 0 = a }; head = record { 0 = b } }
+
+tracks_added : (net new : Net) (name : List ℕ) (o p : Option ℕ) → nat_le 1000 (length net.tracks) ≡ false → (is_none o || is_none p) ≡ false
+    → unwrap_or (option_and_then (λ a. option_map (λ b. record net { track_names = net.track_names ++ name ∷ []; tracks = net.tracks ++ track_at a b ∷ [] }) p) o) net ≡ new → HasFew net
+    → HasFew new × (1000 - length new.tracks + 1 ≤ 1000 - length net.tracks)
+tracks_added net new name None p full there same few = absurd (cc there)
+tracks_added net new name (Some a) None full there same few = absurd (cc there)
+tracks_added net new name (Some a) (Some b) full there same few =
+    let low = leb-false 1000 (length net.tracks) full in
+    let named = few.named in
+    subst (λ (n : Net). HasFew n × (1000 - length n.tracks + 1 ≤ 1000 - length net.tracks)) same (
+      record {
+        tracks = rw (length-append net.tracks (track_at a b ∷ [])) (omega (arith, low));
+        named = rw (length-append net.track_names (name ∷ []), length-append net.tracks (track_at a b ∷ []), named) refl;
+        types = few.types;
+      },
+      one_less 1000 net.tracks (track_at a b) full,
+    )
+
+-- a track that is accepted takes one of the places
+pub track_step : (net new : Net) (row : ℕ) (fields : Record) → track_row net row fields ≡ Ok new → HasFew net → HasFew new × (tracks_room new + 1 ≤ tracks_room net)
+unfolding track_row tracks_room
+track_step net new row fields e few =
+    let a = from_bind (shaped Tracks row 3 fields) _ new e in
+    let name = from_bind (name_at Tracks row fields 0) _ new a.2 in
+    let from = from_bind (name_at Tracks row fields 1) _ new name.2 in
+    let to = from_bind (name_at Tracks row fields 2) _ new from.2 in
+    let c = from_outcome Tracks row (track_refusal net name.0 from.0 to.0) _ new to.2 in
+    let full = not_first _ _ _ c.0 in
+    let taken = not_first _ _ _ full.1 in
+    let known = not_first _ _ _ taken.1 in
+    tracks_added net new name.0 (place_of from.0 net.stations) (place_of to.0 net.stations) full.0 known.0 c.1 few
+
+-- ---- running times
+
+-- how many pairs of a track and a type have no running times yet
+pub running_room : Net → ℕ
+running_room net = free_below (λ n. is_some (lookup (same_pair (n / 16, n % 16)) net.running)) 16000
+
+running_room_added : (net : Net) (t k : ℕ) (times : Times) → is_some (lookup (same_pair (t, k)) net.running) ≡ false → t < 1000 → k < 16
+    → running_room (record net { running = net.running ++ ((t, k), times) ∷ [] }) + 1 ≤ running_room net
+unfolding running_room
+running_room_added net t k times free lt lk =
+    let at : (t * 16 + k) / 16 ≡ t = div-mul-add t 16 k lk in
+    let in_ : (t * 16 + k) % 16 ≡ k = mod-mul-add t 16 k lk in
+    free_less
+    (λ n. is_some (lookup (same_pair (n / 16, n % 16)) net.running))
+    (λ n. is_some (lookup (same_pair (n / 16, n % 16)) (net.running ++ ((t, k), times) ∷ [])))
+    16000 (t * 16 + k)
+    (λ n h. lookup_stays (same_pair (n / 16, n % 16)) ((t, k), times) net.running h)
+    (omega arith)
+    (rw (at, in_) free)
+    (rw (at, in_) (lookup_added (same_pair (t, k)) ((t, k), times) net.running (pair_self (t, k))))
+
+running_added : (net new : Net) (times : List ℕ) (o p : Option ℕ) → (is_none (option_map track_of o) || is_none (option_map kind_of p)) ≡ false
+    → is_some (option_and_then (λ t. option_and_then (λ k. times_of net t k) (option_map kind_of p)) (option_map track_of o)) ≡ false
+    → unwrap_or (option_and_then (λ t. option_map (λ k. record net { running = net.running ++ ((t, k), times_from times) ∷ [] }) p) o) net ≡ new
+    → IfSome o (λ t. t < length net.track_names) → IfSome p (λ k. k < length net.types) → HasFew net
+    → HasFew new × (running_room new + 1 ≤ running_room net)
+running_added net new times None p there free same lt lk few = absurd (cc there)
+running_added net new times (Some t) None there free same lt lk few = absurd (cc there)
+running_added net new times (Some t) (Some k) there free same lt lk few =
+    let tracks = few.tracks in
+    let named = few.named in
+    let types = few.types in
+    subst (λ (n : Net). HasFew n × (running_room n + 1 ≤ running_room net)) same (
+      record { tracks = few.tracks; named = few.named; types = few.types },
+      running_room_added net t k (times_from times) free (omega (arith, lt, tracks, named)) (omega (arith, lk, types)),
+    )
+
+-- running times that are accepted take a free pair
+pub running_step : (net new : Net) (row : ℕ) (fields : Record) → running_row net row fields ≡ Ok new → HasFew net → HasFew new × (running_room new + 1 ≤ running_room net)
+unfolding running_row
+running_step net new row fields e few =
+    let a = from_bind (shaped Running row 6 fields) _ new e in
+    let track = from_bind (name_at Running row fields 0) _ new a.2 in
+    let kind = from_bind (name_at Running row fields 1) _ new track.2 in
+    let times = from_bind (four_at Running row fields 2) _ new kind.2 in
+    let c = from_outcome Running row (running_refusal net track.0 kind.0 times.0) _ new times.2 in
+    let known = not_first _ _ _ c.0 in
+    let range = not_first _ _ _ known.1 in
+    let free = not_first _ _ _ range.1 in
+    running_added net new times.0 (place_of track.0 net.track_names) (place_of kind.0 net.types) known.0 free.0 c.1
+    (place_within track.0 net.track_names) (place_within kind.0 net.types) few
+
+-- ---- headways
+
+-- how many triples of a track and two types have no headway yet
+pub headways_room : Net → ℕ
+headways_room net = free_below (λ n. is_some (lookup (same_triple (n / 256, n % 256 / 16, n % 16)) net.headways)) 256000
+
+headways_room_added : (net : Net) (t a b minutes : ℕ) → is_some (lookup (same_triple (t, a, b)) net.headways) ≡ false → t < 1000 → a < 16 → b < 16
+    → headways_room (record net { headways = net.headways ++ ((t, a, b), minutes) ∷ [] }) + 1 ≤ headways_room net
+unfolding headways_room
+headways_room_added net t a b minutes free lt la lb =
+    let inner : a * 16 + b < 256 = omega arith in
+    let at : (t * 256 + (a * 16 + b)) / 256 ≡ t = div-mul-add t 256 (a * 16 + b) inner in
+    let rest : (t * 256 + (a * 16 + b)) % 256 ≡ a * 16 + b = mod-mul-add t 256 (a * 16 + b) inner in
+    let first : (a * 16 + b) / 16 ≡ a = div-mul-add a 16 b lb in
+    let flat : t * 256 + (a * 16 + b) ≡ (t * 16 + a) * 16 + b = omega arith in
+    let second : (t * 256 + (a * 16 + b)) % 16 ≡ b = ap (λ (n : ℕ). n % 16) flat ∙ mod-mul-add (t * 16 + a) 16 b lb in
+    free_less
+    (λ n. is_some (lookup (same_triple (n / 256, n % 256 / 16, n % 16)) net.headways))
+    (λ n. is_some (lookup (same_triple (n / 256, n % 256 / 16, n % 16)) (net.headways ++ ((t, a, b), minutes) ∷ [])))
+    256000 (t * 256 + (a * 16 + b))
+    (λ n h. lookup_stays (same_triple (n / 256, n % 256 / 16, n % 16)) ((t, a, b), minutes) net.headways h)
+    (omega arith)
+    (rw (at, rest, first, second) free)
+    (rw (at, rest, first, second) (lookup_added (same_triple (t, a, b)) ((t, a, b), minutes) net.headways (triple_self (t, a, b))))
+
+headways_added : (net new : Net) (minutes : ℕ) (o p q : Option ℕ) → (is_none (option_map track_of o) || is_none (option_map kind_of p) || is_none (option_map kind_of q)) ≡ false
+    → is_some (option_and_then (λ t. option_and_then (λ a. option_and_then (λ b. headway_of net t a b) (option_map kind_of q)) (option_map kind_of p)) (option_map track_of o)) ≡ false
+    → unwrap_or (option_and_then (λ t. option_and_then (λ a. option_map (λ b. record net { headways = net.headways ++ ((t, a, b), minutes) ∷ [] }) q) p) o) net ≡ new
+    → IfSome o (λ t. t < length net.track_names) → IfSome p (λ k. k < length net.types) → IfSome q (λ k. k < length net.types) → HasFew net
+    → HasFew new × (headways_room new + 1 ≤ headways_room net)
+headways_added net new minutes None p q there free same lt la lb few = absurd (cc there)
+headways_added net new minutes (Some t) None q there free same lt la lb few = absurd (cc there)
+headways_added net new minutes (Some t) (Some a) None there free same lt la lb few = absurd (cc there)
+headways_added net new minutes (Some t) (Some a) (Some b) there free same lt la lb few =
+    let tracks = few.tracks in
+    let named = few.named in
+    let types = few.types in
+    subst (λ (n : Net). HasFew n × (headways_room n + 1 ≤ headways_room net)) same (
+      record { tracks = few.tracks; named = few.named; types = few.types },
+      headways_room_added net t a b minutes free (omega (arith, lt, tracks, named)) (omega (arith, la, types)) (omega (arith, lb, types)),
+    )
+
+-- a headway that is accepted takes a free triple
+pub headway_step : (net new : Net) (row : ℕ) (fields : Record) → headway_row net row fields ≡ Ok new → HasFew net → HasFew new × (headways_room new + 1 ≤ headways_room net)
+unfolding headway_row
+headway_step net new row fields e few =
+    let a = from_bind (shaped Headways row 4 fields) _ new e in
+    let track = from_bind (name_at Headways row fields 0) _ new a.2 in
+    let first = from_bind (name_at Headways row fields 1) _ new track.2 in
+    let second = from_bind (name_at Headways row fields 2) _ new first.2 in
+    let minutes = from_bind (number_at Headways row fields 3) _ new second.2 in
+    let c = from_outcome Headways row (headway_refusal net track.0 first.0 second.0 minutes.0) _ new minutes.2 in
+    let known = not_first _ _ _ c.0 in
+    let range = not_first _ _ _ known.1 in
+    let free = not_first _ _ _ range.1 in
+    headways_added net new minutes.0 (place_of track.0 net.track_names) (place_of first.0 net.types) (place_of second.0 net.types) known.0 free.0 c.1
+    (place_within track.0 net.track_names) (place_within first.0 net.types) (place_within second.0 net.types) few
+
+-- ---- how many rows there can be
+
+pub station_rows_few : (net : Net) → stations_room net ≤ 256000
+unfolding stations_room
+station_rows_few net = omega arith
+
+pub track_rows_few : (net : Net) → tracks_room net ≤ 256000
+unfolding tracks_room
+track_rows_few net = omega arith
+
+pub type_rows_few : (net : Net) → types_room net ≤ 256000
+unfolding types_room
+type_rows_few net = omega arith
+
+pub running_rows_few : (net : Net) → running_room net ≤ 256000
+unfolding running_room
+running_rows_few net = let within = free_within (λ n. is_some (lookup (same_pair (n / 16, n % 16)) net.running)) 16000 in omega (arith, within)
+
+pub headway_rows_few : (net : Net) → headways_room net ≤ 256000
+unfolding headways_room
+headway_rows_few net = free_within (λ n. is_some (lookup (same_triple (n / 256, n % 256 / 16, n % 16)) net.headways)) 256000

@@ -1,0 +1,36 @@
+-- Each record goes on, or is the first fault.
+use Rattle.std.proofs.Common.{arith, ◌∙◌}
+use Rattle.std.proofs.lemmas.Result.{err_from_is_err_and}
+use Rattle.csv.specs.Records.{fields_of}
+use Rattle.optra_tables.specs.Stops.{stop_row}
+use Rattle.optra_tables.proofs.BidStepLemmas.{stop_step, stops_room_few}
+use Rattle.optra_tables.proofs.RowLemmas.{row_fails, row_goes, rows_end}
+use Rattle.optra_tables.proofs.stops.read_rows.Goals as goal
+
+pub returns-in_err-read_row-clause-gives : goal.returns-in_err-read_row-clause-gives
+returns-in_err-read_row-clause-gives c =
+    let p = err_from_is_err_and c.from_residual-in_err-read_row.result c.from_residual-in_err-read_row.ensures.1 in
+    rw (p.1, p.2) (
+    row_fails (stop_row c.args.net.now) c.rows.records c.next.new.self (fields_of c.next.new.row) c.rows.bids c.rows.row _ c.in_err-read_row.field-0.0
+    (rw c.if-branch.true at c.in_ok-next.ensures.read) c.in_err-read_row.ensures c.rows.invariant.rest
+    )
+
+pub overflow_add-row : goal.overflow_add-row
+overflow_add-row c =
+    let step = stop_step c.args.net.now c.rows.bids c.read_row.new.bids c.rows.row (fields_of c.next.new.row) c.in_ok-read_row.ensures in
+    let few = stops_room_few c.args.bids.now in
+    omega (arith, step.1, few, c.requires, c.rows.invariant.row)
+
+pub rows-preserved : goal.rows-preserved
+rows-preserved c =
+    let step = stop_step c.args.net.now c.rows.bids c.read_row.new.bids c.rows.row (fields_of c.next.new.row) c.in_ok-read_row.ensures in
+    record {
+      same = step.0 ∙ c.rows.invariant.same;
+      row = omega (arith, step.1, c.rows.invariant.row);
+      rest =
+          row_goes (stop_row c.args.net.now) c.rows.records c.next.new.self (fields_of c.next.new.row) c.rows.bids c.read_row.new.bids c.rows.row _
+          (rw c.if-branch.true at c.in_ok-next.ensures.read) c.in_ok-read_row.ensures c.rows.invariant.rest;
+    }
+
+pub returns-clause-gives : goal.returns-clause-gives
+returns-clause-gives c = rows_end (stop_row c.args.net.now) c.rows.records c.rows.bids c.rows.row _ (rw c.if-branch.false at c.in_ok-next.ensures.read) c.rows.invariant.rest

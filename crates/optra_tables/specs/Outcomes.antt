@@ -1,0 +1,65 @@
+-- A value, or the first fault of a table.
+use Rattle.std.specs.Prelude.{◌≡◌, ℕ, Bool, Option, None, Some, Result, Ok, Err, if◌then◌else◌}
+use Rattle.optra_network.specs.declared.NetRefusal.{NetRefusal}
+use Rattle.optra_network.specs.declared.NetFault.{NetFault}
+use Rattle.optra_network.specs.declared.NetFault.TheVariants as net_faults
+use Rattle.optra_bid.specs.declared.BidRefusal.{BidRefusal}
+use Rattle.optra_bid.specs.declared.BidFault.{BidFault}
+use Rattle.optra_bid.specs.declared.BidFault.TheVariants as bid_faults
+use Rattle.optra_tables.specs.declared.Kind.{Kind}
+use Rattle.optra_tables.specs.declared.Kind.TheVariants as kinds
+use Rattle.optra_tables.specs.declared.ReadError.{ReadError}
+use Rattle.optra_tables.specs.declared.ReadError.TheVariants as errors
+use Rattle.optra_tables.specs.declared.Table.{Table}
+use Rattle.optra_tables.specs.declared.TableFault.{TableFault}
+
+-- go on with the value, or keep the fault
+infixl 10 ◌>>=◌
+abbrev pub ◌>>=◌ : {A B : Type 0} → Result A TableFault → (A → Result B TableFault) → Result B TableFault
+(Ok x) >>= f = f x
+(Err e) >>= f = Err e
+
+-- a fault of a call is the fault of the table, or want of memory, which says nothing
+abbrev pub Fails : {Y : Type 0} → ReadError → Result Y TableFault → Type 0
+Fails errors.NoMemory read = Unit {0}
+Fails (errors.Fault f) read = read ≡ Err f
+
+-- What a call answers, seen by view, is what reading gives, unless memory ran out.
+abbrev pub Gives : {X Y : Type 0} → (X → Y) → Result X ReadError → Result Y TableFault → Type 0
+Gives view (Ok x) read = read ≡ Ok (view x)
+Gives view (Err e) read = Fails e read
+
+-- the fault of a row of a table
+abbrev pub fault : Table → ℕ → Kind → TableFault
+fault table row kind = record { table = table; row = row; kind = kind }
+
+-- a fault, where a test fails
+abbrev pub guard : TableFault → Bool → Result (Unit {0}) TableFault
+guard f passes = if passes then Ok tt else Err f
+
+-- a value that is there, or a fault
+abbrev pub or_fault : {A : Type 0} → TableFault → Option A → Result A TableFault
+or_fault f (Some x) = Ok x
+or_fault f None = Err f
+
+-- what is known after a record, or what the network refuses in it
+abbrev pub net_outcome : {A : Type 0} → Table → ℕ → Option NetRefusal → A → Result A TableFault
+net_outcome table row None after = Ok after
+net_outcome table row (Some why) after = Err (fault table row (kinds.Net why))
+
+-- what is known after a record, or what the bid refuses in it
+abbrev pub bid_outcome : {A : Type 0} → Table → ℕ → Option BidRefusal → A → Result A TableFault
+bid_outcome table row None after = Ok after
+bid_outcome table row (Some why) after = Err (fault table row (kinds.Bid why))
+
+-- an answer of the network with its refusal as the fault of a row
+abbrev pub IsNetAnswer : {X : Type 0} → Table → ℕ → Result X NetFault → Result X ReadError → Type 0
+IsNetAnswer table row (Ok x) result = result ≡ Ok x
+IsNetAnswer table row (Err (net_faults.Refused why)) result = result ≡ Err (errors.Fault (fault table row (kinds.Net why)))
+IsNetAnswer table row (Err net_faults.NoMemory) result = result ≡ Err errors.NoMemory
+
+-- an answer of a bid with its refusal as the fault of a row
+abbrev pub IsBidAnswer : {X : Type 0} → Table → ℕ → Result X BidFault → Result X ReadError → Type 0
+IsBidAnswer table row (Ok x) result = result ≡ Ok x
+IsBidAnswer table row (Err (bid_faults.Refused why)) result = result ≡ Err (errors.Fault (fault table row (kinds.Bid why)))
+IsBidAnswer table row (Err bid_faults.NoMemory) result = result ≡ Err errors.NoMemory

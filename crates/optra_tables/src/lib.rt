@@ -1,0 +1,103 @@
+//! The tables of a network and of its bids: what they mean, or exactly their first fault, and how bids are written
+//! so that they are read again.
+//!
+//! Each table is read once, one record at a time, so that a fault in an early row is found without holding the later
+//! ones. A record that is read is tested in this order: its form, its fields from left to right, and then what the
+//! network or the bid refuses.
+#![tactic(auto)]
+
+mod bid_list;
+mod bids;
+mod fields;
+mod headways;
+mod networks;
+mod outcomes;
+mod rows;
+mod running;
+mod stations;
+mod stops;
+mod tracks;
+mod types;
+
+pub use networks::read_network;
+use optra_bid::BidRefusal;
+use optra_network::NetRefusal;
+use std::alloc::{AllocError, AllocFailed};
+pub use stops::read_bids;
+
+/// The tables, in the order in which they are read.
+#[derive(Clone, Copy, Debug, PartialEq, Eq)]
+pub enum Table {
+    Stations,
+    Tracks,
+    Types,
+    Running,
+    Headways,
+    Bids,
+    Stops,
+}
+
+/// What is wrong with a record, or with the whole table.
+#[derive(Clone, Copy, Debug, PartialEq, Eq)]
+pub enum Kind {
+    /// The record has another number of fields than the header, or a field isn't UTF-8.
+    Csv,
+    /// The first record isn't the header.
+    Header,
+    /// A field that is to be a name isn't one: 1 to 64 bytes without a control character.
+    Name,
+    /// A field that is to be a number isn't 1 to 10 ASCII digits.
+    Number,
+    /// The network refuses what the record says, or there are too many bids, or a bid's name is taken.
+    Net(NetRefusal),
+    /// A bid or a stop is refused, or names something that isn't there.
+    Bid(BidRefusal),
+}
+
+/// The first fault of a table: where it is and what it is. Rows count the records from 1, which is the header; a
+/// fault of the whole table has row 0.
+#[derive(Clone, Copy, Debug, PartialEq, Eq)]
+pub struct TableFault {
+    pub table: Table,
+    pub row: u32,
+    pub kind: Kind,
+}
+
+/// Why tables were not read: their first fault, or memory that couldn't be had.
+#[derive(Clone, Copy, Debug, PartialEq, Eq)]
+pub enum ReadError {
+    Fault(TableFault),
+    NoMemory,
+}
+
+/// The bytes of the five tables of a network.
+#[derive(Clone, Copy)]
+pub struct NetFiles<'a> {
+    pub stations: &'a [u8],
+    pub tracks: &'a [u8],
+    pub types: &'a [u8],
+    pub running: &'a [u8],
+    pub headways: &'a [u8],
+}
+
+impl From<AllocError> for ReadError {
+    ghost use Rattle.std.specs.Prelude.{◌≡◌};
+    ghost use Rattle.optra_tables.specs.declared.ReadError.TheVariants.{NoMemory};
+
+    ghost from_gives = { λ _ e. e ≡ NoMemory };
+
+    fn from(_error: AllocError) -> ReadError {
+        ReadError::NoMemory
+    }
+}
+
+impl<T: Drop> From<AllocFailed<T>> for ReadError {
+    ghost use Rattle.std.specs.Prelude.{◌≡◌};
+    ghost use Rattle.optra_tables.specs.declared.ReadError.TheVariants.{NoMemory};
+
+    ghost from_gives = { λ _ e. e ≡ NoMemory };
+
+    fn from(_error: AllocFailed<T>) -> ReadError {
+        ReadError::NoMemory
+    }
+}

@@ -1,0 +1,76 @@
+//! The table of tracks.
+
+ghost use Rattle.std.specs.Prelude.{◌≡◌, unwrap_or, IsTrue, OnOk};
+ghost use Rattle.csv.specs.Records.{fields_of};
+ghost use Rattle.optra_network.specs.Names.{is_name};
+ghost use Rattle.optra_network.specs.Refusals.{after_track, track_refusal};
+ghost use Rattle.optra_tables.specs.Networks.{HasFew, track_row, tracks_header};
+ghost use Rattle.optra_tables.specs.Outcomes.{Gives, net_outcome};
+ghost use Rattle.optra_tables.specs.Rows.{rows_from, table_read};
+ghost use Rattle.optra_tables.specs.declared.Table.TheVariants.{Tracks};
+
+use crate::fields::{name_at, shaped};
+use crate::outcomes::net_answer;
+use crate::rows::{FIRST_ROW, under_header};
+use crate::{ReadError, Table};
+use csv::ByteRecord;
+use optra_network::Builder;
+use optra_records::Records;
+use std::alloc::Global;
+
+/// Adds what a record says, or tells why the network refuses it.
+fn add(net: &mut Builder, row: u32, name: &str, from: &str, to: &str) -> Result<(), ReadError>
+    requires { IsTrue (is_name name.now) }
+    ensures { Gives (λ _. net.new) result (net_outcome Tracks row (track_refusal net.old name.now from.now to.now) (unwrap_or (after_track net.old name.now from.now to.now) net.old)) }
+{
+    let answer = net.track(name, from, to);
+    net_answer(Table::Tracks, row, answer)?;
+    Ok(())
+}
+
+/// Reads one record.
+#[tactic(auto, unfolding(crate::specs::Networks::track_row))]
+fn read_row(net: &mut Builder, row: u32, cells: &ByteRecord) -> Result<(), ReadError>
+    ensures { Gives (λ _. net.new) result (track_row net.old row (fields_of cells.now)) }
+{
+    shaped(Table::Tracks, row, 3, cells)?;
+    let name = name_at(Table::Tracks, row, cells, 0)?;
+    let from = name_at(Table::Tracks, row, cells, 1)?;
+    let to = name_at(Table::Tracks, row, cells, 2)?;
+    add(net, row, name, from, to)
+}
+
+/// Reads the records that are left.
+fn read_rows(
+    net: &mut Builder,
+    records: &mut Records<'_>,
+    cells: &mut ByteRecord,
+) -> Result<(), ReadError>
+    requires { HasFew net.old }
+    ensures gives { Gives (λ _. net.new) result (rows_from track_row net.old 2 records.old) }
+    ensures few { OnOk result (HasFew net.new) }
+{
+    let mut row = FIRST_ROW;
+    'rows: while records.next(cells)? {
+        read_row(net, row, cells)?;
+        row += 1;
+    }
+    Ok(())
+}
+
+/// Reads the table of tracks.
+#[tactic(auto, unfolding(crate::specs::Rows::table_read))]
+pub fn read_tracks(
+    alloc: Global,
+    net: &mut Builder,
+    cells: &mut ByteRecord,
+    bytes: &[u8],
+) -> Result<(), ReadError>
+    requires { HasFew net.old }
+    ensures gives { Gives (λ _. net.new) result (table_read track_row Tracks tracks_header net.old bytes.now) }
+    ensures few { OnOk result (HasFew net.new) }
+{
+    let mut records = Records::of_table(alloc, bytes);
+    under_header(Table::Tracks, &["track", "from", "to"], &mut records, cells)?;
+    read_rows(net, &mut records, cells)
+}

@@ -1,0 +1,74 @@
+//! The table of types.
+
+ghost use Rattle.std.specs.Prelude.{◌≡◌, ◌++◌, ◌∷◌, [], IsTrue, OnOk};
+ghost use Rattle.csv.specs.Records.{fields_of};
+ghost use Rattle.optra_network.specs.Names.{is_name};
+ghost use Rattle.optra_network.specs.Refusals.{type_refusal};
+ghost use Rattle.optra_tables.specs.Networks.{HasFew, type_row, types_header};
+ghost use Rattle.optra_tables.specs.Outcomes.{Gives, net_outcome};
+ghost use Rattle.optra_tables.specs.Rows.{rows_from, table_read};
+ghost use Rattle.optra_tables.specs.declared.Table.TheVariants.{Types};
+
+use crate::fields::{name_at, shaped};
+use crate::outcomes::net_answer;
+use crate::rows::{FIRST_ROW, under_header};
+use crate::{ReadError, Table};
+use csv::ByteRecord;
+use optra_network::Builder;
+use optra_records::Records;
+use std::alloc::Global;
+
+/// Adds what a record says, or tells why the network refuses it.
+fn add(net: &mut Builder, row: u32, name: &str) -> Result<(), ReadError>
+    requires { IsTrue (is_name name.now) }
+    ensures { Gives (λ _. net.new) result (net_outcome Types row (type_refusal net.old name.now) (record net.old { types = net.old.types ++ name.now ∷ [] })) }
+{
+    let answer = net.train_type(name);
+    net_answer(Table::Types, row, answer)?;
+    Ok(())
+}
+
+/// Reads one record.
+#[tactic(auto, unfolding(crate::specs::Networks::type_row))]
+fn read_row(net: &mut Builder, row: u32, cells: &ByteRecord) -> Result<(), ReadError>
+    ensures { Gives (λ _. net.new) result (type_row net.old row (fields_of cells.now)) }
+{
+    shaped(Table::Types, row, 1, cells)?;
+    let name = name_at(Table::Types, row, cells, 0)?;
+    add(net, row, name)
+}
+
+/// Reads the records that are left.
+fn read_rows(
+    net: &mut Builder,
+    records: &mut Records<'_>,
+    cells: &mut ByteRecord,
+) -> Result<(), ReadError>
+    requires { HasFew net.old }
+    ensures gives { Gives (λ _. net.new) result (rows_from type_row net.old 2 records.old) }
+    ensures few { OnOk result (HasFew net.new) }
+{
+    let mut row = FIRST_ROW;
+    'rows: while records.next(cells)? {
+        read_row(net, row, cells)?;
+        row += 1;
+    }
+    Ok(())
+}
+
+/// Reads the table of types.
+#[tactic(auto, unfolding(crate::specs::Rows::table_read))]
+pub fn read_types(
+    alloc: Global,
+    net: &mut Builder,
+    cells: &mut ByteRecord,
+    bytes: &[u8],
+) -> Result<(), ReadError>
+    requires { HasFew net.old }
+    ensures gives { Gives (λ _. net.new) result (table_read type_row Types types_header net.old bytes.now) }
+    ensures few { OnOk result (HasFew net.new) }
+{
+    let mut records = Records::of_table(alloc, bytes);
+    under_header(Table::Types, &["type"], &mut records, cells)?;
+    read_rows(net, &mut records, cells)
+}
