@@ -1,5 +1,5 @@
 -- A choice with one more bid: its uses, its headways, its revenue and its rule; and what no choice can earn.
-use Rattle.std.proofs.Common.{◌≡◌, ◌≢◌, ℕ, zero, suc, ℤ, pos, ◌+ℤ◌, ◌≤ℤ◌, List, [], ◌∷◌, ◌++◌, map, fold, length, get_or, Option, None, Some, slice_get, ◌⊎◌, inl, inr, refl, sym, ap, ◌∙◌, subst, arith, append_assoc}
+use Rattle.std.proofs.Common.{◌≡◌, ℕ, zero, suc, ℤ, pos, ◌+ℤ◌, ◌≤ℤ◌, List, [], ◌∷◌, ◌++◌, fold, length, Option, None, Some, slice_get, ◌⊎◌, inl, inr, refl, sym, ap, ◌∙◌, subst, arith, append_assoc}
 use Rattle.std.specs.Prelude.{All}
 use Rattle.std.specs.List.{AllZip}
 use Rattle.std.proofs.lemmas.Int.{ints}
@@ -12,10 +12,8 @@ use Rattle.optra_network.specs.Conflict.{AreCompatible}
 use Rattle.optra_network.specs.declared.TrackUse.{TrackUse}
 use Rattle.optra_bid.specs.declared.bids.Bid.{Bid}
 use Rattle.optra_walk.specs.declared.Leg.{Leg}
-use Rattle.optra_walk.specs.Legs.{use_of}
-use Rattle.optra_walk.specs.Walks.{IsWalk}
-use Rattle.optra_walk.specs.Choices.{IsChoice, uses_of, KeepsHeadways, IsConflictFree, IsOptimal, revenue_of}
-use Rattle.optra_top.specs.OneTrack.{worth_of, uses_in, uses_taken, TakesFirstBest, Greedy, IsGreatestOffer, IsSumOfOffers}
+use Rattle.optra_walk.specs.Choices.{IsChoice, uses_of, KeepsHeadways, IsConflictFree, revenue_of}
+use Rattle.optra_top.specs.OneTrack.{uses_in, uses_taken, TakesFirstBest, Greedy, IsGreatestOffer, IsSumOfOffers}
 use Rattle.optra_top.specs.Plans.{IsPlan}
 
 -- compatible either way round

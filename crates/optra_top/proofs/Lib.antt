@@ -1,5 +1,6 @@
 pub mod Held
 pub mod PlanRefusals
+pub mod InstanceRead
 pub mod Ended
 pub mod Completed
 pub mod Put

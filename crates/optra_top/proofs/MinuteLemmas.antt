@@ -1,19 +1,16 @@
 -- The tests of the table of minutes, and what they say of compatible uses.
-use Rattle.std.proofs.Common.{◌≡◌, ◌≢◌, ℕ, ◌+◌, ◌-◌, ◌*◌, ◌<◌, ◌≤◌, min, Bool, true, false, not, ◌&&◌, ◌||◌, nat_le, nat_lt, List, [], ◌∷◌, ◌++◌, map, length, slice_index_or, get_or, take, drop, replicate, Option, None, Some, IsSome, IsSomeAnd, IfSome, MatchBool, Decides, ◌⊎◌, inl, inr, refl, sym, ap, ◌∙◌, subst, arith, rules}
+use Rattle.std.proofs.Common.{◌≡◌, ℕ, ◌+◌, ◌-◌, ◌<◌, ◌≤◌, min, Bool, true, false, not, ◌&&◌, ◌||◌, nat_le, nat_lt, List, [], ◌∷◌, ◌++◌, length, Option, None, Some, IsSomeAnd, MatchBool, Decides, inl, inr, refl, sym, ap, ◌∙◌, subst, arith}
 use Rattle.std.specs.Prelude.{All}
-use Rattle.std.specs.List.{list_any}
 use Rattle.std.specs.Option.{option_map_or}
 use Rattle.std.proofs.lemmas.Bool.{false≢true}
 use Rattle.std.proofs.lemmas.Bool.Decides.{nat_tests}
-use Rattle.std.proofs.lemmas.Grind.{common_steps}
-use Rattle.std.proofs.lemmas.List.Elements.{All-nil, All-cons, All-head, All-tail, All-append}
+use Rattle.std.proofs.lemmas.List.Elements.{All-nil, All-cons, All-head, All-tail}
 use Rattle.std.proofs.lemmas.List.Folds.{list_any-append}
-use Rattle.optra_network.specs.Net.{Net, MayUse, track_id, headway_of}
+use Rattle.optra_network.specs.Net.{Net, track_id, headway_of}
 use Rattle.optra_network.specs.Conflict.{KeepsHeadway, AreCompatible}
 use Rattle.optra_network.specs.declared.TrackUse.{TrackUse}
 use Rattle.optra_network.specs.declared.TypeId.{TypeId}
-use Rattle.optra_top.specs.OneTrack.{Fits}
-use Rattle.optra_top.specs.Minutes.{use_at, is_after, excludes, is_excluded, place_in_table, TellsExcluded, ExcludesMore}
+use Rattle.optra_top.specs.Minutes.{use_at, is_after, excludes, is_excluded, TellsExcluded, ExcludesMore}
 
 after_tells : (o : Option ℕ) (t u : ℕ) → Decides (option_map_or (λ h. nat_le (t + h) u) o false) (IsSomeAnd o (λ h. t + h ≤ u))
 after_tells None t u = (λ e. absurd (false≢true e), λ h. absurd h)

@@ -1,5 +1,5 @@
 -- What a type that may use a track tells of both.
-use Rattle.std.proofs.Common.{◌≡◌, ℕ, ◌<◌, length, Option, None, Some, IsSome, IfSome}
+use Rattle.std.proofs.Common.{length, Option, None, Some, IsSome, IfSome}
 use Rattle.std.proofs.lemmas.Bool.{false≢true}
 use Rattle.optra_network.specs.Net.{Net, IsProper, IsRunningRow, MayUse, IsTrack, IsKind, times_of}
 use Rattle.optra_network.specs.declared.TrackId.{TrackId}

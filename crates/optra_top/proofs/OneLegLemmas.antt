@@ -1,22 +1,17 @@
 -- On one track every walk has one leg, and the walk by its departure.
-use Rattle.std.proofs.Common.{◌≡◌, ◌≢◌, ℕ, ◌+◌, ◌-◌, ◌<◌, ◌≤◌, Bool, true, false, not, List, [], ◌∷◌, length, get_or, filter, Option, None, Some, IsSome, IsSomeAnd, IfSome, slice_get, refl, sym, ap, ◌∙◌, subst, arith}
-use Rattle.std.specs.Prelude.{All}
+use Rattle.std.proofs.Common.{◌≡◌, ℕ, ◌+◌, ◌<◌, true, List, [], ◌∷◌, length, get_or, Option, None, Some, IsSome, IsSomeAnd, slice_get, refl, sym, ap, ◌∙◌, subst, arith}
 use Rattle.std.specs.List.{AllZip}
 use Rattle.std.specs.Option.{option_map}
-use Rattle.std.proofs.lemmas.Bool.{false≢true}
 use Rattle.std.proofs.lemmas.List.Elements.{All-nil, All-cons, All-head, All-tail}
-use Rattle.std.proofs.lemmas.Option.{slice_get_within, slice_get-get_or, same_Some}
-use Rattle.optra_network.specs.Net.{Net, IsProper, IsFromTo, AreEnds, MayUse, track_id, times_of, minutes_by}
-use Rattle.optra_network.specs.declared.StationId.{StationId}
+use Rattle.std.proofs.lemmas.Option.{slice_get-get_or, same_Some}
+use Rattle.optra_network.specs.Net.{Net, IsProper, IsFromTo, MayUse, track_id, times_of, minutes_by}
 use Rattle.optra_network.specs.declared.Track.{Track}
 use Rattle.optra_network.specs.declared.TrackId.{TrackId}
 use Rattle.optra_network.specs.declared.TypeId.{TypeId}
 use Rattle.optra_network.specs.declared.Times.{Times}
 use Rattle.optra_bid.specs.Specs.{Path}
-use Rattle.optra_walk.specs.declared.Action.TheVariants.{Finish}
 use Rattle.optra_walk.specs.declared.Leg.{Leg}
-use Rattle.optra_walk.specs.Legs.{is_halt, arrival_of}
-use Rattle.optra_walk.specs.Walks.{IsWalk, IsStart, IsEnd, IsNext, IsAllowedWait, MeetsStop, tail_of, head_of}
+use Rattle.optra_walk.specs.Walks.{IsWalk, IsNext, IsAllowedWait, MeetsStop}
 use Rattle.optra_walk.specs.Values.{first_departure}
 use Rattle.optra_top.specs.Offers.{leg_at, walk_at, LeadsAlong, IsWithinBoth}
 use Rattle.optra_top.proofs.NetworkFacts.{positions-from_MayUse}

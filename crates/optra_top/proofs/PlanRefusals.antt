@@ -1,5 +1,5 @@
 -- What the plan command refuses: contents that are refused have no other reply, and what the tables' faults are.
-use Rattle.std.proofs.Common.{◌≡◌, ℕ, List, length, map, nat_eq, Result, Ok, Err, refl, sym, ap, ◌∙◌, subst, true, false}
+use Rattle.std.proofs.Common.{◌≡◌, ℕ, List, length, map, Result, Ok, Err, refl, sym, ap, ◌∙◌, subst, true, false}
 use Rattle.std.specs.Prelude.{◌==◌, IsErrAnd}
 use Rattle.std.specs.List.{list_all}
 use Rattle.std.proofs.lemmas.List.Folds.{list_all-map}

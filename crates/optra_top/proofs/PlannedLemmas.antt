@@ -1,5 +1,5 @@
 -- What is planned so far, at first and with one more bid.
-use Rattle.std.proofs.Common.{◌≡◌, ℕ, ◌+◌, ◌*◌, Bool, false, ℤ, pos, ◌+ℤ◌, List, [], ◌∷◌, ◌++◌, take, drop, length, slice_index_or, Option, None, Some, IfSome, MatchOption, refl, sym, ap, ◌∙◌, subst, arith}
+use Rattle.std.proofs.Common.{◌≡◌, ℕ, ◌*◌, Bool, false, ℤ, pos, ◌+ℤ◌, List, [], ◌∷◌, ◌++◌, take, drop, length, slice_index_or, Option, None, Some, IfSome, MatchOption, refl, sym, ◌∙◌, subst, arith}
 use Rattle.std.specs.Prelude.{All}
 use Rattle.std.specs.Option.{option_map}
 use Rattle.std.proofs.lemmas.Int.{ints}

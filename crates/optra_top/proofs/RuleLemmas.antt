@@ -1,32 +1,27 @@
 -- One more bid takes its first best walk, and what is planned so far with it.
-use Rattle.std.proofs.Common.{◌≡◌, ◌≢◌, ℕ, ◌+◌, ◌*◌, ◌<◌, ◌≤◌, nat_lt, nat_eq, Bool, true, false, cond, ℤ, pos, ◌+ℤ◌, ◌≤ℤ◌, ◌<ℤ◌, List, [], ◌∷◌, ◌++◌, map, length, get_or, take, drop, slice_index_or, Option, None, Some, MatchOption, ◌⊎◌, inl, inr, refl, sym, ap, ◌∙◌, subst, arith}
+use Rattle.std.proofs.Common.{◌≡◌, ◌≢◌, ℕ, ◌*◌, ◌<◌, nat_lt, nat_eq, Bool, true, false, cond, pos, ◌≤ℤ◌, ◌<ℤ◌, List, [], length, take, drop, slice_index_or, Option, None, Some, MatchOption, inl, inr, refl, sym, ◌∙◌, subst, arith}
 use Rattle.std.specs.Prelude.{All}
 use Rattle.std.specs.Option.{option_map}
-use Rattle.std.specs.Ordering.{nat_cmp, ordering_then}
-use Rattle.std.specs.declared.cmp.Ordering.{Ordering}
+use Rattle.std.specs.Ordering.{ordering_then}
 use Rattle.std.specs.declared.cmp.Ordering.TheVariants.{Less, Equal, Greater}
 use Rattle.std.proofs.lemmas.Int.{ints}
 use Rattle.std.proofs.lemmas.Bool.Decides.{nat_tests}
-use Rattle.std.proofs.lemmas.List.{append-nil, get_or-take, get_or-drop}
-use Rattle.std.proofs.lemmas.List.Elements.{All-nil, All-cons, All-head, All-append}
-use Rattle.std.proofs.lemmas.Slice.Zip.{all_zipped_more}
+use Rattle.std.proofs.lemmas.List.{get_or-take, get_or-drop}
+use Rattle.std.proofs.lemmas.List.Elements.{All-nil, All-cons, All-head}
 use Rattle.optra_network.specs.Net.{Net, IsProper, MayUse, track_id}
 use Rattle.optra_network.specs.Conflict.{AreCompatible}
 use Rattle.optra_network.specs.declared.TrackUse.{TrackUse}
-use Rattle.optra_bid.specs.Specs.{IsBetween}
 use Rattle.optra_bid.specs.declared.bids.Bid.{Bid}
 use Rattle.optra_walk.specs.declared.Leg.{Leg}
 use Rattle.optra_walk.specs.Orders.{walk_cmp}
 use Rattle.optra_walk.specs.Walks.{IsWalk}
 use Rattle.optra_walk.specs.Values.{first_departure}
-use Rattle.optra_walk.specs.Choices.{IsChoice, uses_of, KeepsHeadways, revenue_of}
-use Rattle.optra_top.specs.OneTrack.{worth_of, uses_in, uses_taken, Fits, IsFitting, IsFirstBest, TakesFirstBest, Greedy, IsGreatestOffer, IsSumOfOffers}
-use Rattle.optra_top.specs.Minutes.{use_at, is_excluded, place_in_table, TellsExcluded}
-use Rattle.optra_top.specs.Offers.{leg_at, walk_at, IsFirstMinute, IsOfferOf, IsOffer}
+use Rattle.optra_top.specs.OneTrack.{worth_of, IsFitting, TakesFirstBest, IsGreatestOffer}
+use Rattle.optra_top.specs.Minutes.{use_at, is_excluded, TellsExcluded}
+use Rattle.optra_top.specs.Offers.{leg_at, walk_at, IsFirstMinute, IsOffer}
 use Rattle.optra_top.specs.declared.one_track.offers.Offer.{Offer}
 use Rattle.optra_top.proofs.MinuteLemmas.{compatible-from_free, free-from_compatible}
 use Rattle.optra_top.proofs.OneLegLemmas.{walk_is}
-use Rattle.optra_top.proofs.ChoiceLemmas.{KeepsHeadways-push, uses_of-push, revenue_of-push, Greedy-push, IsSumOfOffers-push}
 
 -- all uses are of the one track
 abbrev pub AreHere : List TrackUse → Type 0

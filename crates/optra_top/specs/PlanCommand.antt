@@ -1,5 +1,5 @@
 -- What the plan command replies: the tables mean a network and bids, or they have a first fault; and a plan of these is printed.
-use Rattle.std.specs.Prelude.{◌≡◌, ◌⊎◌, ℕ, ℤ, List, [], ◌∷◌, length, map, Bool, true, false, ◌==◌, ◌&&◌, Option, Result, Ok, Err, slice_index_or}
+use Rattle.std.specs.Prelude.{◌≡◌, ◌⊎◌, ℕ, ℤ, List, [], length, map, Bool, true, false, ◌==◌, ◌&&◌, Option, Result, Ok, Err, slice_index_or}
 use Rattle.std.specs.Prelude.{◌<ℤ◌}
 use Rattle.std.specs.List.{list_all}
 use Rattle.optra_network.specs.Net.{Net}

@@ -1,13 +1,13 @@
-use Rattle.std.proofs.Common.{◌≡◌, ℕ, ◌+◌, ◌*◌, ◌<◌, ◌≤◌, ◌∙◌, sym, ap, subst, ℤ, pos, ◌+ℤ◌, ◌≤ℤ◌, List, Bool, [], ◌∷◌, ◌++◌, take, drop, length, FitsSigned, to_z, of_z, w64, arith, rules}
+use Rattle.std.proofs.Common.{◌≡◌, ℕ, ◌+◌, ◌*◌, ◌<◌, ◌∙◌, sym, ap, subst, ℤ, pos, ◌+ℤ◌, List, Bool, [], ◌∷◌, ◌++◌, take, drop, length, FitsSigned, to_z, of_z, w64, arith, rules}
 use Rattle.std.specs.Option.{option_map}
-use Rattle.std.proofs.lemmas.Int.{ints, to_z-of_z}
+use Rattle.std.proofs.lemmas.Int.{ints}
 use Rattle.std.proofs.lemmas.List.{append-nil, take_all, drop_all, take_more}
 use Rattle.std.proofs.lemmas.Grind.{common_steps}
 use Rattle.optra_bid.specs.Specs.{IsBetween}
 use Rattle.optra_bid.specs.declared.bids.Bid.{Bid}
 use Rattle.optra_walk.specs.Choices.{uses_of}
 use Rattle.optra_top.specs.Minutes.{TellsExcluded}
-use Rattle.optra_top.specs.Offers.{walk_at, IsOffer}
+use Rattle.optra_top.specs.Offers.{walk_at}
 use Rattle.optra_top.proofs.PlannedLemmas.{IsPlannedSo, planned_more, planned_same, plan-from_planned}
 use Rattle.optra_top.proofs.one_track.plan_bids.Goals as goal
 

@@ -1,5 +1,5 @@
 -- The tables are served where there is one track and no bid that was read has a stop.
-use Rattle.std.proofs.Common.{◌≡◌, sym, ◌∙◌}
+use Rattle.std.proofs.Common.{sym, ◌∙◌}
 use Rattle.optra_top.proofs.PlanRefusals.{served-read}
 use Rattle.optra_top.proofs.planning.is_served.Goals as goal
 

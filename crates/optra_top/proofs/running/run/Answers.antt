@@ -1,5 +1,5 @@
 -- Status 5 is a read fault alone, and contents that are refused leave status 3 or want of memory.
-use Rattle.std.proofs.Common.{◌≡◌, sym, ◌∙◌}
+use Rattle.std.proofs.Common.{sym, ◌∙◌}
 use Rattle.optra_top.proofs.Ended.{said-read}
 use Rattle.optra_top.proofs.Completed.{refuses}
 use Rattle.optra_top.proofs.running.run.Goals as goal

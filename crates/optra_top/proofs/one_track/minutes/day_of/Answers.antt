@@ -1,4 +1,4 @@
-use Rattle.std.proofs.Common.{◌≡◌, ℕ, ◌+◌, ◌*◌, ◌-◌, take, drop, ap, ◌∙◌, arith}
+use Rattle.std.proofs.Common.{◌≡◌, ◌+◌, ◌*◌, ◌-◌, take, drop, arith}
 use Rattle.optra_top.proofs.one_track.minutes.day_of.Goals as goal
 
 pub returns-clause-day : goal.returns-clause-day

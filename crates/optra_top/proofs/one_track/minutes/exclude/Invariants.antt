@@ -1,4 +1,4 @@
-use Rattle.std.proofs.Common.{◌≡◌, ℕ, ◌<◌, ◌≤◌, ◌||◌, Bool, List, length, false, slice_index_or}
+use Rattle.std.proofs.Common.{◌≡◌, ℕ, ◌<◌, ◌≤◌, ◌||◌, Bool, List, false, slice_index_or}
 use Rattle.optra_network.specs.Net.{Net, MayUse, track_id}
 use Rattle.optra_network.specs.declared.TrackUse.{TrackUse}
 use Rattle.optra_network.specs.declared.TypeId.{TypeId}

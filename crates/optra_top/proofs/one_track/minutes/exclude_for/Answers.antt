@@ -1,7 +1,6 @@
 use Rattle.std.proofs.Common.{◌≡◌, IsSome, None, sym, ◌∙◌, subst}
 use Rattle.std.proofs.lemmas.Bool.{false≢true}
 use Rattle.optra_network.specs.Net.{track_id, headway_of}
-use Rattle.optra_network.specs.declared.TypeId.{TypeId}
 use Rattle.optra_top.proofs.one_track.minutes.exclude_for.Goals as goal
 
 pub returns-in_default-clause-here : goal.returns-in_default-clause-here

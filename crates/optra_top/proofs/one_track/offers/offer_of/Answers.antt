@@ -1,6 +1,5 @@
-use Rattle.std.proofs.Common.{◌≡◌, ℕ, Bool, not, ◌&&◌, cond, int_lt, Some, to_z, of_z, ◌<◌, ◌≤◌, ◌∙◌, sym, ap, pos, ℤ, ◌≤ℤ◌, false, List, slice_index_or, FitsSigned, w64, arith, rules}
+use Rattle.std.proofs.Common.{◌≡◌, ℕ, Bool, not, ◌&&◌, cond, int_lt, Some, to_z, of_z, ◌≤◌, ◌∙◌, pos, ℤ, ◌≤ℤ◌, false, slice_index_or, FitsSigned, w64, arith, rules}
 use Rattle.std.proofs.lemmas.Int.{ints, to_z-of_z}
-use Rattle.std.proofs.lemmas.List.{get_or_read}
 use Rattle.std.specs.Int.{int_max}
 use Rattle.optra_network.specs.Net.{Net, IsProper}
 use Rattle.optra_bid.specs.declared.bids.Bid.{Bid}
