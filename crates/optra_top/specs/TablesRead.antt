@@ -1,0 +1,9 @@
+-- The tables, as they were read.
+use Rattle.std.specs.Prelude.{map}
+use Rattle.optra_tables.specs.Bids.{parts_of}
+use Rattle.optra_top.specs.PlanCommand as meaning
+use Rattle.optra_top.specs.declared.planning.Tables.{Tables}
+
+-- the network and the bids that were read
+abbrev pub tables_seen : Tables → meaning.Tables
+tables_seen tables = record { net = tables.net; bids = map parts_of tables.bids.items }

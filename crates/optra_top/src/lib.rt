@@ -1,0 +1,17 @@
+//! The commands of the planner, over any shelf and any pens.
+#![tactic(auto)]
+
+mod answering;
+mod faults;
+mod gathering;
+mod one_track;
+mod performing;
+mod planning;
+mod putting;
+mod running;
+mod wording;
+
+pub use running::{run, run_without_faults};
+
+#[cfg(test)]
+mod tests;
