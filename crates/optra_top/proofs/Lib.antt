@@ -1,6 +1,6 @@
+-- Lemmas on how a command ends, on what its files mean, and on the plan of one track.
 pub mod Held
 pub mod PlanRefusals
-pub mod InstanceRead
 pub mod Ended
 pub mod Completed
 pub mod Put

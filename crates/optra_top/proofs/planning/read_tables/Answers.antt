@@ -2,7 +2,6 @@
 use Rattle.std.proofs.Common.{map, vec_items}
 use Rattle.optra_top.specs.PlanCommand.{meaning_of}
 use Rattle.optra_top.specs.TablesRead.{tables_seen}
-use Rattle.optra_top.proofs.InstanceRead.{instance-read}
 use Rattle.optra_top.proofs.PlanRefusals.{Fails-net, Fails-bids, Gives-kept, meaning-read}
 use Rattle.optra_top.proofs.planning.read_tables.Goals as goal
 
@@ -14,13 +13,10 @@ returns-in_err-net-clause-read c =
 pub returns-in_err-bids-clause-read : goal.returns-in_err-bids-clause-read
 returns-in_err-bids-clause-read c =
     let contents = map vec_items c.args.contents.now in
-    let fails = rw (c.content.ensures, c.content-2.ensures) at c.in_err-bids.ensures in
+    let fails = rw (c.content.ensures, c.content-2.ensures) at c.in_err-bids.ensures.gives in
     Gives-kept tables_seen c.from_residual-in_err-bids.result c.in_err-bids.field-0.0 (meaning_of contents) c.from_residual-in_err-bids.ensures.1 (Fails-bids contents c.in_ok-net.net c.in_err-bids.field-0.0 c.in_ok-net.ensures fails)
 
 pub returns-clause-read : goal.returns-clause-read
 returns-clause-read c =
-    let read = rw (c.content.ensures, c.content-2.ensures) at c.in_ok-bids.ensures in
+    let read = rw (c.content.ensures, c.content-2.ensures) at c.in_ok-bids.ensures.gives in
     meaning-read (map vec_items c.args.contents.now) c.in_ok-net.net _ c.in_ok-net.ensures read
-
-pub returns-clause-instance : goal.returns-clause-instance
-returns-clause-instance c = instance-read c.in_ok-net.net c.content.result.now c.content-2.result.now c.in_ok-bids.bids.items c.in_ok-bids.ensures
