@@ -94,6 +94,12 @@ fn ends(bytes: &[u8], records: &str) -> bool {
     bytes.ends_with(records.as_bytes())
 }
 
+/// How the two tables of the bid end.
+static ENDS: [(&str, &str); 1] = [(
+    "wait_max\n\"b\"\"1\",ann,ic,A,\"B, \"\"x\"\"\",0,2,10,0,12,60,1000,10,20,0,1,2,1000000,7\n",
+    "arrive_to\n\"b\"\"1\",C,1,3,0,2879\n\"b\"\"1\",A,0,30,5,6\n",
+)];
+
 #[test]
 fn a_bid_is_written(rt: HostRuntime) -> Result<(), Fail> {
     let alloc = rt.alloc();
@@ -101,7 +107,9 @@ fn a_bid_is_written(rt: HostRuntime) -> Result<(), Fail> {
     let Some((bids_bytes, stops_bytes)) = tables_of(alloc, &net, stopping(alloc)?)? else {
         return Err(Fail::from(BidFault::Refused(BidRefusal::UnknownName)));
     };
-    assert!(rt; ends(&bids_bytes, "wait_max\n\"b\"\"1\",ann,ic,A,\"B, \"\"x\"\"\",0,2,10,0,12,60,1000,10,20,0,1,2,1000000,7\n"));
-    assert!(rt; ends(&stops_bytes, "arrive_to\n\"b\"\"1\",C,1,3,0,2879\n\"b\"\"1\",A,0,30,5,6\n"));
+    for (bids_end, stops_end) in &ENDS {
+        assert!(rt; ends(&bids_bytes, *bids_end));
+        assert!(rt; ends(&stops_bytes, *stops_end));
+    }
     Ok(())
 }
