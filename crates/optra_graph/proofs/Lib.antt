@@ -1,0 +1,2 @@
+-- The lemmas of time-expanded graphs.
+pub mod PlaceLemmas

@@ -1,0 +1,6 @@
+-- The state at a place has one.
+use Rattle.optra_graph.proofs.PlaceLemmas.{placed_at}
+use Rattle.optra_graph.proofs.states.Layout.state.Goals as goal
+
+pub returns-clause-placed : goal.returns-clause-placed
+returns-clause-placed c = ?

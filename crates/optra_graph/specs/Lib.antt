@@ -1,0 +1,10 @@
+-- What time-expanded graphs mean, and what the parts of their construction keep.
+pub mod Timed
+pub mod TimedParts
+pub mod Moves
+pub mod Places
+pub mod Steps
+pub mod Flags
+pub mod Arcs
+pub mod Nodes
+pub mod Settings

@@ -1,0 +1,16 @@
+//! Time-expanded graphs of bids, whose paths are the timed walks of the bid.
+#![tactic(auto)]
+
+mod building;
+mod emitting;
+mod numbering;
+mod reaching;
+mod states;
+mod stepping;
+mod timegraphs;
+
+pub use building::{Builds, build};
+pub use timegraphs::TimeGraph;
+
+#[cfg(test)]
+mod tests;
