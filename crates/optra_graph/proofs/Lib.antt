@@ -1,2 +1,8 @@
 -- The lemmas of time-expanded graphs.
 pub mod PlaceLemmas
+pub mod RunLemmas
+pub mod OrderLemmas
+pub mod HorizonLemmas
+pub mod StepLemmas
+pub mod WayLemmas
+pub mod TrackLemmas

@@ -17,7 +17,7 @@ mod_part q n r l =
 
 -- a row and a column of a table come before its end
 pub below_product : (a m b n : ℕ) → a < m → b < n → a * n + b < m * n
-below_product a m b n h l = let k : (a + 1) * n ≤ m * n = mul-le-mul_right n h in omega (arith, k)
+below_product a m b n h l = let k : suc a * n ≤ m * n = mul-le-mul_right n h in let e : suc a * n ≡ a * n + n = omega arith in omega (arith, k)
 
 -- what comes before the end of a table has a row of it
 pub row_below : (p m n : ℕ) → p < m * n → p / n < m

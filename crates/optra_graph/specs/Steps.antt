@@ -65,6 +65,7 @@ leg_by s track action = record { track = track; depart = s.minute; from_halt = s
 pub record IsWay (net : Net) (path : Path) (s : State) (way : Way) : Type 0 where
   pub tail : tail_of net (leg_by s way.track Pass) ≡ Some s.station
   pub head : head_of net (leg_by s way.track Pass) ≡ Some way.head
+  pub station : way.head.0 < length net.stations
   pub may_use : MayUse net way.track path.kind
   pub pass : arrival_of net path.kind (leg_by s way.track Pass) ≡ Some way.pass
   pub halt : arrival_of net path.kind (leg_by s way.track Finish) ≡ Some way.halt
@@ -72,3 +73,8 @@ pub record IsWay (net : Net) (path : Path) (s : State) (way : Way) : Type 0 wher
   pub halt_later : s.minute < way.halt
   pub pass_bound : way.pass ≤ s.minute + 240
   pub halt_bound : way.halt ≤ s.minute + 240
+
+-- the tracks before an index come before track n, and the others do not
+pub record IsSplit (tracks : List TrackId) (index n : ℕ) : Type 0 where
+  pub early : (k : ℕ) (d : TrackId) → k < index → k < length tracks → (slice_index_or tracks k d).0 < n
+  pub late : (k : ℕ) (d : TrackId) → index ≤ k → k < length tracks → n ≤ (slice_index_or tracks k d).0

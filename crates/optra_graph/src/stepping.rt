@@ -1,14 +1,14 @@
 //! The steps of a state, in the order of walks.
-ghost use Rattle.std.specs.Prelude.{◌≡◌, ℕ, ◌+◌, ◌-◌, ◌*◌, ◌<◌, ◌≤◌, length, min, OnOk, MatchOption, Some, slice_get};
-ghost use Rattle.optra_network.specs.Net.{MayUse};
+ghost use Rattle.std.specs.Prelude.{◌≡◌, ℕ, ◌+◌, ◌-◌, ◌*◌, ◌<◌, ◌≤◌, length, min, OnOk, MatchOption, Some, slice_get, IsTrue, true, ◌↔◌};
+ghost use Rattle.optra_network.specs.Net.{IsProper, MayUse};
 ghost use Rattle.optra_walk.specs.Walks.{tail_of};
 ghost use Rattle.optra_graph.specs.Places.{IsPlaced, IsSmall, place_of};
 ghost use Rattle.optra_graph.specs.Settings.{IsSetting};
 ghost use Rattle.optra_graph.specs.Steps.{AreSteps, AreStepsBelow, IsWay, bound_of, leg_by};
 
 use crate::states::{Layout, State};
-use optra_bid::Bid;
-use optra_network::{Minute, Network, NoMemory, StationId, TrackId};
+use optra_bid::{Bid, Stop};
+use optra_network::{Minute, Network, NoMemory, StationId, TrackId, TypeId};
 use optra_walk::{Action, Leg};
 
 /// An arc that may be: a leg, and the place that it leads to.
@@ -48,14 +48,22 @@ pub fn fill_steps(
     Ok(())
 }
 
+fn kind_of(bid: &Bid) -> TypeId
+    ensures { result ≡ bid.now.path.kind }
+{
+    bid.path.kind
+}
+
 /// The way by the track, where the train may use it.
 fn find_way(net: &Network, bid: &Bid, state: State, track: TrackId) -> Option<Way>
+    requires proper { IsProper net.now }
     requires tail { tail_of net.now (leg_by state track Action.Pass) ≡ Some state.station }
     requires minute { state.minute ≤ 2879 }
     ensures { MatchOption result (¬ MayUse net.now track bid.now.path.kind) (λ way. (way.track ≡ track) × IsWay net.now bid.now.path state way) }
 {
-    let pass = net.run(track, bid.path.kind, state.halted, false)?;
-    let halt = net.run(track, bid.path.kind, state.halted, true)?;
+    let kind = kind_of(bid);
+    let pass = net.run(track, kind, state.halted, false)?;
+    let halt = net.run(track, kind, state.halted, true)?;
     Some(Way {
         track,
         head: net.head(track),
@@ -143,6 +151,33 @@ fn add_pass(
     Ok(())
 }
 
+/// The stop that comes after so many.
+fn next_stop(bid: &Bid, done: u16) -> Option<Stop>
+    ensures { result ≡ slice_get bid.now.path.stops done }
+{
+    bid.path.stops.get(done as usize).copied()
+}
+
+/// Whether the train halts right for the stop when it arrives by the way.
+fn may_halt(stop: Stop, way: Way) -> bool
+    ensures { IsTrue result ↔ ((stop.station ≡ way.head) × (stop.arrive.from ≤ way.halt) × (way.halt ≤ stop.arrive.to)) }
+{
+    stop.station == way.head && stop.arrive.from <= way.halt && way.halt <= stop.arrive.to
+}
+
+/// The state after a halt or a wait at the head of the way.
+fn stand(way: Way, dwell: u16, done: u16) -> State
+    requires { way.halt + dwell < 65536 }
+    ensures { result ≡ record { station = way.head; minute = way.halt + dwell; halted = true; done = done } }
+{
+    State {
+        station: way.head,
+        minute: way.halt + dwell,
+        halted: true,
+        done,
+    }
+}
+
 /// A halt at the next stop for each dwell in its range.
 fn add_halts(
     net: &Network,
@@ -158,20 +193,15 @@ fn add_halts(
     requires before { AreStepsBelow net.now bid.now.path layout state (bound_of way.track.0 1) steps.old.items }
     ensures { OnOk result (AreStepsBelow net.now bid.now.path layout state (bound_of way.track.0 2) steps.new.items) }
 {
-    let Some(stop) = bid.path.stops.get(state.done as usize) else {
+    let Some(stop) = next_stop(bid, state.done) else {
         return Ok(());
     };
-    if stop.station != way.head || way.halt < stop.arrive.from || stop.arrive.to < way.halt {
+    if !may_halt(stop, way) {
         return Ok(());
     }
     let before = dwell_end(layout, way.halt, stop.max_dwell);
     for dwell in stop.min_dwell..before {
-        let after = State {
-            station: way.head,
-            minute: way.halt + dwell,
-            halted: true,
-            done: state.done + 1,
-        };
+        let after = stand(way, dwell, state.done + 1);
         steps.push(make_step(layout, state, way, Action::Halt(dwell), after))?;
     }
     Ok(())
@@ -192,17 +222,30 @@ fn add_waits(
     requires before { AreStepsBelow net.now bid.now.path layout state (bound_of way.track.0 2) steps.old.items }
     ensures { OnOk result (AreStepsBelow net.now bid.now.path layout state (bound_of way.track.0 3) steps.new.items) }
 {
-    let before = dwell_end(layout, way.halt, bid.path.wait_max);
+    let before = dwell_end(layout, way.halt, wait_max(bid));
     for dwell in 1..before {
-        let after = State {
-            station: way.head,
-            minute: way.halt + dwell,
-            halted: true,
-            done: state.done,
-        };
+        let after = stand(way, dwell, state.done);
         steps.push(make_step(layout, state, way, Action::Wait(dwell), after))?;
     }
     Ok(())
+}
+
+fn wait_max(bid: &Bid) -> u16
+    ensures value { result ≡ bid.now.path.wait_max }
+    ensures small { result ≤ 30 }
+{
+    bid.path.wait_max
+}
+
+/// Whether the walk may end when the train arrives by the way.
+fn may_finish(bid: &Bid, state: State, way: Way) -> bool
+    ensures { IsTrue result ↔ ((state.done ≡ length bid.now.path.stops) × (way.head ≡ bid.now.path.destination) × (bid.now.path.arrive.from ≤ way.halt) × (way.halt ≤ bid.now.path.arrive.to)) }
+{
+    let path = &bid.path;
+    usize::from(state.done) == path.stops.len()
+        && way.head == path.destination
+        && path.arrive.from <= way.halt
+        && way.halt <= path.arrive.to
 }
 
 /// The end of the walk, where all stops are done and the head is the destination within the arrival window.
@@ -220,11 +263,7 @@ fn add_finish(
     requires before { AreStepsBelow net.now bid.now.path layout state (bound_of way.track.0 3) steps.old.items }
     ensures { OnOk result (AreStepsBelow net.now bid.now.path layout state (bound_of way.track.0 4) steps.new.items) }
 {
-    let path = &bid.path;
-    if usize::from(state.done) != path.stops.len() || way.head != path.destination {
-        return Ok(());
-    }
-    if way.halt < path.arrive.from || path.arrive.to < way.halt {
+    if !may_finish(bid, state, way) {
         return Ok(());
     }
     steps.push(Step {
