@@ -6,3 +6,5 @@ pub mod HorizonLemmas
 pub mod StepLemmas
 pub mod WayLemmas
 pub mod TrackLemmas
+pub mod FlagLemmas
+pub mod ReachLemmas

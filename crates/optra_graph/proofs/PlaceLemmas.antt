@@ -1,7 +1,7 @@
 -- A state is found again at its place, and a later state has a later place.
 use Rattle.std.proofs.Common.{◌≡◌, ℕ, zero, suc, ◌+◌, ◌-◌, ◌*◌, ◌/◌, ◌%◌, ◌≤◌, ◌<◌, Bool, true, false, nat_eq, ap, sym, ◌∙◌, refl, arith}
-use Rattle.std.proofs.lemmas.Nat.{div-mul-add}
-use Rattle.std.proofs.Math.Nat.{div-add-mod', mul-le-mul_right}
+use Rattle.std.proofs.lemmas.Nat.{div-mul-add, div-add-mod'}
+use Rattle.std.proofs.Math.Nat.{mul-le-mul_right}
 use Rattle.optra_graph.specs.declared.states.State.{State}
 use Rattle.optra_graph.specs.declared.states.Layout.{Layout}
 use Rattle.optra_graph.specs.Places.{mode_of, slot_of, place_of, places_of, state_of, IsPlaced}
@@ -80,3 +80,16 @@ placed_at layout place l =
       done = omega (arith, mode, col);
       station = column_below place (layout.minutes * layout.slots) layout.stations l;
     }
+
+mode_at : (r : ℕ) → r / 2 * 2 + mode_of (nat_eq (r % 2) 1) ≡ r
+mode_at r = let m = mode_back (r % 2) (omega arith) in omega (arith, m)
+
+-- and a place is that of its state
+pub place_back : (layout : Layout) (place : ℕ) → place_of layout (state_of layout place) ≡ place
+place_back layout place =
+    let d = div-add-mod' place layout.stations in
+    let e = div-add-mod' (place / layout.stations) layout.slots in
+    let m = mode_at (place / layout.stations % layout.slots) in
+    let first : layout.first + place / layout.stations / layout.slots - layout.first ≡ place / layout.stations / layout.slots = omega arith in
+    let slot : slot_of layout (state_of layout place) ≡ place / layout.stations = (λ i. first i * layout.slots + m i) ∙ e in
+    ap (λ t. t * layout.stations + place % layout.stations) slot ∙ d

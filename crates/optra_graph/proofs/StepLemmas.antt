@@ -81,7 +81,7 @@ pub stop_of : (P : Stop → Type 0) (o : Option Stop) (stop : Stop) → o ≡ So
 stop_of P o stop e h = subst (λ v. IsSomeAnd v P) e h
 
 -- and of one that some leg meets
-stop_there : (P : Stop → Type 0) (o : Option Stop) → IsSomeAnd o P → (stop : Stop) × (o ≡ Some stop) × P stop
+pub stop_there : (P : Stop → Type 0) (o : Option Stop) → IsSomeAnd o P → (stop : Stop) × (o ≡ Some stop) × P stop
 stop_there P None h = absurd h
 stop_there P (Some stop) h = (stop, refl, h)
 
@@ -311,21 +311,21 @@ module _ (net : Net) (path : Path) (layout : Layout) (setting : IsSetting net pa
         (push_step (bound_of way.track.0 1 + d) steps (record { leg = leg_by s way.track (Halt d); to = place_of layout (after_halt d) }) h
         (halt_step d stop at fits.0 fits.1 fits.2 least most p) (omega arith)
         (λ y w l u.
-            let f = by_halt y w (omega (arith, l)) (omega (arith, u)) in
-            let k = ap key_of f in
-            let same : dwell_of y.leg.action ≡ d = omega (arith, k, l, u) in
-            f ∙ ap (λ n. leg_by s way.track (Halt n)) same))
+        let f = by_halt y w (omega (arith, l)) (omega (arith, u)) in
+        let k = ap key_of f in
+        let same : dwell_of y.leg.action ≡ d = omega (arith, k, l, u) in
+        f ∙ ap (λ n. leg_by s way.track (Halt n)) same))
 
     pub halt_end : (steps : List Step) (stop : Stop) (d : ℕ) → slice_get path.stops s.done ≡ Some stop → stop.max_dwell ≤ 240 → d ≤ 256
         → (stop.max_dwell < d) ⊎ (layout.first + layout.minutes ≤ way.halt + d) → Below (bound_of way.track.0 1 + d) steps → Below (bound_of way.track.0 2) steps
     halt_end steps stop d at few small over h = skip_steps (bound_of way.track.0 1 + d) (bound_of way.track.0 2) steps (omega arith) h
         (λ y w l u.
-            let e = by_halt y w (omega (arith, l)) u in
-            let m = meets_at y w stop at (dwell_of y.leg.action) e in
-            let p = halt_late y w (dwell_of y.leg.action) e in
-            let k = ap key_of e in
-            let from : d ≤ dwell_of y.leg.action = omega (arith, k, l) in
-            beyond (dwell_of y.leg.action) from m.2.1 p over)
+        let e = by_halt y w (omega (arith, l)) u in
+        let m = meets_at y w stop at (dwell_of y.leg.action) e in
+        let p = halt_late y w (dwell_of y.leg.action) e in
+        let k = ap key_of e in
+        let from : d ≤ dwell_of y.leg.action = omega (arith, k, l) in
+        beyond (dwell_of y.leg.action) from m.2.1 p over)
       where
         beyond : (n : ℕ) → d ≤ n → n ≤ stop.max_dwell → way.halt + n < layout.first + layout.minutes → (stop.max_dwell < d) ⊎ (layout.first + layout.minutes ≤ way.halt + d) → ⊥
         beyond n from most p (inl o) = omega arith
@@ -344,20 +344,20 @@ module _ (net : Net) (path : Path) (layout : Layout) (setting : IsSetting net pa
         (push_step (bound_of way.track.0 2 + d) steps (record { leg = leg_by s way.track (Wait d); to = place_of layout (after_wait d) }) h
         (wait_step d least most p) (omega arith)
         (λ y w l u.
-            let f = by_wait y w (omega (arith, l)) (omega (arith, u)) in
-            let k = ap key_of f in
-            let same : dwell_of y.leg.action ≡ d = omega (arith, k, l, u) in
-            f ∙ ap (λ n. leg_by s way.track (Wait n)) same))
+        let f = by_wait y w (omega (arith, l)) (omega (arith, u)) in
+        let k = ap key_of f in
+        let same : dwell_of y.leg.action ≡ d = omega (arith, k, l, u) in
+        f ∙ ap (λ n. leg_by s way.track (Wait n)) same))
 
     pub wait_end : (steps : List Step) (d : ℕ) → d ≤ 256 → (path.wait_max < d) ⊎ (layout.first + layout.minutes ≤ way.halt + d) → Below (bound_of way.track.0 2 + d) steps → Below (bound_of way.track.0 3) steps
     wait_end steps d small over h = skip_steps (bound_of way.track.0 2 + d) (bound_of way.track.0 3) steps (omega arith) h
         (λ y w l u.
-            let e = by_wait y w (omega (arith, l)) u in
-            let m = wait_fits y w (dwell_of y.leg.action) e in
-            let p = wait_late y w (dwell_of y.leg.action) e in
-            let k = ap key_of e in
-            let from : d ≤ dwell_of y.leg.action = omega (arith, k, l) in
-            beyond (dwell_of y.leg.action) from m.1 p over)
+        let e = by_wait y w (omega (arith, l)) u in
+        let m = wait_fits y w (dwell_of y.leg.action) e in
+        let p = wait_late y w (dwell_of y.leg.action) e in
+        let k = ap key_of e in
+        let from : d ≤ dwell_of y.leg.action = omega (arith, k, l) in
+        beyond (dwell_of y.leg.action) from m.1 p over)
       where
         beyond : (n : ℕ) → d ≤ n → n ≤ path.wait_max → way.halt + n < layout.first + layout.minutes → (path.wait_max < d) ⊎ (layout.first + layout.minutes ≤ way.halt + d) → ⊥
         beyond n from most p (inl o) = omega arith

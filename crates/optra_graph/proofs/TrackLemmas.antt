@@ -77,9 +77,9 @@ module _ (net : Net) (path : Path) (layout : Layout) (setting : IsSetting net pa
   pub skip_track : (steps : List Step) (t : TrackId) → (MayUse net t path.kind → ⊥) → AreStepsBelow net path layout s (bound_of t.0 0) steps → AreStepsBelow net path layout s (bound_of (t.0 + 1) 0) steps
   skip_track steps t none h = skip_steps net path layout setting s placed (bound_of t.0 0) (bound_of (t.0 + 1) 0) steps (omega arith) h
       (λ y w a b.
-          let q = key_track net path layout setting s placed y w in
-          let same : y.leg.track.0 ≡ t.0 = omega (arith, q.0, q.1, a, b) in
-          none (subst (λ x. MayUse net x path.kind) (track_same y.leg.track t same) w.move.may_use))
+      let q = key_track net path layout setting s placed y w in
+      let same : y.leg.track.0 ≡ t.0 = omega (arith, q.0, q.1, a, b) in
+      none (subst (λ x. MayUse net x path.kind) (track_same y.leg.track t same) w.move.may_use))
 
   pub next_track : (steps : List Step) (t : ℕ) → AreStepsBelow net path layout s (bound_of t 4) steps → AreStepsBelow net path layout s (bound_of (t + 1) 0) steps
   next_track steps t h = let e : bound_of t 4 ≡ bound_of (t + 1) 0 = omega arith in subst (λ n. AreStepsBelow net path layout s n steps) e h

@@ -98,7 +98,7 @@ tail_leaves tracks s t e = by (slice_get tracks t.0) e
     by None e = cc
     by (Some x) e = let same : x.tail ≡ s = cc in let n : x.tail.0 ≡ s.0 = ap (λ (y : StationId). y.0) same in eq-eqb x.tail.0 s.0 n
 
-contains_filter : {X : Type 0} (p : X → Bool) (xs : List X) (x : X) (k : ℕ) → k < length xs → get_or xs k x ≡ x → p x ≡ true → Contains (filter p xs) x
+pub contains_filter : {X : Type 0} (p : X → Bool) (xs : List X) (x : X) (k : ℕ) → k < length xs → get_or xs k x ≡ x → p x ≡ true → Contains (filter p xs) x
 contains_filter p [] x k l e q = absurd (omega arith)
 contains_filter {X = X} p (y ∷ ys) x zero l e q = subst (λ (b : Bool). Contains (cond b (y ∷ filter p ys) (filter p ys)) x) (sym (ap p e ∙ q)) (0, omega arith, e)
 contains_filter {X = X} p (y ∷ ys) x (suc k) l e q = by (p y) (contains_filter p ys x k (omega arith) e q)

@@ -56,3 +56,20 @@ pub record IsKept (net : Net) (path : Path) (layout : Layout) (flags : List Bool
       → (to : ℕ) × IsStep net path layout (state_of layout place) (record { leg = leg; to = to }) × IsSet flags to
   pub from : (place : ℕ) → IsSet flags place → IsStartPlace path layout place ⊎ IsSteppedTo net path layout flags place
   pub goes_on : (place : ℕ) → place < places_of layout → IsSet flags place → (step : Step) × IsStep net path layout (state_of layout place) step × IsSet flags step.to
+
+-- the flags while the places before one are gone over
+pub record IsReachedTo (net : Net) (path : Path) (layout : Layout) (before : ℕ) (flags : List Bool) : Type 0 where
+  pub len : length flags ≡ places_of layout + 1
+  pub starts : (m : ℕ) → IsWithin path.depart.from path.depart.to m → IsPlaced layout (start_state path m) → IsSet flags (place_of layout (start_state path m))
+  pub closed : (place : ℕ) (step : Step) → place < before → place < places_of layout → IsSet flags place → IsStep net path layout (state_of layout place) step → IsSet flags step.to
+  pub from : (place : ℕ) → IsSet flags place → IsStartPlace path layout place ⊎ IsSteppedTo net path layout flags place
+
+-- the flags while the places from one on are trimmed
+pub record IsTrimmedTo (net : Net) (path : Path) (layout : Layout) (left : ℕ) (reached flags : List Bool) : Type 0 where
+  pub len : length flags ≡ length reached
+  pub few : left ≤ places_of layout
+  pub below : (place : ℕ) → place < left → is_set flags place ≡ is_set reached place
+  pub end : is_set flags (places_of layout) ≡ is_set reached (places_of layout)
+  pub only : (place : ℕ) → IsSet flags place → IsSet reached place
+  pub goes_on : (place : ℕ) → left ≤ place → place < places_of layout → IsSet flags place → (step : Step) × IsStep net path layout (state_of layout place) step × IsSet flags step.to
+  pub whole : (place : ℕ) (step : Step) → left ≤ place → place < places_of layout → IsSet reached place → IsStep net path layout (state_of layout place) step → IsSet flags step.to → IsSet flags place

@@ -1,5 +1,5 @@
 -- The steps of a state: its legs in order, each with the place that it leads to.
-use Rattle.std.specs.Prelude.{◌≡◌, ℕ, ◌+◌, ◌*◌, ◌<◌, ◌≤◌, ◌⊎◌, true, List, length, slice_index_or, All, Contains, Some, Option}
+use Rattle.std.specs.Prelude.{◌≡◌, ℕ, ◌+◌, ◌*◌, ◌<◌, ◌≤◌, ◌⊎◌, true, false, List, length, slice_index_or, All, Contains, Some, Option}
 use Rattle.std.specs.List.{AllPairs}
 use Rattle.optra_network.specs.Net.{Net, MayUse}
 use Rattle.optra_network.specs.declared.TrackId.{TrackId}
@@ -78,3 +78,7 @@ pub record IsWay (net : Net) (path : Path) (s : State) (way : Way) : Type 0 wher
 pub record IsSplit (tracks : List TrackId) (index n : ℕ) : Type 0 where
   pub early : (k : ℕ) (d : TrackId) → k < index → k < length tracks → (slice_index_or tracks k d).0 < n
   pub late : (k : ℕ) (d : TrackId) → index ≤ k → k < length tracks → n ≤ (slice_index_or tracks k d).0
+
+-- what is read beyond a list of steps
+abbrev pub no_step : Step
+no_step = record { leg = record { track = record { 0 = 0 }; depart = 0; from_halt = false; action = Pass }; to = 0 }

@@ -1,5 +1,5 @@
 //! Which states come into walks: those that are reached from a start and lead on to the end.
-ghost use Rattle.std.specs.Prelude.{◌≡◌, ℕ, ◌+◌, ◌-◌, ◌<◌, ◌≤◌, length, min, IfOk, OnOk, All, count_by};
+ghost use Rattle.std.specs.Prelude.{◌≡◌, ℕ, ◌+◌, ◌-◌, ◌<◌, ◌≤◌, length, min, IfOk, OnOk, All, count_by, nat_eq, slice_set, false, if◌then◌else◌};
 ghost use Rattle.optra_graph.specs.Flags.{is_set, IsSet, IsReached, IsKept, Marks, AreStartsSet};
 ghost use Rattle.optra_graph.specs.Places.{IsPlaced, IsSmall, IsLayout, place_of, places_of};
 ghost use Rattle.optra_graph.specs.Settings.{IsSetting};
@@ -93,14 +93,24 @@ pub fn trim(
         left -= 1;
         if flags[left as usize] {
             fill_steps(net, bid, layout, layout.state(left), steps)?;
-            let on = count_on(flags, steps);
-            if on == 0 {
-                flags[left as usize] = false;
-            }
-            arcs = arcs.saturating_add(on);
+            arcs = arcs.saturating_add(settle(flags, left, steps));
         }
     }
     Ok(arcs)
+}
+
+/// Clears the flag of the place where none of its steps leads to a place whose flag is set, and counts those that do.
+fn settle(flags: &mut Vec<bool>, place: u32, steps: &[Step]) -> usize
+    requires place { place < length flags.old.items }
+    requires steps { All (λ step. step.to < length flags.old.items) steps.now }
+    ensures count { result ≡ count_by (λ step. is_set flags.old.items step.to) steps.now }
+    ensures flags { flags.new.items ≡ (if nat_eq result 0 then slice_set flags.old.items place false else flags.old.items) }
+{
+    let on = count_on(flags, steps);
+    if on == 0 {
+        flags[place as usize] = false;
+    }
+    on
 }
 
 /// How many of the steps lead to a place whose flag is set.

@@ -30,7 +30,7 @@ loop-dwell-preserved c =
     let s = stop_small c.args.net.now c.args.bid.now.path c.args.layout c.requires.setting c.args.state c.requires.placed c.in-Some.stop (sym c.in-Some.ensures) in
     let fits = c.may_halt.ensures.0 c.if-not-may_halt.false in
     let p = halt_push c.args.net.now c.args.bid.now.path c.args.layout c.requires.setting c.args.state c.requires.placed c.args.way c.requires.way c.loop-dwell.steps.items c.in-Some.stop c.loop-dwell.dwell (sym c.in-Some.ensures) fits (omega arith) (omega arith) s.1
-        (halted_at c.args.net.now c.args.bid.now.path c.args.layout c.requires.setting c.args.state c.requires.placed c.args.way c.requires.way c.loop-dwell.dwell s.2 (omega arith)) c.loop-dwell.invariant.below in
+    (halted_at c.args.net.now c.args.bid.now.path c.args.layout c.requires.setting c.args.state c.requires.placed c.args.way c.requires.way c.loop-dwell.dwell s.2 (omega arith)) c.loop-dwell.invariant.below in
     record { few = omega (arith, s.1); below = rw (c.in_ok-push.ensures.items, c.make_step.ensures, c.stand-after.ensures) p }
 
 pub returns : goal.returns

@@ -17,12 +17,15 @@ add_way-requires-clause-before c =
 pub loop-track-preserved : goal.loop-track-preserved
 loop-track-preserved c =
     let split = next_in c.args.net.now c.args.bid.now.path c.args.layout c.requires.setting c.args.state c.requires.placed c.out_tracks-track-items.result.now c.out_tracks-track-items.ensures c.loop-track.track-index c.loop-track.invariant.0 c.loop-track.invariant.1 c.loop-track-test.true in
-    let before = skip_in c.args.net.now c.args.bid.now.path c.args.layout c.requires.setting c.args.state c.requires.placed c.out_tracks-track-items.result.now c.out_tracks-track-items.ensures c.loop-track.steps.items c.loop-track.track-index c.loop-track.invariant.0 c.loop-track.invariant.1 c.loop-track-test.true c.loop-track.invariant.2 in
-    ((get_or c.out_tracks-track-items.result.now c.loop-track.track-index (record { 0 = 0 })).0 + 1, split, elim c.match-find_way.branch [
-      | in-Some+in_ok-add_way w ↦ rw w.steps-is (next_track c.args.net.now c.args.bid.now.path c.args.layout c.requires.setting c.args.state c.requires.placed w.add_way.new.steps.items (get_or c.out_tracks-track-items.result.now c.loop-track.track-index (record { 0 = 0 })).0
-          (subst (λ (t : TrackId). AreStepsBelow c.args.net.now c.args.bid.now.path c.args.layout c.args.state (bound_of t.0 4) w.add_way.new.steps.items) w.in-Some.ensures.0 w.in_ok-add_way.ensures))
-      | in_default w ↦ rw w.steps-is (skip_track c.args.net.now c.args.bid.now.path c.args.layout c.requires.setting c.args.state c.requires.placed c.loop-track.steps.items (get_or c.out_tracks-track-items.result.now c.loop-track.track-index (record { 0 = 0 })) w.in_default.ensures before)
-    ])
+    let before = skip_in c.args.net.now c.args.bid.now.path c.args.layout c.requires.setting c.args.state c.requires.placed c.out_tracks-track-items.result.now c.out_tracks-track-items.ensures c.loop-track.steps.items c.loop-track.track-index c.loop-track.invariant.0 c.loop-track.invariant.1 c.loop-track-test.true c.loop-track.invariant.2 in (
+      (get_or c.out_tracks-track-items.result.now c.loop-track.track-index (record { 0 = 0 })).0 + 1,
+      split,
+      elim c.match-find_way.branch [
+        | in-Some+in_ok-add_way w ↦ rw w.steps-is (next_track c.args.net.now c.args.bid.now.path c.args.layout c.requires.setting c.args.state c.requires.placed w.add_way.new.steps.items (get_or c.out_tracks-track-items.result.now c.loop-track.track-index (record { 0 = 0 })).0
+            (subst (λ (t : TrackId). AreStepsBelow c.args.net.now c.args.bid.now.path c.args.layout c.args.state (bound_of t.0 4) w.add_way.new.steps.items) w.in-Some.ensures.0 w.in_ok-add_way.ensures))
+        | in_default w ↦ rw w.steps-is (skip_track c.args.net.now c.args.bid.now.path c.args.layout c.requires.setting c.args.state c.requires.placed c.loop-track.steps.items (get_or c.out_tracks-track-items.result.now c.loop-track.track-index (record { 0 = 0 })) w.in_default.ensures before)
+      ],
+    )
 
 pub returns : goal.returns
 returns c = all_in c.args.net.now c.args.bid.now.path c.args.layout c.requires.setting c.args.state c.requires.placed c.out_tracks-track-items.result.now c.out_tracks-track-items.ensures c.loop-track.steps.items c.loop-track.track-index c.loop-track.invariant.0 c.loop-track.invariant.1 c.loop-track-test.false c.loop-track.invariant.2
