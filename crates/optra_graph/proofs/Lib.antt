@@ -8,3 +8,4 @@ pub mod WayLemmas
 pub mod TrackLemmas
 pub mod FlagLemmas
 pub mod ReachLemmas
+pub mod NodeLemmas

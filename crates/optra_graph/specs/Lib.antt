@@ -6,5 +6,6 @@ pub mod Places
 pub mod Steps
 pub mod Flags
 pub mod Arcs
+pub mod Graphs
 pub mod Nodes
 pub mod Settings

@@ -1,5 +1,5 @@
 -- The nodes of the places that are kept, which come in the order of the places.
-use Rattle.std.specs.Prelude.{◌≡◌, ℕ, zero, suc, ◌+◌, ◌<◌, Bool, true, false, List, [], ◌∷◌, length, map, slice_index_or}
+use Rattle.std.specs.Prelude.{◌≡◌, ℕ, zero, suc, ◌+◌, ◌<◌, Bool, true, false, List, [], ◌∷◌, length, map, take, slice_index_or}
 use Rattle.optra_graph.specs.declared.states.State.{State}
 use Rattle.optra_graph.specs.declared.states.Layout.{Layout}
 use Rattle.optra_graph.specs.Places.{state_of}
@@ -24,3 +24,7 @@ abbrev pub kept_from : ℕ → List Bool → List ℕ
 kept_from i [] = []
 kept_from i (true ∷ fs) = i ∷ kept_from (suc i) fs
 kept_from i (false ∷ fs) = kept_from (suc i) fs
+
+-- the states of the kept places before place n
+abbrev pub states_of : Layout → ℕ → List Bool → List State
+states_of layout n flags = map (state_of layout) (kept_from 0 (take n flags))
