@@ -134,7 +134,7 @@ kept_some {X = X} p (y ∷ ys) n = by (p y) refl (kept_some p ys)
 pub count_some : {X : Type 0} (p : X → Bool) (xs : List X) → (count_by p xs ≡ 0 → ⊥) → (x : X) × Contains xs x × (p x ≡ true)
 count_some p xs n = kept_some p xs (λ z. n (sym (length-filter p xs) ∙ z))
 
-default_same : {X : Type 0} (xs : List X) (i : ℕ) (d e : X) → i < length xs → get_or xs i d ≡ get_or xs i e
+pub default_same : {X : Type 0} (xs : List X) (i : ℕ) (d e : X) → i < length xs → get_or xs i d ≡ get_or xs i e
 default_same [] i d e l = absurd (omega arith)
 default_same (x ∷ xs) zero d e l = refl
 default_same (x ∷ xs) (suc i) d e l = default_same xs i d e (omega arith)

@@ -9,3 +9,6 @@ pub mod TrackLemmas
 pub mod FlagLemmas
 pub mod ReachLemmas
 pub mod NodeLemmas
+pub mod BlockLemmas
+pub mod ListLemmas
+pub mod EmitLemmas

@@ -126,6 +126,9 @@ module _ (net : Net) (path : Path) (layout : Layout) (setting : IsSetting net pa
   dwell_few leg (Wait d) h e = let m = setting.wait_max in let u = h.1 in omega arith
   dwell_few leg Finish h e = omega arith
 
+  pub dwell_small : (y : Step) → Is y → dwell_of y.leg.action < 256
+  dwell_small y h = dwell_few y.leg y.leg.action h.move.action refl
+
   -- a key gives the track and the action
   pub key_parts : (y : Step) → Is y → (t r : ℕ) → r < 4 → bound_of t r ≤ key_of y.leg → key_of y.leg < bound_of t (r + 1) → (y.leg.track.0 ≡ t) × (rank_of y.leg.action ≡ r)
   key_parts y h t r few l u =

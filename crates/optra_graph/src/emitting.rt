@@ -30,14 +30,15 @@ pub fn add_starts(
     requires ends { length dag.old.ends ≡ node_of flags.now (places_of layout) + 1 }
     requires minutes { minutes.old.items ≡ [] }
     ensures starts { OnOk result (Starts bid.now.path layout flags.now (layout.first + layout.minutes) dag.new.arcs minutes.new.items) }
-    ensures ends { dag.new.ends ≡ dag.old.ends }
+    ensures ends { OnOk result (dag.new.ends ≡ dag.old.ends) }
 {
     for minute in layout.first..starts_end(bid, layout) {
         let place = layout.place(make_start(bid, minute)) as usize;
-        if flags[place] {
-            dag.arc(0, numbers[place])?;
-            minutes.push(minute)?;
+        if !flags[place] {
+            continue;
         }
+        dag.arc(0, numbers[place])?;
+        minutes.push(minute)?;
     }
     Ok(())
 }
@@ -61,13 +62,14 @@ pub fn add_legs(
     requires ends { length dag.old.ends ≡ node_of flags.now (places_of layout) + 1 }
     requires legs { legs.old.items ≡ [] }
     ensures arcs { OnOk result (Emits net.now bid.now.path layout flags.now (places_of layout) dag.old.arcs dag.new.arcs legs.new.items) }
-    ensures ends { dag.new.ends ≡ dag.old.ends }
+    ensures ends { OnOk result (dag.new.ends ≡ dag.old.ends) }
 {
     for place in 0..layout.places() {
-        if flags[place as usize] {
-            fill_steps(net, bid, layout, layout.state(place), steps)?;
-            add_arcs(dag, legs, numbers[place as usize], steps, flags, numbers)?;
+        if !flags[place as usize] {
+            continue;
         }
+        fill_steps(net, bid, layout, layout.state(place), steps)?;
+        add_arcs(dag, legs, numbers[place as usize], steps, flags, numbers)?;
     }
     Ok(())
 }
@@ -89,14 +91,15 @@ fn add_arcs(
     requires room { length dag.old.arcs + length steps.now ≤ 4294967295 }
     ensures arcs { OnOk result (dag.new.arcs ≡ dag.old.arcs ++ map (arc_of flags.now from) (filter (is_kept flags.now) steps.now)) }
     ensures legs { OnOk result (legs.new.items ≡ legs.old.items ++ map leg_of_step (filter (is_kept flags.now) steps.now)) }
-    ensures ends { dag.new.ends ≡ dag.old.ends }
+    ensures ends { OnOk result (dag.new.ends ≡ dag.old.ends) }
 {
     for step in steps {
         let to = step.to as usize;
-        if flags[to] {
-            dag.arc(from, numbers[to])?;
-            legs.push(step.leg)?;
+        if !flags[to] {
+            continue;
         }
+        dag.arc(from, numbers[to])?;
+        legs.push(step.leg)?;
     }
     Ok(())
 }

@@ -25,10 +25,10 @@ loop-place-preserved c =
     let within : c.loop-place.place < length c.loop-place.flags.items = omega (arith, n, l) in
     elim c.if-index.branch [
       | then-index+in_ok-fill_steps w ↦
-        let all : AreSteps c.args.net.now c.args.bid.now.path c.args.layout (state_of c.args.layout c.loop-place.place) w.fill_steps.new.steps.items =
-        subst (λ (s : State). AreSteps c.args.net.now c.args.bid.now.path c.args.layout s w.fill_steps.new.steps.items) w.state.ensures.value w.in_ok-fill_steps.ensures in
-        rw w.flags-is (reached_more c.args.net.now c.args.bid.now.path c.args.layout c.requires c.loop-place.place w.fill_steps.new.steps.items c.loop-place.flags.items w.mark.new.flags.items l
-            (read_flag c.loop-place.flags.items c.loop-place.place c.index.result.now true within c.index.ensures w.if-index.true) all (rw w.deref.ensures.value at w.mark.ensures) c.loop-place.invariant)
+          let all : AreSteps c.args.net.now c.args.bid.now.path c.args.layout (state_of c.args.layout c.loop-place.place) w.fill_steps.new.steps.items =
+          subst (λ (s : State). AreSteps c.args.net.now c.args.bid.now.path c.args.layout s w.fill_steps.new.steps.items) w.state.ensures.value w.in_ok-fill_steps.ensures in
+          rw w.flags-is (reached_more c.args.net.now c.args.bid.now.path c.args.layout c.requires c.loop-place.place w.fill_steps.new.steps.items c.loop-place.flags.items w.mark.new.flags.items l
+          (read_flag c.loop-place.flags.items c.loop-place.place c.index.result.now true within c.index.ensures w.if-index.true) all (rw w.deref.ensures.value at w.mark.ensures) c.loop-place.invariant)
       | else-index w ↦ rw w.flags-is (reached_skip c.args.net.now c.args.bid.now.path c.args.layout c.requires c.loop-place.place c.loop-place.flags.items
           (read_flag c.loop-place.flags.items c.loop-place.place c.index.result.now false within c.index.ensures w.if-index.false) c.loop-place.invariant)
     ]
