@@ -12,3 +12,4 @@ pub mod NodeLemmas
 pub mod BlockLemmas
 pub mod ListLemmas
 pub mod EmitLemmas
+pub mod BoundLemmas

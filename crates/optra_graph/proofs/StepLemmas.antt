@@ -396,11 +396,11 @@ module _ (net : Net) (path : Path) (layout : Layout) (setting : IsSetting net pa
         record { early = omega arith; late = late; done = omega (arith, e); station = omega (arith, by.station, setting.laid.stations) }
 
   -- the dwells of a stop are at most 240, and it is one of the path
-  pub stop_small : (stop : Stop) → slice_get path.stops s.done ≡ Some stop → (stop.min_dwell ≤ stop.max_dwell) × (stop.max_dwell ≤ 240) × (s.done < length path.stops)
+  pub stop_small : (stop : Stop) → slice_get path.stops s.done ≡ Some stop → (stop.min_dwell ≤ stop.max_dwell) × (stop.max_dwell ≤ 240) × (s.done < length path.stops) × (stop.max_dwell - stop.min_dwell ≤ 30)
   stop_small stop at =
       let l = slice_get_within path.stops s.done stop at in
       let is : IsStop stop = subst IsStop (get_or_from_slice_get path.stops s.done stop stop at) (setting.stops s.done stop l) in
-      (is.dwell, is.dwell_max, l)
+      (is.dwell, is.dwell_max, l, is.spread)
 
 -- a dwell that is not below the end of the dwells is too long
 pub dwell_over : (most room arrival d : ℕ) → min (most + 1) (room - arrival) ≤ d → (most < d) ⊎ (room ≤ arrival + d)

@@ -1,7 +1,8 @@
 -- The arcs of a graph while it is made.
-use Rattle.std.specs.Prelude.{◌≡◌, ℕ, ◌+◌, ◌-◌, ◌<◌, ◌≤◌, ◌++◌, Bool, false, List, length, map, filter, slice_index_or, Contains}
+use Rattle.std.specs.Prelude.{◌≡◌, ℕ, zero, suc, ◌+◌, ◌-◌, ◌*◌, ◌<◌, ◌≤◌, ◌⊎◌, ◌++◌, Bool, false, List, length, map, filter, slice_index_or, Contains}
 use Rattle.std.specs.declared.cmp.Ordering.TheVariants.{Less}
-use Rattle.optra_network.specs.Net.{Net}
+use Rattle.optra_network.specs.Net.{Net, out_tracks_of}
+use Rattle.optra_network.specs.declared.Track.{Track}
 use Rattle.optra_bid.specs.Specs.{Path}
 use Rattle.optra_dag.specs.declared.Arc.{Arc}
 use Rattle.optra_dag.specs.Paths.{no_arc}
@@ -66,3 +67,14 @@ pub record Emits (net : Net) (path : Path) (layout : Layout) (flags : List Bool)
       → (k : ℕ) × (length first ≤ k) × (k < length arcs) × IsArcOf flags (length first) arcs legs k place step
   pub ordered : (j k : ℕ) → j < k → k < length arcs → length first ≤ j → (slice_index_or arcs j no_arc).from ≡ (slice_index_or arcs k no_arc).from
       → leg_cmp (slice_index_or legs (j - length first) no_leg) (slice_index_or legs (k - length first) no_leg) ≡ Less
+
+-- how many tracks leave one of the first stations
+abbrev pub out_before : List Track → ℕ → ℕ
+out_before tracks zero = 0
+out_before tracks (suc s) = out_before tracks s + length (out_tracks_of tracks (record { 0 = s }))
+
+-- place p is that of a row and a column, and so far there are at most 63 arcs for each track in each row and in the columns so far
+pub record IsFew (tracks : List Track) (stations place row column count : ℕ) : Type 0 where
+  pub is : place ≡ row * stations + column
+  pub within : (column < stations) ⊎ (column ≡ 0)
+  pub few : count ≤ 63 * (row * length tracks + out_before tracks column)

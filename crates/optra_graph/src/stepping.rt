@@ -1,6 +1,6 @@
 //! The steps of a state, in the order of walks.
 ghost use Rattle.std.specs.Prelude.{◌≡◌, ℕ, ◌+◌, ◌-◌, ◌*◌, ◌<◌, ◌≤◌, length, min, OnOk, MatchOption, Some, slice_get, IsTrue, true, ◌↔◌};
-ghost use Rattle.optra_network.specs.Net.{IsProper, MayUse};
+ghost use Rattle.optra_network.specs.Net.{IsProper, MayUse, out_tracks_of};
 ghost use Rattle.optra_walk.specs.Walks.{tail_of};
 ghost use Rattle.optra_graph.specs.Places.{IsPlaced, IsSmall, place_of};
 ghost use Rattle.optra_graph.specs.Settings.{IsSetting};
@@ -37,7 +37,8 @@ pub fn fill_steps(
 ) -> Result<(), NoMemory>
     requires setting { IsSetting net.now bid.now.path layout }
     requires placed { IsPlaced layout state }
-    ensures { OnOk result (AreSteps net.now bid.now.path layout state steps.new.items) }
+    ensures few { OnOk result (length steps.new.items ≤ 63 * length (out_tracks_of net.now.tracks state.station)) }
+    ensures steps { OnOk result (AreSteps net.now bid.now.path layout state steps.new.items) }
 {
     steps.clear();
     for track in net.out_tracks(state.station) {
@@ -85,7 +86,8 @@ fn add_way(
     requires placed { IsPlaced layout state }
     requires way { IsWay net.now bid.now.path state way }
     requires before { AreStepsBelow net.now bid.now.path layout state (bound_of way.track.0 0) steps.old.items }
-    ensures { OnOk result (AreStepsBelow net.now bid.now.path layout state (bound_of way.track.0 4) steps.new.items) }
+    ensures few { OnOk result (length steps.new.items ≤ length steps.old.items + 63) }
+    ensures steps { OnOk result (AreStepsBelow net.now bid.now.path layout state (bound_of way.track.0 4) steps.new.items) }
 {
     add_pass(net, bid, layout, state, way, steps)?;
     add_halts(net, bid, layout, state, way, steps)?;
@@ -136,7 +138,8 @@ fn add_pass(
     requires placed { IsPlaced layout state }
     requires way { IsWay net.now bid.now.path state way }
     requires before { AreStepsBelow net.now bid.now.path layout state (bound_of way.track.0 0) steps.old.items }
-    ensures { OnOk result (AreStepsBelow net.now bid.now.path layout state (bound_of way.track.0 1) steps.new.items) }
+    ensures few { OnOk result (length steps.new.items ≤ length steps.old.items + 1) }
+    ensures steps { OnOk result (AreStepsBelow net.now bid.now.path layout state (bound_of way.track.0 1) steps.new.items) }
 {
     if way.pass >= layout.first + layout.minutes {
         return Ok(());
@@ -191,7 +194,8 @@ fn add_halts(
     requires placed { IsPlaced layout state }
     requires way { IsWay net.now bid.now.path state way }
     requires before { AreStepsBelow net.now bid.now.path layout state (bound_of way.track.0 1) steps.old.items }
-    ensures { OnOk result (AreStepsBelow net.now bid.now.path layout state (bound_of way.track.0 2) steps.new.items) }
+    ensures few { OnOk result (length steps.new.items ≤ length steps.old.items + 31) }
+    ensures steps { OnOk result (AreStepsBelow net.now bid.now.path layout state (bound_of way.track.0 2) steps.new.items) }
 {
     let Some(stop) = next_stop(bid, state.done) else {
         return Ok(());
@@ -220,7 +224,8 @@ fn add_waits(
     requires placed { IsPlaced layout state }
     requires way { IsWay net.now bid.now.path state way }
     requires before { AreStepsBelow net.now bid.now.path layout state (bound_of way.track.0 2) steps.old.items }
-    ensures { OnOk result (AreStepsBelow net.now bid.now.path layout state (bound_of way.track.0 3) steps.new.items) }
+    ensures few { OnOk result (length steps.new.items ≤ length steps.old.items + 30) }
+    ensures steps { OnOk result (AreStepsBelow net.now bid.now.path layout state (bound_of way.track.0 3) steps.new.items) }
 {
     let before = dwell_end(layout, way.halt, wait_max(bid));
     for dwell in 1..before {
@@ -261,7 +266,8 @@ fn add_finish(
     requires placed { IsPlaced layout state }
     requires way { IsWay net.now bid.now.path state way }
     requires before { AreStepsBelow net.now bid.now.path layout state (bound_of way.track.0 3) steps.old.items }
-    ensures { OnOk result (AreStepsBelow net.now bid.now.path layout state (bound_of way.track.0 4) steps.new.items) }
+    ensures few { OnOk result (length steps.new.items ≤ length steps.old.items + 1) }
+    ensures steps { OnOk result (AreStepsBelow net.now bid.now.path layout state (bound_of way.track.0 4) steps.new.items) }
 {
     if !may_finish(bid, state, way) {
         return Ok(());

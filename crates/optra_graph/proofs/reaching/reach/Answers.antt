@@ -15,7 +15,7 @@ loop-place-init c = reached_start c.args.net.now c.args.bid.now.path c.args.layo
 pub mark-requires : goal.mark-requires
 mark-requires c =
     let all : AreSteps c.args.net.now c.args.bid.now.path c.args.layout (state_of c.args.layout c.loop-place.place) c.fill_steps.new.steps.items =
-    subst (λ (s : State). AreSteps c.args.net.now c.args.bid.now.path c.args.layout s c.fill_steps.new.steps.items) c.state.ensures.value c.in_ok-fill_steps.ensures in
+    subst (λ (s : State). AreSteps c.args.net.now c.args.bid.now.path c.args.layout s c.fill_steps.new.steps.items) c.state.ensures.value c.in_ok-fill_steps.ensures.steps in
     rw c.deref.ensures.value (steps_within c.args.net.now c.args.bid.now.path c.args.layout c.requires c.loop-place.place c.loop-place.flags.items c.fill_steps.new.steps.items (omega (arith, c.places-place-end.ensures.value)) c.loop-place.invariant.len all)
 
 pub loop-place-preserved : goal.loop-place-preserved
@@ -26,7 +26,7 @@ loop-place-preserved c =
     elim c.if-index.branch [
       | then-index+in_ok-fill_steps w ↦
           let all : AreSteps c.args.net.now c.args.bid.now.path c.args.layout (state_of c.args.layout c.loop-place.place) w.fill_steps.new.steps.items =
-          subst (λ (s : State). AreSteps c.args.net.now c.args.bid.now.path c.args.layout s w.fill_steps.new.steps.items) w.state.ensures.value w.in_ok-fill_steps.ensures in
+          subst (λ (s : State). AreSteps c.args.net.now c.args.bid.now.path c.args.layout s w.fill_steps.new.steps.items) w.state.ensures.value w.in_ok-fill_steps.ensures.steps in
           rw w.flags-is (reached_more c.args.net.now c.args.bid.now.path c.args.layout c.requires c.loop-place.place w.fill_steps.new.steps.items c.loop-place.flags.items w.mark.new.flags.items l
           (read_flag c.loop-place.flags.items c.loop-place.place c.index.result.now true within c.index.ensures w.if-index.true) all (rw w.deref.ensures.value at w.mark.ensures) c.loop-place.invariant)
       | else-index w ↦ rw w.flags-is (reached_skip c.args.net.now c.args.bid.now.path c.args.layout c.requires c.loop-place.place c.loop-place.flags.items

@@ -17,7 +17,7 @@ settle-requires-clause-steps c =
     let m = c.requires.reached.len in
     let few = c.loop-left.invariant.few in
     let all : AreSteps c.args.net.now c.args.bid.now.path c.args.layout (state_of c.args.layout (c.loop-left.left - 1)) c.fill_steps.new.steps.items =
-    subst (λ (s : State). AreSteps c.args.net.now c.args.bid.now.path c.args.layout s c.fill_steps.new.steps.items) c.state.ensures.value c.in_ok-fill_steps.ensures in
+    subst (λ (s : State). AreSteps c.args.net.now c.args.bid.now.path c.args.layout s c.fill_steps.new.steps.items) c.state.ensures.value c.in_ok-fill_steps.ensures.steps in
     rw c.deref.ensures.value (steps_within c.args.net.now c.args.bid.now.path c.args.layout c.requires.setting (c.loop-left.left - 1) c.loop-left.flags.items c.fill_steps.new.steps.items (omega (arith, few, c.loop-left-test.true)) (n ∙ m) all)
 
 pub loop-left-preserved-then-index : goal.loop-left-preserved-then-index
@@ -27,7 +27,7 @@ loop-left-preserved-then-index c =
     let few = c.loop-left.invariant.few in
     let l : c.loop-left.left - 1 < places_of c.args.layout = omega (arith, few, c.loop-left-test.true) in
     let all : AreSteps c.args.net.now c.args.bid.now.path c.args.layout (state_of c.args.layout (c.loop-left.left - 1)) c.fill_steps.new.steps.items =
-    subst (λ (s : State). AreSteps c.args.net.now c.args.bid.now.path c.args.layout s c.fill_steps.new.steps.items) c.state.ensures.value c.in_ok-fill_steps.ensures in
+    subst (λ (s : State). AreSteps c.args.net.now c.args.bid.now.path c.args.layout s c.fill_steps.new.steps.items) c.state.ensures.value c.in_ok-fill_steps.ensures.steps in
     let e : c.loop-left.left ≡ c.loop-left.left - 1 + 1 = omega (arith, c.loop-left-test.true) in
     trimmed_more c.args.net.now c.args.bid.now.path c.args.layout c.requires.setting (c.loop-left.left - 1) c.fill_steps.new.steps.items c.args.flags.now.items c.loop-left.flags.items c.settle.new.flags.items c.settle.result l (omega (arith, n, m, l)) all
     (rw c.deref.ensures.value at c.settle.ensures.count) c.settle.ensures.flags
