@@ -66,9 +66,9 @@ leg_less a b h w l = by (cases_lt a.track.0 b.track.0)
     by : (a.track.0 < b.track.0) ⊎ (b.track.0 ≤ a.track.0) → leg_cmp a b ≡ Less
     by (inl m) = ap (λ (o : Ordering). ordering_then o (action_cmp a.action b.action)) (nat_less a.track.0 b.track.0 m)
     by (inr m) =
-        let same : a.track.0 ≡ b.track.0 = omega arith in
+        let same : a.track.0 ≡ b.track.0 = omega (arith, few, m) in
         ap (λ (o : Ordering). ordering_then o (action_cmp a.action b.action)) (subst (λ n. nat_cmp a.track.0 n ≡ Equal) same (nat_same a.track.0))
-        ∙ action_less a.action b.action (omega arith) h w
+        ∙ action_less a.action b.action (omega (arith, same)) h w
 
 -- arcs and legs side by side, the legs after so many start arcs
 abbrev pub Ordered : ℕ → List Arc → List Leg → Type 0

@@ -2,10 +2,11 @@
 use Rattle.std.proofs.Common.{◌≡◌, ℕ, zero, suc, ◌+◌, ◌-◌, ◌*◌, ◌≤◌, ◌<◌, ◌⊎◌, inl, inr, Bool, true, false, cond, List, [], ◌∷◌, ◌++◌, length, get_or, map, filter, refl, sym, ap, ◌∙◌, subst, arith, nat_eq, length-append}
 use Rattle.std.specs.List.{range_with_len}
 use Rattle.std.proofs.lemmas.Bool.{cases_lt}
+use Rattle.std.proofs.Math.Nat.{mul-le-mul_right}
 use Rattle.optra_network.specs.declared.Track.{Track}
 use Rattle.optra_network.specs.Net.{leaves, track_id, out_tracks_of}
 use Rattle.optra_network.proofs.OutLemmas.{out_more}
-use Rattle.optra_graph.specs.Arcs.{out_before}
+use Rattle.optra_graph.specs.Arcs.{out_before, IsFew}
 
 -- how many of the first tracks leave a station
 abbrev leaving : List Track → ℕ → ℕ → ℕ
@@ -57,3 +58,48 @@ out_is tracks (suc s) = ap (λ n. n + leaving tracks s (length tracks)) (out_is 
 -- all tracks leave but one station each
 pub out_few : (tracks : List Track) (s : ℕ) → out_before tracks s ≤ length tracks
 out_few tracks s = let e = out_is tracks s in let h = few_leave tracks s (length tracks) (omega arith) in omega arith
+
+pub few_start : (tracks : List Track) (stations : ℕ) → IsFew tracks stations 0 0 0 0
+few_start tracks stations = record { is = omega arith; within = inr refl; few = omega arith }
+
+-- the column of a place that is there
+pub few_column : (tracks : List Track) (stations place row column count : ℕ) → 0 < stations → IsFew tracks stations place row column count → column < stations
+few_column tracks stations place row column count some h = by h.within
+  where
+    by : (column < stations) ⊎ (column ≡ 0) → column < stations
+    by (inl l) = l
+    by (inr e) = omega arith
+
+pub few_next : (tracks : List Track) (stations place row column count more : ℕ) → column < stations → more ≤ 63 * length (out_tracks_of tracks (record { 0 = column }))
+    → IsFew tracks stations place row column count → (r : ℕ) × (c : ℕ) × IsFew tracks stations (place + 1) r c (count + more)
+few_next tracks stations place row column count more l few h = by (cases_lt (suc column) stations)
+  where
+    by : (suc column < stations) ⊎ (stations ≤ suc column) → (r : ℕ) × (c : ℕ) × IsFew tracks stations (place + 1) r c (count + more)
+    by (inl b) = let e = h.is in let f = h.few in (row, suc column, record { is = omega arith; within = inl b; few = omega arith })
+    by (inr b) =
+        let e = h.is in
+        let f = h.few in
+        let full : suc column ≡ stations = omega arith in
+        let s : suc row * stations ≡ row * stations + stations = omega arith in
+        let t : suc row * length tracks ≡ row * length tracks + length tracks = omega arith in
+        let u = out_few tracks (suc column) in
+        (suc row, 0, record { is = omega arith; within = inr refl; few = omega arith })
+
+-- so arcs always have a number
+pub few_room : (tracks : List Track) (stations rows place row column count more : ℕ) → place < rows * stations → rows ≤ 51822 → length tracks ≤ 1000 → column < stations
+    → more ≤ 63 * length (out_tracks_of tracks (record { 0 = column })) → IsFew tracks stations place row column count → 2880 + count + more ≤ 4294967295
+few_room tracks stations rows place row column count more b small few l m h =
+    let e = h.is in
+    let f = h.few in
+    let u = out_few tracks (suc column) in
+    let r = under in
+    let p : suc row * length tracks ≤ 51822 * length tracks = mul-le-mul_right (length tracks) (omega arith) in
+    let t : suc row * length tracks ≡ row * length tracks + length tracks = omega arith in
+    omega arith
+  where
+    under : row < rows
+    under = by (cases_lt row rows)
+      where
+        by : (row < rows) ⊎ (rows ≤ row) → row < rows
+        by (inl k) = k
+        by (inr k) = let q : rows * stations ≤ row * stations = mul-le-mul_right stations k in let e = h.is in absurd (omega arith)

@@ -13,3 +13,4 @@ pub mod BlockLemmas
 pub mod ListLemmas
 pub mod EmitLemmas
 pub mod BoundLemmas
+pub mod LegLemmas
