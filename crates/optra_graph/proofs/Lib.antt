@@ -14,3 +14,5 @@ pub mod ListLemmas
 pub mod EmitLemmas
 pub mod BoundLemmas
 pub mod LegLemmas
+pub mod GraphLemmas
+pub mod TimedLemmas

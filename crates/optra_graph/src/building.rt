@@ -109,5 +109,6 @@ fn emit(
     dag.reserve(arcs as u32)?;
     let mut legs = Vec::with_capacity(alloc, arcs)?;
     add_legs(net, bid, layout, flags, numbers, &mut dag, &mut legs, steps)?;
+    let _arcs = dag.arcs();
     Ok(TimeGraph { dag, minutes, legs })
 }
