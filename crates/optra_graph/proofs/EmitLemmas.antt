@@ -1,5 +1,5 @@
 -- The start arcs.
-use Rattle.std.proofs.Common.{◌≡◌, ℕ, ◌+◌, ◌≤◌, ◌<◌, ◌⊎◌, inl, inr, Bool, true, false, List, [], ◌∷◌, ◌++◌, length, map, get_or, refl, sym, ap, ◌∙◌, subst, arith, All, length-append, true≢false}
+use Rattle.std.proofs.Common.{◌≡◌, ℕ, zero, suc, ◌+◌, ◌-◌, ◌≤◌, ◌<◌, ◌⊎◌, inl, inr, Bool, true, false, List, [], ◌∷◌, ◌++◌, length, map, get_or, refl, sym, ap, ◌∙◌, subst, arith, All, length-append, true≢false}
 use Rattle.std.proofs.lemmas.List.{get_or_append_left, get_or-map, length-map, map-append}
 use Rattle.std.proofs.Math.Seq.{get_or-append_seam}
 use Rattle.std.proofs.lemmas.Bool.{cases_lt}
@@ -85,3 +85,18 @@ module _ (path : Path) (layout : Layout) (flags : List Bool) where
   starts_from before arcs minutes h k d l =
       let n = ap length h.made ∙ length-map minutes (start_arc path layout flags) in
       ap (λ (xs : List Arc). (get_or xs k d).from) h.made ∙ ap (λ (a : Arc). a.from) (get_or-map (start_arc path layout flags) minutes k 0 d (omega (arith, n)))
+
+  -- there are no more of them than minutes
+  pub starts_few : (end : ℕ) (arcs : List Arc) (minutes : List ℕ) → layout.first ≡ path.depart.from → end ≡ layout.first + layout.minutes → Made end arcs minutes → length arcs ≤ layout.minutes
+  starts_few end arcs minutes e f h = let n = ap length h.made ∙ length-map minutes (start_arc path layout flags) in by (cases_lt 0 (length minutes)) n
+    where
+      least : (k : ℕ) → k < length minutes → layout.first + k ≤ get_or minutes k 0
+      least zero l = let w = (h.sound 0 l).0.within.0 in omega arith
+      least (suc k) l = let w = least k (omega arith) in let u = h.rising k (suc k) (omega arith) l in omega arith
+
+      by : (0 < length minutes) ⊎ (length minutes ≤ 0) → length arcs ≡ length minutes → length arcs ≤ layout.minutes
+      by (inl l) n =
+          let w = least (length minutes - 1) (omega arith) in
+          let u = (h.sound (length minutes - 1) (omega arith)).1 in
+          omega arith
+      by (inr l) n = omega arith

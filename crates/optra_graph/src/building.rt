@@ -106,7 +106,7 @@ fn emit(
     dag.set_end(end);
     let mut minutes = Vec::new(alloc);
     add_starts(net, bid, layout, flags, numbers, &mut dag, &mut minutes)?;
-    dag.reserve(arcs as u32)?;
+    dag.reserve(arcs)?;
     let mut legs = Vec::with_capacity(alloc, arcs)?;
     add_legs(net, bid, layout, flags, numbers, &mut dag, &mut legs, steps)?;
     let _arcs = dag.arcs();

@@ -1,7 +1,8 @@
 //! States of a train under way, and their places in one dense numbering.
 ghost use Rattle.std.specs.Prelude.{◌≡◌, ℕ, ◌+◌, ◌-◌, ◌*◌, ◌<◌, ◌≤◌, length};
-ghost use Rattle.optra_network.specs.Net.{IsProper};
-ghost use Rattle.optra_graph.specs.Places.{place_of, slot_of, state_of, places_of, IsPlaced, IsLayout, IsSmall};
+ghost use Rattle.optra_network.specs.Net.{IsStation};
+ghost use Rattle.optra_graph.specs.Places.{place_of, slot_of, state_of, places_of, IsPlaced, IsSmall};
+ghost use Rattle.optra_graph.specs.Settings.{IsSetting};
 
 use optra_bid::Bid;
 use optra_network::{Minute, Network, StationId};
@@ -27,8 +28,8 @@ pub struct Layout {
 
 /// The states that a walk of the bid may come through: they depart before the end of the arrival window.
 pub fn make_layout(net: &Network, bid: &Bid) -> Layout
-    ensures layout { IsLayout net.now bid.now.path result }
-    ensures small { IsSmall result }
+    requires { IsStation net.now bid.now.path.origin }
+    ensures { IsSetting net.now bid.now.path result }
 {
     let first = bid.path.depart.from;
     Layout {
