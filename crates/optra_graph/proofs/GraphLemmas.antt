@@ -357,5 +357,5 @@ module _ (net : Net) (path : Path) (t : Timed) (states : List State) (h : IsTime
     begins = begins_of;
     trimmed = trimmed_of;
     listed = listed_of;
-    laid_out = record { arcs = h.count; starts = h.start_from; others = h.start_only };
+    laid_out = record { forward = h.forward; arcs = h.count; starts = h.start_from; others = h.start_only };
   }

@@ -16,3 +16,4 @@ pub mod BoundLemmas
 pub mod LegLemmas
 pub mod GraphLemmas
 pub mod TimedLemmas
+pub mod RouteLemmas

@@ -6,7 +6,7 @@ use Rattle.std.specs.declared.cmp.Ordering.TheVariants.{Less}
 use Rattle.std.specs.Cmp.Lexicographic.{slice_cmp}
 use Rattle.optra_network.specs.Net.{Net}
 use Rattle.optra_bid.specs.Specs.{Path}
-use Rattle.optra_dag.specs.Paths.{Graph, IsPath, from_of}
+use Rattle.optra_dag.specs.Paths.{Graph, IsForward, IsPath, from_of}
 use Rattle.optra_walk.specs.declared.Action.TheVariants.{Pass}
 use Rattle.optra_walk.specs.declared.Leg.{Leg}
 use Rattle.optra_walk.specs.Walks.{IsWalk}
@@ -25,8 +25,9 @@ pub record Timed : Type 0 where
   pub minutes : List ℕ
   pub legs : List Leg
 
--- the arcs that leave the start are the start arcs, and each other arc has a leg
+-- arcs lead forward, those that leave the start are the start arcs, and each other arc has a leg
 pub record IsLaidOut (t : Timed) : Type 0 where
+  pub forward : IsForward t.dag
   pub arcs : length t.dag.arcs ≡ length t.minutes + length t.legs
   pub starts : (k : ℕ) → k < length t.minutes → from_of t.dag k ≡ 0
   pub others : (k : ℕ) → k < length t.dag.arcs → from_of t.dag k ≡ 0 → k < length t.minutes

@@ -64,12 +64,15 @@ impl TimeGraph {
         requires { IsRoute self.now path.now }
         ensures { IfOk result (λ walk. walk ≡ walk_of self.now path.now) }
     {
+        let starts = self.minutes.len();
         let mut legs = Vec::new(alloc);
         legs.reserve_exact(path.len())?;
         for arc in path {
-            if let Some(leg) = self.leg(*arc) {
-                legs.push(leg)?;
+            let arc = *arc as usize;
+            if arc < starts {
+                continue;
             }
+            legs.push(self.legs[arc - starts])?;
         }
         Ok(Walk { legs })
     }
