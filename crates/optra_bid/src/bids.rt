@@ -1,6 +1,6 @@
-//! Bids.
+//! Bids: what a train asks for, what it pays, and how both are checked.
 ghost use Rattle.std.specs.Prelude.{◌≡◌, ◌++◌, [], ◌∷◌, ◌↔◌, IfOk, OnOk, OnErr, IsTrue, ◌≤◌, true};
-ghost use Rattle.optra_bid.specs.Bids.{in_order, are_minutes, are_rates, window_of, money_from};
+ghost use Rattle.optra_bid.specs.Bids.{are_in_order, are_three_minutes, are_rates, window_of, money_from};
 ghost use Rattle.optra_bid.specs.Specs.{AreBounds, IsWindow, IsMoney};
 
 use crate::names::Name;
@@ -9,14 +9,35 @@ use optra_network::{Cents, NoMemory, StationId, TypeId};
 use std::alloc::Global;
 use std::marker::Model;
 
+/// The last minute of the two planned days.
+const LAST_MINUTE: u64 = 2_879;
+/// The greatest base, in cents.
+const MOST_BASE: u64 = 1_000_000_000;
+/// The greatest rate, in cents a minute.
+const MOST_RATE: u64 = 1_000_000;
+/// The greatest `wait_max`, in minutes.
+const MOST_WAIT: u64 = 30;
+/// The greatest dwell of a stop, in minutes.
+const MOST_DWELL: u64 = 240;
+/// The greatest difference between a stop's dwells, in minutes.
+const MOST_SPREAD: u64 = 30;
+/// The most stops of a bid.
+const MOST_STOPS: usize = 8;
+
+/// What a train asks for: its type, its ends, when it departs and arrives, and where it stops.
+/// Stops are made in the order of the list.
 #[derive(Drop)]
 pub struct PathSpec {
     pub kind: TypeId,
     pub origin: StationId,
     pub destination: StationId,
+    /// The minutes at which the first leg may depart, and the ideal one.
     pub depart: Window,
+    /// The minutes at which the last leg may arrive, and the ideal one.
     pub arrive: Window,
+    /// The greatest dwell of a wait, 0 to 30 minutes.
     pub wait_max: u16,
+    /// At most eight stops.
     pub stops: Vec<Stop>,
 }
 
@@ -36,6 +57,8 @@ impl Model for PathSpec {
     } };
 }
 
+/// A bid for one train: a name, a bidder, a path specification and what is paid for it.
+/// Every bid keeps the bounds that [`Bid::checked`] and [`Bid::add_stop`] test.
 #[derive(Drop)]
 pub struct Bid {
     pub name: Name,
@@ -46,23 +69,33 @@ pub struct Bid {
 }
 
 impl Bid {
-    ghost use Rattle.optra_bid.specs.Bids.{FollowsRule, bid_refusal, stop_refusal, path_of, money_of, stop_of};
+    ghost use Rattle.optra_bid.specs.Bids.{FollowsBidRule, bid_refusal, stop_refusal, path_of, money_of, stop_of};
 
+    /// A bid without stops. The refusals are tested in this order:
+    ///
+    /// - `Ends`, where origin and destination are the same station;
+    /// - `Window`, where `from <= ideal <= to` fails for the departure or the arrival;
+    /// - `Range`, where a minute is above 2,879, the base above 1,000,000,000 cents, a rate above
+    ///   1,000,000 cents a minute, or `wait_max` above 30 minutes.
+    ///
+    /// On a refusal the names are dropped.
     pub fn checked(alloc: Global, name: Name, bidder: Name, raw: &RawBid) -> Result<Bid, BidFault>
-        ensures rule { FollowsRule (bid_refusal raw.now) result }
-        ensures ok { IfOk result (λ bid. (bid.name ≡ name) × (bid.bidder ≡ bidder) × (bid.path ≡ path_of raw.now) × (bid.money ≡ money_of raw.now)) }
+        ensures rule { FollowsBidRule (bid_refusal raw.now) result }
+        ensures names { IfOk result (λ bid. (bid.name ≡ name) × (bid.bidder ≡ bidder)) }
+        ensures path { IfOk result (λ bid. bid.path ≡ path_of raw.now) }
+        ensures money { IfOk result (λ bid. bid.money ≡ money_of raw.now) }
     {
         if raw.origin == raw.destination {
             return Err(BidFault::Refused(BidRefusal::Ends));
         }
-        if !in_order(raw.depart) || !in_order(raw.arrive) {
+        if !are_in_order(raw.depart) || !are_in_order(raw.arrive) {
             return Err(BidFault::Refused(BidRefusal::Window));
         }
-        if !are_minutes(raw.depart)
-            || !are_minutes(raw.arrive)
-            || raw.base > 1_000_000_000
+        if !are_three_minutes(raw.depart)
+            || !are_three_minutes(raw.arrive)
+            || raw.base > MOST_BASE
             || !are_rates(raw.rates)
-            || raw.wait_max > 30
+            || raw.wait_max > MOST_WAIT
         {
             return Err(BidFault::Refused(BidRefusal::Range));
         }
@@ -82,8 +115,16 @@ impl Bid {
         })
     }
 
+    /// Adds a stop after the others. The refusals are tested in this order:
+    ///
+    /// - `Window`, where the arrival's `from <= to` fails;
+    /// - `Range`, where a minute is above 2,879 or a dwell above 240 minutes;
+    /// - `Stops`, where eight stops are there, or `min_dwell > max_dwell`, or
+    ///   `max_dwell - min_dwell > 30`.
+    ///
+    /// A call that fails changes nothing.
     pub fn add_stop(&mut self, raw: &RawStop) -> Result<(), BidFault>
-        ensures rule { FollowsRule (stop_refusal self.old.path raw.now) result }
+        ensures rule { FollowsBidRule (stop_refusal self.old.path raw.now) result }
         ensures ok { OnOk result (self.new.path ≡ record self.old.path { stops = self.old.path.stops ++ stop_of raw.now ∷ [] }) }
         ensures others { (self.new.name ≡ self.old.name) × (self.new.bidder ≡ self.old.bidder) × (self.new.money ≡ self.old.money) }
         ensures err { OnErr result (self.new ≡ self.old) }
@@ -92,12 +133,16 @@ impl Bid {
         if from > to {
             return Err(BidFault::Refused(BidRefusal::Window));
         }
-        if from > 2879 || to > 2879 || raw.min_dwell > 240 || raw.max_dwell > 240 {
+        if from > LAST_MINUTE
+            || to > LAST_MINUTE
+            || raw.min_dwell > MOST_DWELL
+            || raw.max_dwell > MOST_DWELL
+        {
             return Err(BidFault::Refused(BidRefusal::Range));
         }
-        if self.path.stops.len() >= 8
+        if self.path.stops.len() >= MOST_STOPS
             || raw.min_dwell > raw.max_dwell
-            || raw.max_dwell - raw.min_dwell > 30
+            || raw.max_dwell - raw.min_dwell > MOST_SPREAD
         {
             return Err(BidFault::Refused(BidRefusal::Stops));
         }
@@ -113,6 +158,7 @@ impl Bid {
         Ok(())
     }
 
+    /// An equal bid in memory of its own.
     pub fn copied(&self, alloc: Global) -> Result<Bid, NoMemory>
         ensures { IfOk result (λ bid. bid ≡ self.now) }
     {
@@ -134,6 +180,8 @@ impl Bid {
         })
     }
 
+    /// Whether both bids ask for the same: their path specifications are equal, whatever they are
+    /// called and whatever they pay.
     pub fn same_path(&self, other: &Bid) -> bool
         ensures { IsTrue result ↔ (self.now.path ≡ other.now.path) }
     {
@@ -149,38 +197,47 @@ impl Bid {
     }
 }
 
-fn in_order(w: [u64; 3]) -> bool
-    ensures { result ≡ in_order w }
+/// Whether from, ideal and to stand in this order.
+fn are_in_order(minutes: [u64; 3]) -> bool
+    ensures { result ≡ are_in_order minutes }
 {
-    w[0] <= w[1] && w[1] <= w[2]
+    minutes[0] <= minutes[1] && minutes[1] <= minutes[2]
 }
 
-fn are_minutes(w: [u64; 3]) -> bool
-    ensures { result ≡ are_minutes w }
+/// Whether all three are minutes of the two days.
+fn are_three_minutes(minutes: [u64; 3]) -> bool
+    ensures { result ≡ are_three_minutes minutes }
 {
-    w[0] <= 2879 && w[1] <= 2879 && w[2] <= 2879
+    minutes[0] <= LAST_MINUTE && minutes[1] <= LAST_MINUTE && minutes[2] <= LAST_MINUTE
 }
 
-fn are_rates(w: [u64; 6]) -> bool
-    ensures { result ≡ are_rates w }
+/// Whether all six are rates.
+fn are_rates(rates: [u64; 6]) -> bool
+    ensures { result ≡ are_rates rates }
 {
-    let top = 1_000_000;
-    w[0] <= top && w[1] <= top && w[2] <= top && w[3] <= top && w[4] <= top && w[5] <= top
+    rates[0] <= MOST_RATE
+        && rates[1] <= MOST_RATE
+        && rates[2] <= MOST_RATE
+        && rates[3] <= MOST_RATE
+        && rates[4] <= MOST_RATE
+        && rates[5] <= MOST_RATE
 }
 
-fn window(w: [u64; 3]) -> Window
-    requires ordered { in_order w ≡ true }
-    requires minutes { are_minutes w ≡ true }
-    ensures value { result ≡ window_of w }
+/// A window from its three minutes.
+fn window(minutes: [u64; 3]) -> Window
+    requires ordered { are_in_order minutes ≡ true }
+    requires minutes { are_three_minutes minutes ≡ true }
+    ensures value { result ≡ window_of minutes }
     ensures window { IsWindow result }
 {
     Window {
-        from: w[0] as u16,
-        ideal: w[1] as u16,
-        to: w[2] as u16,
+        from: minutes[0] as u16,
+        ideal: minutes[1] as u16,
+        to: minutes[2] as u16,
     }
 }
 
+/// What is paid, from the base and the six rates.
 fn money(base: u64, rates: [u64; 6]) -> Money
     requires base { base ≤ 1000000000 }
     requires rates { are_rates rates ≡ true }
@@ -198,6 +255,7 @@ fn money(base: u64, rates: [u64; 6]) -> Money
     }
 }
 
+/// Whether two lists of stops are equal.
 fn same_stops(a: &[Stop], b: &[Stop]) -> bool
     ensures { IsTrue result ↔ (a.now ≡ b.now) }
 {

@@ -1,11 +1,17 @@
--- Names in a set of texts, and in the list of their bytes.
-use Rattle.std.proofs.Common.{◌≡◌, ℕ, ◌+◌, Bool, true, false, cond, not, nat_lt, ◌||◌, List, [], ◌∷◌, ◌++◌, length, map, position, Some, None, Option, refl, sym, ap, ◌∙◌, string_bytes, String, arith, is_some, bytes_eq, if◌then◌else◌}
+-- Names in a set of texts and in the list of their bytes, and lists of names that all differ.
+use Rattle.std.proofs.Common.{◌≡◌, ◌≢◌, ◌≤◌, ◌&&◌, ℕ, ◌+◌, Bool, true, false, cond, not, nat_lt, ◌||◌, List, [], ◌∷◌, ◌++◌, length, map, position, Some, None, refl, sym, ap, ◌∙◌, string_bytes, String, arith, is_some, bytes_eq, if◌then◌else◌, IsTrue, subst, true≢false}
+use Rattle.std.proofs.lemmas.List.Elements.{All-push}
+use Rattle.std.proofs.lemmas.List.Quantifiers.{all_pairs_push}
+use Rattle.std.proofs.lemmas.List.Folds.{list_any_at}
+use Rattle.std.proofs.lemmas.Slice.Eq.{bytes_eq-Decides}
+use Rattle.std.proofs.lemmas.Str.{is_utf8-from_IsUtf8}
+use Rattle.std.proofs.lemmas.Bool.{le-leb}
+use Rattle.std.specs.Str.{IsUtf8}
 use Rattle.std.specs.List.{position_or_len, list_any}
 use Rattle.std.proofs.lemmas.List.{length-map, map_push}
 use Rattle.std.specs.String.{string_eq}
 use Rattle.indexmap.specs.IndexSet.{insert_key}
-use Rattle.std.proofs.lemmas.Grind.{common_steps}
-use Rattle.optra_network.specs.Names.{place_of, texts}
+use Rattle.optra_network.specs.Names.{AllDiffer, AreNames, is_name, is_plain, place_of, texts}
 
 position_or_len-map : {X Y : Type 0} (f : X → Y) (p : Y → Bool) (xs : List X) → position_or_len p (map f xs) ≡ position_or_len (λ x. p (f x)) xs
 position_or_len-map f p [] = refl
@@ -33,3 +39,22 @@ module _ {A : Type 0} where
       let absent : list_any (string_eq t) ks ≡ false =
       sym (list_any-position (string_eq t) ks) ∙ ap is_some (sym (position-map string_bytes (bytes_eq (string_bytes t)) ks) ∙ (λ i. place_of (same i) (texts ks)) ∙ none) in
       ap texts (e ∙ ap (λ b. if b then ks else ks ++ t ∷ []) absent) ∙ map_push string_bytes ks t ∙ ap (λ n. texts ks ++ n ∷ []) same
+
+-- an element that a test tells apart from all others, after a list whose elements all differ
+pub AllDiffer-push : {X : Type 0} (test : X → X → Bool) (same : (x : X) → test x x ≡ true) (xs : List X) (y : X)
+    → AllDiffer xs → list_any (test y) xs ≡ false → AllDiffer (xs ++ y ∷ [])
+AllDiffer-push {X} test same xs y apart absent =
+    all_pairs_push (λ (a b : X). a ≢ b) xs y apart
+    (λ k d l e. true≢false (sym (list_any_at (test y) xs k d l (subst (λ (a : X). test y a ≡ true) (sym e) (same y))) ∙ absent))
+
+-- one more name
+pub AreNames-push : (names : List (List ℕ)) (name : List ℕ) → AreNames names → IsTrue (is_name name) → place_of name names ≡ None → AreNames (names ++ name ∷ [])
+AreNames-push names name a is absent = record {
+  each = All-push (λ (n : List ℕ). IsTrue (is_name n)) names name a.each is;
+  differ = AllDiffer-push bytes_eq (λ n. (bytes_eq-Decides n n).1 refl) names name a.differ (sym (list_any-position (bytes_eq name) names) ∙ ap is_some absent);
+}
+
+-- a text of 1 to 64 bytes is a name by its characters
+pub is_name-text : (bytes : List ℕ) → IsUtf8 bytes → 1 ≤ length bytes → length bytes ≤ 64 → is_plain bytes ≡ is_name bytes
+is_name-text bytes text some few =
+    (λ i. sym (le-leb 1 (length bytes) some) i && sym (le-leb (length bytes) 64 few) i && sym (is_utf8-from_IsUtf8 bytes text) i && is_plain bytes)

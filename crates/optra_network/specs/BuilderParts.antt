@@ -2,6 +2,7 @@
 use Rattle.optra_network.specs.Net.{Net}
 use Rattle.optra_network.specs.declared.building.Builder.TheInside.{Inside}
 
+-- the network that the fields are, as far as it is built
 abbrev pub net_of : Inside → Net
 net_of a = record {
   stations = a.stations;

@@ -1,9 +1,9 @@
 -- What contracts see of a network.
-use Rattle.std.specs.Prelude.{◌≡◌, length, map}
-use Rattle.optra_network.specs.Net.{Net, IsProper, HoldsOut}
+use Rattle.optra_network.specs.Net.{Net, IsProper}
 use Rattle.optra_network.specs.Tables.{AreTables}
 use Rattle.optra_network.specs.declared.finished.Network.TheInside.{Inside}
 
+-- the network that the fields are
 abbrev pub net_of : Inside → Net
 net_of a = record {
   stations = a.stations;
@@ -17,5 +17,4 @@ net_of a = record {
 -- what a network keeps, and what it holds ready
 pub record IsKept (a : Inside) : Type 0 where
   pub proper : IsProper (net_of a)
-  pub out : HoldsOut a.tracks.items (length a.stations) (map (λ v. v.items) a.out.items)
   pub tables : AreTables (net_of a) a.tables

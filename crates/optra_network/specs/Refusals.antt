@@ -1,6 +1,5 @@
--- When a builder refuses a call.
-use Rattle.std.specs.Prelude.{◌≡◌, ℕ, ◌+◌, ◌≤◌, ◌<◌, false, ◌&&◌, ◌||◌, not, nat_le, nat_eq, Bool, List, [], ◌∷◌, ◌++◌, length, slice_index, Option, None, Some, is_some, is_none, Result, Ok, Err, MatchResult, if◌then◌else◌, ⊤}
-use Rattle.std.specs.List.{list_all, list_any}
+-- When a builder refuses a call, in which order, and what an accepted call adds.
+use Rattle.std.specs.Prelude.{◌≡◌, ℕ, false, ◌&&◌, ◌||◌, not, nat_le, nat_eq, Bool, List, [], ◌∷◌, ◌++◌, length, slice_index, Option, None, Some, is_some, is_none, Result, MatchResult, if◌then◌else◌, ⊤}
 use Rattle.std.specs.Option.{option_map, option_and_then}
 use Rattle.optra_network.specs.declared.StationId.{StationId}
 use Rattle.optra_network.specs.declared.TrackId.{TrackId}
@@ -32,17 +31,21 @@ abbrev pub IsFinishFault : Net → NetFault → Type 0
 IsFinishFault net (Refused why) = (why ≡ MissingHeadway) × (HasAllHeadways net → ⊥)
 IsFinishFault net NoMemory = ⊤
 
+-- a station: too many, then a taken name
 abbrev pub station_refusal : Net → List ℕ → Option NetRefusal
 station_refusal net name = first_of ((nat_le 300 (length net.stations), TooMany) ∷ (is_some (place_of name net.stations), TakenName) ∷ [])
 
+-- a type: too many, then a taken name
 abbrev pub type_refusal : Net → List ℕ → Option NetRefusal
 type_refusal net name = first_of ((nat_le 16 (length net.types), TooMany) ∷ (is_some (place_of name net.types), TakenName) ∷ [])
 
+-- whether two places are there and the same
 abbrev pub same_place : Option ℕ → Option ℕ → Bool
 same_place (Some a) (Some b) = nat_eq a b
 same_place (Some a) None = false
 same_place None b = false
 
+-- a track: too many, then a taken name, then an unknown station, then one station at both ends
 abbrev pub track_refusal : Net → List ℕ → List ℕ → List ℕ → Option NetRefusal
 track_refusal net name from to =
     first_of (
@@ -52,24 +55,28 @@ track_refusal net name from to =
     ∷ (same_place (place_of from net.stations) (place_of to net.stations), SelfLoop)
     ∷ [])
 
--- the place of a name as an id
+-- the track of a name
 abbrev pub track_named : Net → List ℕ → Option TrackId
 track_named net name = option_map (λ n. record { 0 = n }) (place_of name net.track_names)
 
+-- the type of a name
 abbrev pub type_named : Net → List ℕ → Option TypeId
 type_named net name = option_map (λ n. record { 0 = n }) (place_of name net.types)
 
+-- the station of a name
 abbrev pub station_named : Net → List ℕ → Option StationId
 station_named net name = option_map (λ n. record { 0 = n }) (place_of name net.stations)
 
+-- whether a number is of a range, both ends included
 abbrev pub is_from_to : ℕ → ℕ → ℕ → Bool
 is_from_to low high n = nat_le low n && nat_le n high
 
--- four running times
+-- whether four running times are 1 to 240 minutes
 abbrev pub are_minutes : List ℕ → Bool
 are_minutes times =
     is_from_to 1 240 (slice_index times 0) && is_from_to 1 240 (slice_index times 1) && is_from_to 1 240 (slice_index times 2) && is_from_to 1 240 (slice_index times 3)
 
+-- running times: an unknown track or type, then a time out of range, then a row that is there already
 abbrev pub running_refusal : Net → List ℕ → List ℕ → List ℕ → Option NetRefusal
 running_refusal net track kind times =
     first_of (
@@ -78,6 +85,7 @@ running_refusal net track kind times =
     ∷ (is_some (option_and_then (λ t. option_and_then (λ k. times_of net t k) (type_named net kind)) (track_named net track)), Repeated)
     ∷ [])
 
+-- a headway: an unknown track or type, then minutes out of range, then a row that is there already
 abbrev pub headway_refusal : Net → List ℕ → List ℕ → List ℕ → ℕ → Option NetRefusal
 headway_refusal net track first second minutes =
     first_of (
@@ -90,16 +98,18 @@ headway_refusal net track first second minutes =
 abbrev pub times_from : List ℕ → Times
 times_from times = record { pass_pass = slice_index times 0; pass_halt = slice_index times 1; halt_pass = slice_index times 2; halt_halt = slice_index times 3 }
 
--- the network after a call that is accepted; None where a name is not there
+-- the network with these running times; none where a name is not there
 abbrev pub after_running : Net → List ℕ → List ℕ → List ℕ → Option Net
 after_running net track kind times =
     option_and_then (λ t. option_map (λ k. record net { running = net.running ++ ((t, k), times_from times) ∷ [] }) (place_of kind net.types)) (place_of track net.track_names)
 
+-- the network with this headway; none where a name is not there
 abbrev pub after_headway : Net → List ℕ → List ℕ → List ℕ → ℕ → Option Net
 after_headway net track first second minutes =
     option_and_then (λ t. option_and_then (λ a. option_map (λ b. record net { headways = net.headways ++ ((t, a, b), minutes) ∷ [] })
     (place_of second net.types)) (place_of first net.types)) (place_of track net.track_names)
 
+-- the network with this track; none where a station is not there
 abbrev pub after_track : Net → List ℕ → List ℕ → List ℕ → Option Net
 after_track net name from to =
     option_and_then (λ a. option_map (λ b. record net { track_names = net.track_names ++ name ∷ []; tracks = net.tracks ++ record { tail = record { 0 = a }; head = record { 0 = b } } ∷ [] })

@@ -1,18 +1,20 @@
 //! Makes a network step by step.
 ghost use Rattle.std.specs.Prelude.{◌≡◌, ℕ, ◌+◌, ◌<◌, ◌≤◌, ◌↔◌, ◌≢◌, [], ◌∷◌, ◌++◌, length, OnOk, OnErr, IfOk, IfErr, IsTrue, Some, None, true, map};
-ghost use Rattle.optra_network.specs.Names.{place_of};
-ghost use Rattle.optra_network.specs.Gaps.{type_id, lesser, hmin_or_0, gap_or_0};
-ghost use Rattle.optra_network.specs.Near.{is_pair, is_near, near_of, least_table, gap_table, near_table};
-ghost use Rattle.optra_network.specs.Net.{IsProper, track_id, gap_to, empty_net, HasAllHeadways, HoldsOut, has_gap, out_tracks_of};
+ghost use Rattle.optra_network.specs.Names.{is_name};
+ghost use Rattle.optra_network.specs.Net.{empty_net, HasAllHeadways};
 ghost use Rattle.optra_network.specs.Refusals.{IsFinishFault, is_from_to, are_minutes, FollowsRule, station_refusal, type_refusal, track_refusal, after_track, running_refusal, after_running, headway_refusal, after_headway};
 
-use crate::finished::{Network, Tables, is_apart};
+use crate::finished::Network;
 use crate::names::Names;
 use crate::{NetFault, NetRefusal, NoMemory, StationId, Times, Track, TrackId, TypeId};
 use indexmap::IndexMap;
 use std::alloc::Global;
 use std::marker::Model;
 
+mod finishing;
+
+/// A network in the making. Each call names what is there already. A refused call, or one that finds no memory, leaves
+/// the builder as it was.
 #[derive(Drop)]
 pub struct Builder {
     stations: Names,
@@ -36,6 +38,7 @@ impl Model for Builder {
 }
 
 impl Builder {
+    /// A builder of a network with nothing in it, which keeps the allocator.
     pub fn new(alloc: Global) -> Result<Builder, NoMemory>
         ensures { IfOk result (λ net. net ≡ empty_net) }
     {
@@ -49,7 +52,10 @@ impl Builder {
         })
     }
 
+    /// Adds a station, whose id is the next position. The name is a name, which `is_name` tests.
+    /// Refusals, in this order: TooMany where 300 stations are there, TakenName where a station has the name.
     pub fn station(&mut self, name: &str) -> Result<StationId, NetFault>
+        requires { IsTrue (is_name name.now) }
         ensures rule { FollowsRule (station_refusal self.old name.now) result }
         ensures ok { OnOk result (self.new ≡ record self.old { stations = self.old.stations ++ name.now ∷ [] }) }
         ensures id { IfOk result (λ id. id.0 ≡ length self.old.stations) }
@@ -66,7 +72,10 @@ impl Builder {
         Ok(StationId(count as u16))
     }
 
+    /// Adds a train type, whose id is the next position. The name is a name, which `is_name` tests.
+    /// Refusals, in this order: TooMany where 16 types are there, TakenName where a type has the name.
     pub fn train_type(&mut self, name: &str) -> Result<TypeId, NetFault>
+        requires { IsTrue (is_name name.now) }
         ensures rule { FollowsRule (type_refusal self.old name.now) result }
         ensures ok { OnOk result (self.new ≡ record self.old { types = self.old.types ++ name.now ∷ [] }) }
         ensures id { IfOk result (λ id. id.0 ≡ length self.old.types) }
@@ -83,7 +92,12 @@ impl Builder {
         Ok(TypeId(count as u16))
     }
 
+    /// Adds a track from one station to another, whose id is the next position. Its own name is a name, which `is_name`
+    /// tests; the two stations may be any text.
+    /// Refusals, in this order: TooMany where 1,000 tracks are there, TakenName where a track has the name, UnknownName
+    /// where a station isn't there, SelfLoop where both ends are one station.
     pub fn track(&mut self, name: &str, from: &str, to: &str) -> Result<TrackId, NetFault>
+        requires { IsTrue (is_name name.now) }
         ensures rule { FollowsRule (track_refusal self.old name.now from.now to.now) result }
         ensures ok { OnOk result (after_track self.old name.now from.now to.now ≡ Some self.new) }
         ensures id { IfOk result (λ id. id.0 ≡ length self.old.tracks) }
@@ -113,6 +127,10 @@ impl Builder {
         Ok(TrackId(count as u16))
     }
 
+    /// Lets a type use a track and gives its four running times in minutes: from a pass to a pass, from a pass to a
+    /// halt, from a halt to a pass, and from a halt to a halt.
+    /// Refusals, in this order: UnknownName where the track or the type isn't there, Range where a time isn't 1 to 240,
+    /// Repeated where the type has running times on the track.
     pub fn running(&mut self, track: &str, kind: &str, times: [u64; 4]) -> Result<(), NetFault>
         ensures rule { FollowsRule (running_refusal self.old track.now kind.now times) result }
         ensures ok { OnOk result (after_running self.old track.now kind.now times ≡ Some self.new) }
@@ -138,6 +156,10 @@ impl Builder {
         Ok(())
     }
 
+    /// Gives the minutes that a train of the second type keeps after one of the first on a track. A type has a headway
+    /// to itself too.
+    /// Refusals, in this order: UnknownName where the track or a type isn't there, Range where the minutes aren't 1 to
+    /// 120, Repeated where the track has a headway for the two types in this order.
     pub fn headway(
         &mut self,
         track: &str,
@@ -167,16 +189,19 @@ impl Builder {
         Ok(())
     }
 
+    /// The network that was built. MissingHeadway exactly where two types that may both use a track, or one type and
+    /// itself, have no headway on it in one of the two orders. On a refusal nothing is handed back.
     pub fn finish(self) -> Result<Network, NetFault>
-        ensures ok { IfOk result (λ net. (net ≡ self) × HasAllHeadways self) }
+        ensures same { IfOk result (λ net. net ≡ self) }
+        ensures complete { OnOk result (HasAllHeadways self) }
         ensures err { IfErr result (IsFinishFault self) }
     {
-        if !self.has_all_headways() {
+        let alloc = *self.tracks.allocator();
+        let rows = self.rows(alloc)?;
+        if !self.has_all_headways(&rows) {
             return Err(NetFault::Refused(NetRefusal::MissingHeadway));
         }
-        let alloc = *self.tracks.allocator();
-        let out = out_lists(alloc, &self.tracks, self.stations.len())?;
-        let tables = self.tables(alloc)?;
+        let tables = self.tables(alloc, rows)?;
         let Builder {
             stations,
             track_names,
@@ -192,242 +217,9 @@ impl Builder {
             types,
             running,
             headways,
-            out,
             tables,
         })
     }
-
-    fn has_all_headways(&self) -> bool
-        ensures { IsTrue result ↔ HasAllHeadways self.now }
-    {
-        for t in 0..self.tracks.len() {
-            if !self.has_headways_on(t as u16) {
-                return false;
-            }
-        }
-        true
-    }
-
-    fn has_headways_on(&self, t: u16) -> bool
-        ensures { IsTrue result ↔ ((a b : ℕ) → a < length self.now.types → b < length self.now.types → has_gap self.now t a b ≡ true) }
-    {
-        for a in 0..self.types.len() {
-            if !self.has_headways_after(t, a as u16) {
-                return false;
-            }
-        }
-        true
-    }
-
-    fn has_headways_after(&self, t: u16, a: u16) -> bool
-        ensures { IsTrue result ↔ ((b : ℕ) → b < length self.now.types → has_gap self.now t a b ≡ true) }
-    {
-        for b in 0..self.types.len() {
-            if !self.has_headway(t, a, b as u16) {
-                return false;
-            }
-        }
-        true
-    }
-
-    fn has_headway(&self, t: u16, a: u16, b: u16) -> bool
-        ensures { result ≡ has_gap self.now t a b }
-    {
-        if !self.running.contains_key(&(t, a)) {
-            return true;
-        }
-        if !self.running.contains_key(&(t, b)) {
-            return true;
-        }
-        self.headways.contains_key(&(t, a, b))
-    }
-}
-
-impl Builder {
-    ghost use Rattle.optra_network.specs.Tables.{AreTables};
-
-    /// The least headway after a type, over the types that may use the track; 0 where it may not itself.
-    fn least(&self, track: u16, kind: u16) -> u16
-        ensures { result ≡ hmin_or_0 self.now (track_id track) (type_id kind) }
-    {
-        if !self.running.contains_key(&(track, kind)) {
-            return 0;
-        }
-        let mut least = None;
-        for other in 0..self.types.len() {
-            least = lesser(least, self.gap_to(track, kind, other as u16));
-        }
-        least.unwrap_or(0)
-    }
-
-    fn gap_to(&self, track: u16, kind: u16, other: u16) -> Option<u16>
-        ensures { result ≡ gap_to self.now (track_id track) (type_id kind) (type_id other) }
-    {
-        if self.running.contains_key(&(track, other)) {
-            self.headways.get(&(track, kind, other)).copied()
-        } else {
-            None
-        }
-    }
-
-    fn gap(&self, track: u16, first: u16, second: u16) -> u16
-        ensures { result ≡ gap_or_0 self.now (track_id track) (type_id first) (type_id second) }
-    {
-        self.headways
-            .get(&(track, first, second))
-            .copied()
-            .unwrap_or(0)
-    }
-
-    fn tables(&self, alloc: Global) -> Result<Tables, NoMemory>
-        requires proper { IsProper self.now }
-        ensures { IfOk result (AreTables self.now) }
-    {
-        let leasts = self.leasts(alloc)?;
-        let gaps = self.gaps(alloc)?;
-        let near = self.near(alloc, &leasts, &gaps)?;
-        Ok(Tables { leasts, gaps, near })
-    }
-
-    fn leasts(&self, alloc: Global) -> Result<Vec<u16>, NoMemory>
-        ensures { IfOk result (λ v. v.items ≡ least_table self.now) }
-    {
-        let mut leasts = Vec::new(alloc);
-        for n in 0..self.tracks.len() * 16 {
-            leasts.push(self.least((n / 16) as u16, (n % 16) as u16))?;
-        }
-        Ok(leasts)
-    }
-
-    fn gaps(&self, alloc: Global) -> Result<Vec<u16>, NoMemory>
-        ensures { IfOk result (λ v. v.items ≡ gap_table self.now) }
-    {
-        let mut gaps = Vec::new(alloc);
-        for n in 0..self.tracks.len() * 256 {
-            gaps.push(self.gap((n / 256) as u16, (n / 16 % 16) as u16, (n % 16) as u16))?;
-        }
-        Ok(gaps)
-    }
-
-    fn near(&self, alloc: Global, leasts: &[u16], gaps: &[u16]) -> Result<Vec<Vec<u16>>, NoMemory>
-        requires proper { IsProper self.now }
-        requires leasts { leasts.now ≡ least_table self.now }
-        requires gaps { gaps.now ≡ gap_table self.now }
-        ensures { IfOk result (λ v. map (λ codes. codes.items) v.items ≡ near_table self.now) }
-    {
-        let mut near = Vec::new(alloc);
-        for n in 0..self.tracks.len() * 16 {
-            near.push(self.codes(alloc, leasts, gaps, (n / 16) as u16, (n % 16) as u16)?)?;
-        }
-        Ok(near)
-    }
-
-    /// The codes of the pairs with a type.
-    fn codes(
-        &self,
-        alloc: Global,
-        leasts: &[u16],
-        gaps: &[u16],
-        track: u16,
-        kind: u16,
-    ) -> Result<Vec<u16>, NoMemory>
-        requires proper { IsProper self.now }
-        requires leasts { leasts.now ≡ least_table self.now }
-        requires gaps { gaps.now ≡ gap_table self.now }
-        requires track { track < length self.now.tracks }
-        requires kind { kind < 16 }
-        ensures { IfOk result (λ v. v.items ≡ near_of self.now (track_id track) (type_id kind)) }
-    {
-        let mut codes = Vec::new(alloc);
-        for code in 0..3840u16 {
-            if self.is_near(leasts, gaps, track, kind, code) {
-                codes.push(code)?;
-            }
-        }
-        Ok(codes)
-    }
-
-    fn is_near(&self, leasts: &[u16], gaps: &[u16], track: u16, kind: u16, code: u16) -> bool
-        requires proper { IsProper self.now }
-        requires leasts { leasts.now ≡ least_table self.now }
-        requires gaps { gaps.now ≡ gap_table self.now }
-        requires track { track < length self.now.tracks }
-        requires kind { kind < 16 }
-        requires code { code < 3840 }
-        ensures { result ≡ is_near self.now (track_id track) (type_id kind) code }
-    {
-        if code < 1920 {
-            self.is_pair(leasts, gaps, track, code / 16, code % 16, 120, kind)
-        } else {
-            self.is_pair(leasts, gaps, track, 120, kind, code / 16, code % 16)
-        }
-    }
-
-    fn is_pair(
-        &self,
-        leasts: &[u16],
-        gaps: &[u16],
-        track: u16,
-        t: u16,
-        a: u16,
-        u: u16,
-        b: u16,
-    ) -> bool
-        requires proper { IsProper self.now }
-        requires leasts { leasts.now ≡ least_table self.now }
-        requires gaps { gaps.now ≡ gap_table self.now }
-        requires track { track < length self.now.tracks }
-        requires a { a < 16 }
-        requires b { b < 16 }
-        requires t { t < 240 }
-        ensures { result ≡ is_pair self.now (track_id track) t (type_id a) u (type_id b) }
-    {
-        let row = track as usize * 16;
-        let first = leasts[row + a as usize];
-        let second = leasts[row + b as usize];
-        let gap = gaps[(row + a as usize) * 16 + b as usize];
-        is_apart(first, second, gap, t, u)
-    }
-}
-
-fn lesser(a: Option<u16>, b: Option<u16>) -> Option<u16>
-    ensures { result ≡ lesser a b }
-{
-    match (a, b) {
-        (Some(a), Some(b)) => Some(a.min(b)),
-        (Some(a), None) => Some(a),
-        (None, b) => b,
-    }
-}
-
-/// The tracks that leave each station.
-fn out_lists(
-    alloc: Global,
-    tracks: &[Track],
-    stations: usize,
-) -> Result<Vec<Vec<TrackId>>, NoMemory>
-    requires many { length tracks.now ≤ 1000 }
-    requires few { stations ≤ 300 }
-    ensures { IfOk result (λ out. HoldsOut tracks.now stations (map (λ v. v.items) out.items)) }
-{
-    let mut out = Vec::new(alloc);
-    for s in 0..stations {
-        out.push(out_of(alloc, tracks, StationId(s as u16))?)?;
-    }
-    Ok(out)
-}
-
-fn out_of(alloc: Global, tracks: &[Track], station: StationId) -> Result<Vec<TrackId>, NoMemory>
-    requires { length tracks.now ≤ 1000 }
-    ensures { IfOk result (λ out. out.items ≡ out_tracks_of tracks.now station) }
-{
-    let mut out = Vec::new(alloc);
-    for i in 0..tracks.len() {
-        if tracks[i].tail.0 == station.0 {
-            out.push(TrackId(i as u16))?;
-        }
-    }
-    Ok(out)
 }
 
 /// Whether each number is 1 to 240.

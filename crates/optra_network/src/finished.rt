@@ -1,18 +1,18 @@
-//! A finished network.
-ghost use Rattle.std.specs.Prelude.{◌≡◌, ◌≢◌, ℕ, ◌+◌, ◌<◌, ◌≤◌, ◌↔◌, [], ◌∷◌, ◌++◌, length, IsTrue, IfSome, IsSome, IsNone, Some, None, slice_get, slice_index};
-ghost use Rattle.std.specs.Option.{option_map, option_copied};
-ghost use Rattle.optra_network.specs.Names.{place_of};
-ghost use Rattle.optra_network.specs.Gaps.{hmin_of, hmin_or_0, gap_or_0};
-ghost use Rattle.optra_network.specs.Near.{is_apart, near_of};
-ghost use Rattle.optra_network.specs.Net.{times_of, headway_of, minutes_by, out_tracks_of, MayUse, IsProper};
+//! A finished network, its look-ups, and when two uses of tracks are in conflict.
+ghost use Rattle.std.specs.Prelude.{◌≡◌, ◌+◌, ◌<◌, ◌≤◌, ◌↔◌, length, All, IfSome, IsTrue, MatchBool, Some, slice_get};
+ghost use Rattle.std.specs.Option.{option_map};
+ghost use Rattle.optra_network.specs.Headways.{hmin_of};
+ghost use Rattle.optra_network.specs.Net.{times_of, headway_of, minutes_by, out_tracks_of, IsFromTo, MayUse, IsProper, IsStation, IsTrack, IsKind};
 ghost use Rattle.optra_network.specs.Refusals.{station_named, track_named, type_named};
 ghost use Rattle.optra_network.specs.Conflict.{AreCompatible, KeepsHeadway};
 
+use crate::dense::{Tables, above_zero};
 use crate::names::Names;
 use crate::{StationId, Times, Track, TrackId, TrackUse, TypeId};
 use indexmap::IndexMap;
 use std::marker::Model;
 
+/// A network, which `Builder::finish` makes and which never changes. Ids are positions from 0. No call takes memory.
 #[derive(Drop)]
 pub struct Network {
     pub(crate) stations: Names,
@@ -21,19 +21,8 @@ pub struct Network {
     pub(crate) types: Names,
     pub(crate) running: IndexMap<(u16, u16), Times>,
     pub(crate) headways: IndexMap<(u16, u16, u16), u16>,
-    pub(crate) out: Vec<Vec<TrackId>>,
+    /// All that is held ready for look-ups. The invariant ties it to the other fields.
     pub(crate) tables: Tables,
-}
-
-/// What is held ready of the headways.
-#[derive(Drop)]
-pub(crate) struct Tables {
-    /// By track and type, sixteen a track.
-    pub(crate) leasts: Vec<u16>,
-    /// By track, first and second type.
-    pub(crate) gaps: Vec<u16>,
-    /// By track and type.
-    pub(crate) near: Vec<Vec<u16>>,
 }
 
 impl Model for Network {
@@ -49,46 +38,62 @@ impl Model for Network {
 }
 
 impl Network {
+    /// The running time in minutes, 1 to 240, from a halt or a pass at the tail to a halt or a pass at the head. None
+    /// exactly where the type may not use the track, so also for a track or a type that isn't there.
     pub fn run(&self, track: TrackId, kind: TypeId, from_halt: bool, to_halt: bool) -> Option<u16>
-        ensures { result ≡ option_map (minutes_by from_halt to_halt) (times_of self.now track kind) }
+        ensures minutes { result ≡ option_map (minutes_by from_halt to_halt) (times_of self.now track kind) }
+        ensures range { IfSome result (IsFromTo 1 240) }
     {
-        let times = self.running.get(&(track.0, kind.0))?;
-        Some(match (from_halt, to_halt) {
-            (false, false) => times.pass_pass,
-            (false, true) => times.pass_halt,
-            (true, false) => times.halt_pass,
-            (true, true) => times.halt_halt,
-        })
+        let times = self.tables.rows.times(track, kind);
+        above_zero(minutes(times, from_halt, to_halt))
     }
 
+    /// The headway in minutes, 1 to 120, that a train of the second type keeps after one of the first type on the
+    /// track. None exactly where no row gave one, so also for a track or a type that isn't there.
     pub fn headway(&self, track: TrackId, first: TypeId, second: TypeId) -> Option<u16>
-        ensures { result ≡ headway_of self.now track first second }
+        ensures minutes { result ≡ headway_of self.now track first second }
+        ensures range { IfSome result (IsFromTo 1 120) }
     {
-        self.headways.get(&(track.0, first.0, second.0)).copied()
+        above_zero(self.tables.rows.headway(track, first, second))
     }
 
+    /// The least headway after the type in minutes, 1 to 120, over the types that may use the track. None exactly
+    /// where the type may not use the track, so also for a track or a type that isn't there.
+    pub fn hmin(&self, track: TrackId, kind: TypeId) -> Option<u16>
+        ensures minutes { result ≡ hmin_of self.now track kind }
+        ensures range { IfSome result (IsFromTo 1 120) }
+    {
+        above_zero(self.tables.least(track, kind))
+    }
+
+    /// The station that the track leads from.
     pub fn tail(&self, track: TrackId) -> StationId
-        requires { track.0 < length self.now.tracks }
-        ensures { option_map (λ t. t.tail) (slice_get self.now.tracks track.0) ≡ Some result }
+        requires { IsTrack self.now track }
+        ensures tail { option_map (λ t. t.tail) (slice_get self.now.tracks track.0) ≡ Some result }
+        ensures there { IsStation self.now result }
     {
         self.tracks[track.0 as usize].tail
     }
 
+    /// The station that the track leads to.
     pub fn head(&self, track: TrackId) -> StationId
-        requires { track.0 < length self.now.tracks }
-        ensures { option_map (λ t. t.head) (slice_get self.now.tracks track.0) ≡ Some result }
+        requires { IsTrack self.now track }
+        ensures head { option_map (λ t. t.head) (slice_get self.now.tracks track.0) ≡ Some result }
+        ensures there { IsStation self.now result }
     {
         self.tracks[track.0 as usize].head
     }
 
-    /// The tracks that leave the station, by track position.
+    /// The tracks that lead from the station, by track position.
     pub fn out_tracks(&self, station: StationId) -> &[TrackId]
-        requires { station.0 < length self.now.stations }
-        ensures { result.now ≡ out_tracks_of self.now.tracks station }
+        requires { IsStation self.now station }
+        ensures tracks { result.now ≡ out_tracks_of self.now.tracks station }
+        ensures there { All (IsTrack self.now) result.now }
     {
-        &self.out[station.0 as usize]
+        self.tables.out.of(station)
     }
 
+    /// How many stations there are, at most 300.
     pub fn station_count(&self) -> u16
         ensures count { result ≡ length self.now.stations }
         ensures proper { IsProper self.now }
@@ -96,6 +101,7 @@ impl Network {
         self.stations.len() as u16
     }
 
+    /// How many tracks there are, at most 1,000.
     pub fn track_count(&self) -> u16
         ensures count { result ≡ length self.now.tracks }
         ensures proper { IsProper self.now }
@@ -103,6 +109,7 @@ impl Network {
         self.tracks.len() as u16
     }
 
+    /// How many train types there are, at most 16.
     pub fn type_count(&self) -> u16
         ensures count { result ≡ length self.now.types }
         ensures proper { IsProper self.now }
@@ -110,73 +117,67 @@ impl Network {
         self.types.len() as u16
     }
 
+    /// The station of the name. None exactly where no station has it.
     pub fn station_id(&self, name: &str) -> Option<StationId>
-        ensures { result ≡ station_named self.now name.now }
+        ensures id { result ≡ station_named self.now name.now }
+        ensures there { IfSome result (IsStation self.now) }
     {
-        let place = self.stations.place(name)?;
-        Some(StationId(place as u16))
+        self.stations
+            .place(name)
+            .map(|place| StationId(place as u16))
     }
 
+    /// The track of the name. None exactly where no track has it.
     pub fn track_id(&self, name: &str) -> Option<TrackId>
-        ensures { result ≡ track_named self.now name.now }
+        ensures id { result ≡ track_named self.now name.now }
+        ensures there { IfSome result (IsTrack self.now) }
     {
         self.track_names
             .place(name)
             .map(|place| TrackId(place as u16))
     }
 
+    /// The train type of the name. None exactly where no type has it.
+    pub fn type_id(&self, name: &str) -> Option<TypeId>
+        ensures id { result ≡ type_named self.now name.now }
+        ensures there { IfSome result (IsKind self.now) }
+    {
+        self.types.place(name).map(|place| TypeId(place as u16))
+    }
+
+    /// The station's name.
     pub fn station_name(&self, id: StationId) -> &str
-        requires { id.0 < length self.now.stations }
+        requires { IsStation self.now id }
         ensures { slice_get self.now.stations id.0 ≡ Some result.now }
     {
         self.stations.name(id.0 as usize)
     }
 
-    /// The least headway after the type, over the types that may use the track.
-    pub fn hmin(&self, track: TrackId, kind: TypeId) -> Option<u16>
-        requires track { track.0 < length self.now.tracks }
-        requires kind { kind.0 < length self.now.types }
-        ensures { result ≡ hmin_of self.now track kind }
+    /// The track's name.
+    pub fn track_name(&self, id: TrackId) -> &str
+        requires { IsTrack self.now id }
+        ensures { slice_get self.now.track_names id.0 ≡ Some result.now }
     {
-        let least = self.tables.leasts[track.0 as usize * 16 + kind.0 as usize];
-        if least == 0 { None } else { Some(least) }
+        self.track_names.name(id.0 as usize)
     }
 
-    /// The same, and 0 where the type may not use the track.
-    pub fn least(&self, track: TrackId, kind: TypeId) -> u16
-        requires track { track.0 < length self.now.tracks }
-        requires kind { kind.0 < 16 }
-        ensures value { result ≡ hmin_or_0 self.now track kind }
-        ensures proper { IsProper self.now }
+    /// The train type's name.
+    pub fn type_name(&self, id: TypeId) -> &str
+        requires { IsKind self.now id }
+        ensures { slice_get self.now.types id.0 ≡ Some result.now }
     {
-        self.tables.leasts[track.0 as usize * 16 + kind.0 as usize]
-    }
-
-    /// The headway, and 0 where there is none.
-    pub fn gap(&self, track: TrackId, first: TypeId, second: TypeId) -> u16
-        requires track { track.0 < length self.now.tracks }
-        requires first { first.0 < 16 }
-        requires second { second.0 < 16 }
-        ensures value { result ≡ gap_or_0 self.now track first second }
-    {
-        self.tables.gaps[(track.0 as usize * 16 + first.0 as usize) * 16 + second.0 as usize]
-    }
-
-    /// The codes of the pairs with the type, ascending.
-    pub fn near(&self, track: TrackId, kind: TypeId) -> &[u16]
-        requires track { track.0 < length self.now.tracks }
-        requires kind { kind.0 < 16 }
-        ensures { result.now ≡ near_of self.now track kind }
-    {
-        &self.tables.near[track.0 as usize * 16 + kind.0 as usize]
+        self.types.name(id.0 as usize)
     }
 }
 
-/// Whether two uses are in conflict.
+/// Whether two uses are in conflict: they are on one track, and neither departs at least its headway after the other.
+/// Each of the two types may use the track of its use, which is the caller's condition. No triangle rule between
+/// headways is assumed, so the uses of a timetable are free of conflict only where every two of them are. This is the
+/// packing form of Borndörfer and Schlechte, "Models for Railway Track Allocation" (2007).
 pub fn conflict(net: &Network, a: TrackUse, b: TrackUse) -> bool
     requires a_may { MayUse net.now a.track a.kind }
     requires b_may { MayUse net.now b.track b.kind }
-    ensures { IsTrue result ↔ ¬ AreCompatible net.now a b }
+    ensures { MatchBool result (¬ AreCompatible net.now a b) (AreCompatible net.now a b) }
 {
     a.track == b.track && !keeps_headway(net, a, b) && !keeps_headway(net, b, a)
 }
@@ -191,13 +192,14 @@ fn keeps_headway(net: &Network, a: TrackUse, b: TrackUse) -> bool
     }
 }
 
-/// Whether two types, the first of which departs earlier, share no window minute and are in conflict all the same.
-pub fn is_apart(first: u16, second: u16, gap: u16, t: u16, u: u16) -> bool
-    ensures { result ≡ is_apart first second gap t u }
+/// The minutes by the modes at the two ends.
+fn minutes(times: Times, from_halt: bool, to_halt: bool) -> u16
+    ensures { result ≡ minutes_by from_halt to_halt times }
 {
-    if first == 0 || second == 0 {
-        return false;
+    match (from_halt, to_halt) {
+        (false, false) => times.pass_pass,
+        (false, true) => times.pass_halt,
+        (true, false) => times.halt_pass,
+        (true, true) => times.halt_halt,
     }
-    let (t, u) = (u32::from(t), u32::from(u));
-    t + u32::from(first) <= u && u < t + u32::from(gap)
 }

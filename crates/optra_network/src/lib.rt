@@ -1,33 +1,42 @@
 //! A railway network: stations, tracks, train types, running times and headways.
+//!
+//! A `Builder` takes the parts one by one and refuses what breaks a rule. `Builder::finish` makes a `Network`, which
+//! never changes and answers each look-up of the planner from dense tables. `conflict` compares two uses of tracks.
 #![tactic(auto)]
 
-ghost use Rattle.std.specs.Prelude.{◌≡◌, ℕ, ◌+◌, ◌<◌, ◌≤◌, ◌↔◌, ◌≢◌, List, [], ◌∷◌, ◌++◌, length, map, OnOk, OnErr, IfOk, IfErr, IsErrOf, IsTrue, IfSome, IsSome, slice_get, Some, None};
-ghost use Rattle.std.specs.Option.{option_map, option_copied};
-ghost use Rattle.optra_network.specs.Names.{place_of};
-
+mod building;
+mod dense;
 mod finished;
 mod names;
 
-use indexmap::IndexMap;
-use names::Names;
-use std::alloc::{AllocError, AllocFailed, Global};
-use std::marker::Model;
+pub use building::Builder;
+pub use finished::{Network, conflict};
+pub use names::is_name;
+use std::alloc::{AllocError, AllocFailed};
+use thiserror::Error;
 
+/// Memory couldn't be had. It is the one answer that says nothing of the input.
 pub type NoMemory = AllocError;
 
+/// A time in whole minutes, 0 to 2,879.
 pub type Minute = u16;
 
+/// Money in whole cents.
 pub type Cents = i64;
 
+/// A station of a network: its position from 0, in the order of the builder's calls.
 #[derive(Clone, Copy, Debug, PartialEq, Eq, PartialOrd, Ord, Hash)]
 pub struct StationId(pub u16);
 
+/// A track of a network: its position from 0, in the order of the builder's calls.
 #[derive(Clone, Copy, Debug, PartialEq, Eq, PartialOrd, Ord, Hash)]
 pub struct TrackId(pub u16);
 
+/// A train type of a network: its position from 0, in the order of the builder's calls.
 #[derive(Clone, Copy, Debug, PartialEq, Eq, PartialOrd, Ord, Hash)]
 pub struct TypeId(pub u16);
 
+/// The use of a track: a train of the type departs on the track at the time.
 #[derive(Clone, Copy, Debug, PartialEq, Eq)]
 pub struct TrackUse {
     pub track: TrackId,
@@ -35,14 +44,16 @@ pub struct TrackUse {
     pub time: Minute,
 }
 
-/// The ends of a track.
+/// The ends of a track, two different stations. No call takes or gives it: it stands in what contracts see of a
+/// network, so it is public.
 #[derive(Clone, Copy, Debug, PartialEq, Eq)]
 pub struct Track {
     pub tail: StationId,
     pub head: StationId,
 }
 
-/// Running times by the modes at the tail and at the head.
+/// The minutes that a type takes on a track, each 1 to 240, by the mode at the tail and then the mode at the head.
+/// No call takes or gives it: it stands in what contracts see of a network, so it is public.
 #[derive(Clone, Copy, Debug, PartialEq, Eq)]
 pub struct Times {
     pub pass_pass: u16,
@@ -51,20 +62,41 @@ pub struct Times {
     pub halt_halt: u16,
 }
 
-#[derive(Clone, Copy, Debug, PartialEq, Eq)]
+/// Why a builder refuses a call. A refused call changes nothing.
+#[derive(Clone, Copy, Debug, PartialEq, Eq, Error)]
 pub enum NetRefusal {
+    /// Another station, another track or another type already has the name. The three name spaces are apart.
+    #[error("the name is taken")]
     TakenName,
+    /// A station, a track or a type that is named isn't there.
+    #[error("the name is unknown")]
     UnknownName,
+    /// A running time isn't 1 to 240 minutes, or a headway isn't 1 to 120 minutes.
+    #[error("a number of minutes is out of range")]
     Range,
+    /// A track leads from a station to itself.
+    #[error("the track leads from a station to itself")]
     SelfLoop,
+    /// The track and the type already have running times, or the track and the two types in this order already have a
+    /// headway.
+    #[error("the row is there already")]
     Repeated,
+    /// Two types that may both use a track, or one type and itself, have no headway on it in one of the two orders.
+    #[error("a headway is missing")]
     MissingHeadway,
+    /// 300 stations, 1,000 tracks or 16 types are there already.
+    #[error("there are too many")]
     TooMany,
 }
 
-#[derive(Clone, Copy, Debug, PartialEq, Eq)]
+/// A builder's refusal, or want of memory.
+#[derive(Clone, Copy, Debug, PartialEq, Eq, Error)]
 pub enum NetFault {
+    /// The call breaks a rule.
+    #[error(transparent)]
     Refused(NetRefusal),
+    /// Memory couldn't be had.
+    #[error("out of memory")]
     NoMemory,
 }
 
@@ -89,8 +121,3 @@ impl<T: Drop> From<AllocFailed<T>> for NetFault {
         NetFault::NoMemory
     }
 }
-
-mod building;
-
-pub use building::Builder;
-pub use finished::{Network, conflict};

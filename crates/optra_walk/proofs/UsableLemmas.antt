@@ -16,7 +16,7 @@ use Rattle.optra_walk.specs.Legs.{is_halt, dwell_of, arrival_of}
 use Rattle.optra_walk.specs.Walks.{IsNext, IsWalk, IsEnd, MeetsStop, IsAllowedWait, last_leg}
 use Rattle.optra_walk.specs.Choices.{IsChoice}
 use Rattle.optra_walk.specs.Families.{Entry, IsUsable, entries_of}
-use Rattle.optra_walk.proofs.WalkLemmas.{next_later, arrival_later}
+use Rattle.optra_walk.proofs.WalkLemmas.{arrival_later, rises}
 
 -- what is true of what a filter keeps
 filtered : {X : Type 0} (p : X → Bool) (P : X → Type 0) (xs : List X) → All P (filter p xs) → All (λ x. p x ≡ true → P x) xs
@@ -34,18 +34,6 @@ zipped : {A B : Type 0} (R : A → B → Type 0) (Q : B → Type 0) (P : A → T
 zipped R Q P f [] ys h all = All-nil P
 zipped R Q P f (x ∷ xs) [] h all = absurd h
 zipped R Q P f (x ∷ xs) (y ∷ ys) h all = All-cons P x xs (f x y h.0 (All-head Q y ys all)) (zipped R Q P f xs ys h.1 (All-tail Q y ys all))
-
--- departures rise from any leg on
-pub rises : (net : Net) (kind : TypeId) → IsProper net → (legs : List Leg) (d : Leg) → AllAdjacentBelow (IsNext net kind) legs (length legs)
-    → (k n : ℕ) → k + n < length legs → (get_or legs k d).depart + n ≤ (get_or legs (k + n) d).depart
-rises net kind proper legs d on k zero l = let e = ap (λ (n : ℕ). (get_or legs n d).depart) (add-zero k) in omega arith
-rises net kind proper legs d on k (suc n) l =
-    let before = rises net kind proper legs d on k n (omega arith) in
-    let step = on (k + n) d (omega arith) in
-    let rise = next_later net kind (get_or legs (k + n) d) (get_or legs (k + n + 1) d).depart proper step.time in
-    let at : k + suc n ≡ k + n + 1 = omega arith in
-    let e = ap (λ (n : ℕ). (get_or legs n d).depart) at in
-    omega arith
 
 module _ (net : Net) (proper : IsProper net) (path : Path) (legs : List Leg) (walk : IsWalk net path legs) (day : path.arrive.to ≤ 2879) where
   departs : (last : Leg) → slice_get legs (length legs - 1) ≡ Some last → IsEnd net path last → (k : ℕ) (d : Leg) → k < length legs → (get_or legs k d).depart ≤ 2879

@@ -1,4 +1,4 @@
--- Choices of walks, their conflicts and their revenue.
+-- Choices of walks: their uses, their conflicts and their revenue.
 use Rattle.std.specs.Prelude.{◌≡◌, ◌≢◌, ℕ, ℤ, pos, List, [], ◌∷◌, ◌++◌, map, Option, None, Some, slice_get, IfSome}
 use Rattle.std.specs.Prelude.{◌+ℤ◌, ◌≤ℤ◌}
 use Rattle.std.specs.List.{AllZip}
@@ -11,7 +11,7 @@ use Rattle.optra_walk.specs.Legs.{use_of}
 use Rattle.optra_walk.specs.Walks.{IsWalk}
 use Rattle.optra_walk.specs.Values.{value_of}
 
--- one optional entry for each bid, each a walk of its bid
+-- one entry for each bid, and each entry that is there is a walk of its bid
 abbrev pub IsChoice : Net → List Bid → List (Option (List Leg)) → Type 0
 IsChoice net bids walks = AllZip (λ bid walk. IfSome walk (IsWalk net bid.path)) bids walks
 
@@ -22,14 +22,17 @@ uses_of (bid ∷ bids) [] = []
 uses_of (bid ∷ bids) (None ∷ walks) = uses_of bids walks
 uses_of (bid ∷ bids) (Some legs ∷ walks) = map (use_of bid.path.kind) legs ++ uses_of bids walks
 
--- the uses at every two different places are compatible
+-- the uses at every two different places of the list are compatible, two of one train included
 abbrev pub KeepsHeadways : Net → List TrackUse → Type 0
-KeepsHeadways net uses = (i j : ℕ) (a b : TrackUse) → i ≢ j → slice_get uses i ≡ Some a → slice_get uses j ≡ Some b → AreCompatible net a b
+KeepsHeadways net uses =
+    (i j : ℕ) (a b : TrackUse) → i ≢ j → slice_get uses i ≡ Some a → slice_get uses j ≡ Some b → AreCompatible net a b
 
+-- a choice whose uses keep the headways
 pub record IsConflictFree (net : Net) (bids : List Bid) (walks : List (Option (List Leg))) : Type 0 where
   pub choice : IsChoice net bids walks
   pub headways : KeepsHeadways net (uses_of bids walks)
 
+-- the sum of the values of the walks
 abbrev pub revenue_of : Net → List Bid → List (Option (List Leg)) → ℤ
 revenue_of net [] walks = pos 0
 revenue_of net (bid ∷ bids) [] = pos 0

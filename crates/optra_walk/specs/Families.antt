@@ -10,7 +10,7 @@ use Rattle.optra_walk.specs.Legs.{dwell_of}
 abbrev pub Entry : Type 0
 Entry = TypeId × Leg
 
--- the type may use the track, and the leg departs in the day and dwells at most four hours
+-- the type may use the track, and the leg departs by minute 2,879 and dwells at most 240 minutes
 pub record IsUsable (net : Net) (kind : TypeId) (leg : Leg) : Type 0 where
   pub may_use : MayUse net leg.track kind
   pub depart : leg.depart ≤ 2879
@@ -29,7 +29,7 @@ pub record Rows (R : Type 0) : Type 0 where
   pub capacity : R → ℕ
   pub uses : TypeId → Leg → R → ℕ
 
--- how much of a row the legs use
+-- how much of a row the legs use together
 abbrev pub load_of : {R : Type 0} → Rows R → R → List Entry → ℕ
 load_of rows row entries = sum_by (λ e. rows.uses e.0 e.1 row) entries
 

@@ -57,11 +57,3 @@ pub trait RowFamily {
     ghost rule_by_rows: { (f : Self) (net : Net) (entries : List Entry) → IsProper net → All (λ e. IsUsable net e.0 e.1) entries
         → KeepsRule f net entries ↔ FitRows (rows_of f net) entries };
 }
-
-/// How much of a row the legs use.
-pub fn used<F: RowFamily>(rows: &F, net: &Network, kind: TypeId, leg: Leg, row: F::Row) -> u64
-    requires { IsUsable net.now kind leg }
-    ensures { result ≡ (F.rows_of rows.now net.now).uses kind leg row }
-{
-    u64::from(rows.leg_use(net, kind, leg, row))
-}

@@ -1,15 +1,18 @@
-//! Walks of trains, and choices of walks.
+//! Timed walks of bids: when legs arrive, whether legs are a walk of a bid, what a walk is worth, and how walks are
+//! ordered. Here stand the words that every layer above shares: walk, value, choice, conflict, revenue and optimal.
+//!
+//! No call of this crate takes memory.
 #![tactic(auto)]
 
-ghost use Rattle.std.specs.Prelude.{◌≡◌, ℕ, ◌+◌, ◌≤◌, ◌<◌, ◌↔◌, IsTrue, length};
-
 use optra_bid::Bid;
-use optra_network::{Minute, Network, TrackId, TypeId};
+use optra_network::{Minute, Network, TrackId};
 use std::marker::Model;
 
 mod families;
 mod following;
 mod ordering;
+#[cfg(test)]
+mod tests;
 mod valuing;
 
 pub use families::RowFamily;
@@ -17,22 +20,30 @@ pub use following::{arrival, follows, next_depart};
 pub use ordering::walk_order;
 pub use valuing::value;
 
+/// What a train does at the head of a track.
 #[derive(Clone, Copy, Debug, PartialEq, Eq)]
 pub enum Action {
+    /// It runs through.
     Pass,
+    /// It makes the next stop of its bid, for a dwell in minutes.
     Halt(u16),
+    /// It stands without a stop, for a dwell in minutes, which costs the bid's wait rate.
     Wait(u16),
+    /// It ends there.
     Finish,
 }
 
+/// A run over one track, from the minute of departure to the action at the track's head.
 #[derive(Clone, Copy, Debug, PartialEq, Eq)]
 pub struct Leg {
     pub track: TrackId,
     pub depart: Minute,
+    /// Whether the train stood at the track's tail before; else it comes through.
     pub from_halt: bool,
     pub action: Action,
 }
 
+/// The legs of a train, one after the other. [`follows`] tells whether they are a walk of a bid.
 #[derive(Drop)]
 pub struct Walk {
     pub legs: Vec<Leg>,
@@ -47,6 +58,7 @@ impl Model for Walk {
     ghost view = { λ a. a.legs.items };
 }
 
+/// For each bid of an instance, in the bids' order, the walk that serves it, or `None`.
 #[derive(Drop)]
 pub struct Choice {
     pub walks: Vec<Option<Walk>>,
@@ -61,6 +73,8 @@ impl Model for Choice {
     ghost view = { λ a. a.walks.items };
 }
 
+/// The bids that are planned together on a network. Calls that take one need at most 1,000 bids, whose types, ends and
+/// stop stations are positions of the network.
 #[derive(Clone, Copy)]
 pub struct Instance<'a> {
     pub net: &'a Network,

@@ -15,3 +15,9 @@ overflow_cast-waits c =
     let w = walk_within c.args.net.now c.args.bid.now.path c.args.legs.now c.in-Some-Some.last.now c.in-Some.arrive c.track_count-proper.ensures.proper c.requires
     (search rules) (ap (λ (p : Path). arrival_of c.args.net.now p.kind c.in-Some-Some.last.now) (sym c.path.view_is) ∙ sym c.in-Some.ensures.value) in
     omega (arith, w.0, w.1, c.args.bid.now.bounds.arrive.day, c.wait_minutes-waits.ensures)
+
+pub value_by-requires-clause-waits : goal.value_by-requires-clause-waits
+value_by-requires-clause-waits c =
+    let w = walk_within c.args.net.now c.args.bid.now.path c.args.legs.now c.in-Some-Some.last.now c.in-Some.arrive c.track_count-proper.ensures.proper c.requires
+    (search rules) (ap (λ (p : Path). arrival_of c.args.net.now p.kind c.in-Some-Some.last.now) (sym c.path.view_is) ∙ sym c.in-Some.ensures.value) in
+    omega (arith, w.0, w.1, c.args.bid.now.bounds.arrive.day, c.wait_minutes-waits.ensures)

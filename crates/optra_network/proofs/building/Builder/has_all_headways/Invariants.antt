@@ -1,6 +1,6 @@
 use Rattle.std.proofs.Common.{◌≡◌, ℕ, ◌<◌, true, length}
-use Rattle.optra_network.specs.Net.{has_gap}
+use Rattle.optra_network.specs.Tables.{has_headway}
 use Rattle.optra_network.proofs.building.Builder.has_all_headways.Given as goal
 
-abbrev pub invariant-loop-t : goal.invariant-loop-t
-invariant-loop-t l = (t a b : ℕ) → t < l.t → a < length l.self.types → b < length l.self.types → has_gap l.self t a b ≡ true
+abbrev pub invariant-loop-track : goal.invariant-loop-track
+invariant-loop-track l = (t a b : ℕ) → t < l.track → a < length l.self.types → b < length l.self.types → has_headway l.self t a b ≡ true

@@ -1,6 +1,6 @@
 use Rattle.std.proofs.Common.{◌≡◌, ℕ, ◌<◌, true, length}
-use Rattle.optra_network.specs.Net.{has_gap}
+use Rattle.optra_network.specs.Tables.{has_headway}
 use Rattle.optra_network.proofs.building.Builder.has_headways_on.Given as goal
 
-abbrev pub invariant-loop-a : goal.invariant-loop-a
-invariant-loop-a l = (a b : ℕ) → a < l.a → b < length l.self.types → has_gap l.self l.t a b ≡ true
+abbrev pub invariant-loop-first : goal.invariant-loop-first
+invariant-loop-first l = (a b : ℕ) → a < l.first → b < length l.self.types → has_headway l.self l.track.0 a b ≡ true

@@ -12,5 +12,5 @@ returns-clause-ok c =
 pub invariant_of-self-2 : goal.invariant_of-self-2
 invariant_of-self-2 c =
     let rows = entries_with_new _ c.self.inside.headways _ _ _ c.in_ok-insert.ensures.entries c.if-contains_key.ensures in
-    built_with_headway (net_of c.self.inside) _ _ c.self.invariant rows
+    built_with_headway (net_of c.self.inside) _ _ c.self.invariant rows (sym c.if-contains_key.ensures)
     (omega (arith, c.in-Some-Some-Some.ensures.within, c.self.invariant.named), omega (arith, c.in-Some-Some-Some.ensures'.within), omega (arith, c.in-Some-Some-Some.ensures''.within), (omega arith, omega arith))

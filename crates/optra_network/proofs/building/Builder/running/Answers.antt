@@ -1,4 +1,4 @@
-use Rattle.std.proofs.Common.{sym, arith, rules}
+use Rattle.std.proofs.Common.{sym, arith}
 use Rattle.std.proofs.lemmas.Bool.Decides.{nat_tests}
 use Rattle.optra_network.specs.BuilderParts.{net_of}
 use Rattle.optra_network.proofs.NetLemmas.{built_with_running}
@@ -13,7 +13,7 @@ returns-clause-ok c =
 pub invariant_of-self-2 : goal.invariant_of-self-2
 invariant_of-self-2 c =
     let rows = entries_with_new _ c.self.inside.running _ _ _ c.in_ok-insert.ensures.entries c.if-contains_key.ensures in
-    built_with_running (net_of c.self.inside) _ _ c.self.invariant rows (
+    built_with_running (net_of c.self.inside) _ _ c.self.invariant rows (sym c.if-contains_key.ensures) (
       omega (arith, c.in-Some-Some.ensures.within, c.self.invariant.named),
       omega (arith, c.in-Some-Some.ensures'.within),
       record {

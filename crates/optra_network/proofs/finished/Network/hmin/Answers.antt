@@ -1,33 +1,18 @@
-use Rattle.std.proofs.Common.{◌≡◌, ◌<◌, ◌∙◌, ap, sym, subst, length, rules, arith}
-use Rattle.optra_network.specs.Net.{Net}
-use Rattle.optra_network.specs.Gaps.{hmin_of}
-use Rattle.std.proofs.Common.{None, Some, if◌then◌else◌, nat_eq, false}
-use Rattle.std.proofs.lemmas.Bool.{ne_eqb}
+use Rattle.std.proofs.Common.{IfSome, ap, sym, subst, ◌∙◌}
+use Rattle.optra_network.specs.Net.{Net, IsFromTo}
+use Rattle.optra_network.specs.Headways.{hmin_of}
 use Rattle.optra_network.specs.NetworkParts.{net_of}
-use Rattle.optra_network.proofs.NearLemmas.{least_within, least_read, hmin_of-from_least}
+use Rattle.optra_network.proofs.ReadLemmas.{least_read, hmin_is, hmin_range}
 use Rattle.optra_network.proofs.finished.Network.hmin.Goals as goal
 
-pub index-least-requires : goal.index-least-requires
-index-least-requires c =
-    let within = subst (λ (n : Net). c.args.track.0 < length n.tracks) (sym c.self.view_is) c.requires.track in
-    let kinds = subst (λ (n : Net). c.args.kind.0 < length n.types) (sym c.self.view_is) c.requires.kind in
-    let few = c.self.invariant.proper.built.few_types in
-    let w = least_within (net_of c.self.inside) c.args.track.0 within c.args.kind.0 c.self.inside.tables.leasts.items c.self.invariant.tables.leasts (omega arith) in search rules
+pub returns-clause-minutes : goal.returns-clause-minutes
+returns-clause-minutes c =
+    c.above_zero.ensures
+    ∙ hmin_is (net_of c.self.inside) c.self.invariant.proper c.args.track c.args.kind c.least.result
+    (c.least.ensures ∙ least_read (net_of c.self.inside) c.self.invariant.proper.built c.self.inside.tables.leasts.items c.self.invariant.tables.leasts c.args.track.0 c.args.kind.0)
+    ∙ ap (λ (n : Net). hmin_of n c.args.track c.args.kind) c.self.view_is
 
-pub returns-then-least-eq0 : goal.returns-then-least-eq0
-returns-then-least-eq0 c =
-    let within = subst (λ (n : Net). c.args.track.0 < length n.tracks) (sym c.self.view_is) c.requires.track in
-    let kinds = subst (λ (n : Net). c.args.kind.0 < length n.types) (sym c.self.view_is) c.requires.kind in
-    let few = c.self.invariant.proper.built.few_types in
-    let is = c.index-least.ensures ∙ least_read (net_of c.self.inside) c.args.track.0 within c.args.kind.0 c.self.inside.tables.leasts.items c.self.invariant.tables.leasts (omega arith) c.index-least.result.now in
-    let zero = c.if-least-eq0.true in
-    ap (λ m. if nat_eq m 0 then None else Some m) (sym zero) ∙ hmin_of-from_least (net_of c.self.inside) c.args.track c.args.kind c.index-least.result.now c.self.invariant.proper is ∙ ap (λ (n : Net). hmin_of n c.args.track c.args.kind) c.self.view_is
-
-pub returns-else-least-eq0 : goal.returns-else-least-eq0
-returns-else-least-eq0 c =
-    let within = subst (λ (n : Net). c.args.track.0 < length n.tracks) (sym c.self.view_is) c.requires.track in
-    let kinds = subst (λ (n : Net). c.args.kind.0 < length n.types) (sym c.self.view_is) c.requires.kind in
-    let few = c.self.invariant.proper.built.few_types in
-    let is = c.index-least.ensures ∙ least_read (net_of c.self.inside) c.args.track.0 within c.args.kind.0 c.self.inside.tables.leasts.items c.self.invariant.tables.leasts (omega arith) c.index-least.result.now in
-    let ne : nat_eq c.index-least.result.now 0 ≡ false = ne_eqb _ _ c.if-least-eq0.false in
-    ap (λ b. if b then None else Some c.index-least.result.now) (sym ne) ∙ hmin_of-from_least (net_of c.self.inside) c.args.track c.args.kind c.index-least.result.now c.self.invariant.proper is ∙ ap (λ (n : Net). hmin_of n c.args.track c.args.kind) c.self.view_is
+pub returns-clause-range : goal.returns-clause-range
+returns-clause-range c =
+    subst (λ o. IfSome o (IsFromTo 1 120)) (sym (returns-clause-minutes c))
+    (subst (λ (n : Net). IfSome (hmin_of n c.args.track c.args.kind) (IsFromTo 1 120)) c.self.view_is (hmin_range (net_of c.self.inside) c.self.invariant.proper c.args.track c.args.kind))

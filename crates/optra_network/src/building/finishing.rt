@@ -1,0 +1,135 @@
+//! What `finish` tests and makes: complete headways, and the dense tables.
+ghost use Rattle.std.specs.Prelude.{◌≡◌, ℕ, ◌*◌, ◌<◌, ◌↔◌, length, map, IfOk, IsTrue, true};
+ghost use Rattle.std.specs.List.{range_with_len};
+ghost use Rattle.optra_network.specs.Headways.{type_id, lesser, hmin_or_0, headway_before};
+ghost use Rattle.optra_network.specs.Net.{track_id, HasAllHeadways, IsProper};
+ghost use Rattle.optra_network.specs.Tables.{AreRows, AreTables, has_headway, least_at};
+
+use super::Builder;
+use crate::dense::{Outgoing, Rows, Tables, above_zero};
+use crate::{NoMemory, TrackId, TypeId};
+use std::alloc::Global;
+
+impl Builder {
+    pub(super) fn rows(&self, alloc: Global) -> Result<Rows, NoMemory>
+        ensures { IfOk result (AreRows self.now) }
+    {
+        Rows::new(alloc, self.tracks.len(), &self.running, &self.headways)
+    }
+
+    pub(super) fn has_all_headways(&self, rows: &Rows) -> bool
+        requires { AreRows self.now rows.now }
+        ensures { IsTrue result ↔ HasAllHeadways self.now }
+    {
+        for track in 0..self.tracks.len() {
+            if !self.has_headways_on(rows, TrackId(track as u16)) {
+                return false;
+            }
+        }
+        true
+    }
+
+    fn has_headways_on(&self, rows: &Rows, track: TrackId) -> bool
+        requires { AreRows self.now rows.now }
+        ensures { IsTrue result ↔ ((a b : ℕ) → a < length self.now.types → b < length self.now.types → has_headway self.now track.0 a b ≡ true) }
+    {
+        for first in 0..self.types.len() {
+            if !self.has_headways_after(rows, track, TypeId(first as u16)) {
+                return false;
+            }
+        }
+        true
+    }
+
+    fn has_headways_after(&self, rows: &Rows, track: TrackId, first: TypeId) -> bool
+        requires { AreRows self.now rows.now }
+        ensures { IsTrue result ↔ ((b : ℕ) → b < length self.now.types → has_headway self.now track.0 first.0 b ≡ true) }
+    {
+        for second in 0..self.types.len() {
+            if !self.has_headway(rows, track, first, TypeId(second as u16)) {
+                return false;
+            }
+        }
+        true
+    }
+
+    fn has_headway(&self, rows: &Rows, track: TrackId, first: TypeId, second: TypeId) -> bool
+        requires { AreRows self.now rows.now }
+        ensures { result ≡ has_headway self.now track.0 first.0 second.0 }
+    {
+        if !rows.may_use(track, first) {
+            return true;
+        }
+        if !rows.may_use(track, second) {
+            return true;
+        }
+        rows.headway(track, first, second) != 0
+    }
+
+    pub(super) fn tables(&self, alloc: Global, rows: Rows) -> Result<Tables, NoMemory>
+        requires { AreRows self.now rows }
+        ensures { IfOk result (AreTables self.now) }
+    {
+        let leasts = self.leasts(alloc, &rows)?;
+        let out = Outgoing::new(alloc, self.stations.len(), &self.tracks)?;
+        Ok(Tables { rows, leasts, out })
+    }
+
+    /// The least headways by track and type.
+    fn leasts(&self, alloc: Global, rows: &Rows) -> Result<Vec<u16>, NoMemory>
+        requires { AreRows self.now rows.now }
+        ensures { IfOk result (λ leasts. leasts.items ≡ map (least_at self.now) (range_with_len 0 (length self.now.tracks * 16))) }
+    {
+        let mut leasts = Vec::new(alloc);
+        for place in 0..self.tracks.len() * 16 {
+            let track = TrackId((place / 16) as u16);
+            leasts.push(self.least(rows, track, TypeId((place % 16) as u16)))?;
+        }
+        Ok(leasts)
+    }
+
+    /// The least headway after a type, over the types that may use the track; 0 where it may not itself.
+    fn least(&self, rows: &Rows, track: TrackId, kind: TypeId) -> u16
+        requires { AreRows self.now rows.now }
+        ensures { result ≡ hmin_or_0 self.now track kind }
+    {
+        if !rows.may_use(track, kind) {
+            return 0;
+        }
+        let mut least = None;
+        for other in 0..self.types.len() {
+            least = lesser(
+                least,
+                self.headway_before(rows, track, kind, TypeId(other as u16)),
+            );
+        }
+        least.unwrap_or(0)
+    }
+
+    fn headway_before(
+        &self,
+        rows: &Rows,
+        track: TrackId,
+        kind: TypeId,
+        other: TypeId,
+    ) -> Option<u16>
+        requires { AreRows self.now rows.now }
+        ensures { result ≡ headway_before self.now track kind other }
+    {
+        if rows.may_use(track, other) {
+            above_zero(rows.headway(track, kind, other))
+        } else {
+            None
+        }
+    }
+}
+
+fn lesser(a: Option<u16>, b: Option<u16>) -> Option<u16>
+    ensures { result ≡ lesser a b }
+{
+    match (a, b) {
+        (Some(a), Some(b)) => Some(a.min(b)),
+        (Some(a), None) => Some(a),
+        (None, b) => b,
+    }
+}
