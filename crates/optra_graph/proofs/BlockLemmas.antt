@@ -15,7 +15,7 @@ use Rattle.optra_walk.specs.declared.Action.{Action}
 use Rattle.optra_walk.specs.declared.Action.TheVariants.{Pass, Halt, Wait, Finish}
 use Rattle.optra_walk.specs.declared.Leg.{Leg}
 use Rattle.optra_walk.specs.Legs.{dwell_of}
-use Rattle.optra_walk.specs.Orders.{leg_cmp, action_cmp}
+use Rattle.optra_walk.specs.Orders.{action_rank, leg_cmp, action_cmp}
 use Rattle.optra_graph.specs.declared.states.Layout.{Layout}
 use Rattle.optra_graph.specs.declared.stepping.Step.{Step}
 use Rattle.optra_graph.specs.Arcs.{arc_of, is_kept, leg_of_step, IsKeptStep, IsArcOf, Emits}
@@ -23,7 +23,7 @@ use Rattle.optra_graph.specs.Flags.{is_set, IsSet}
 use Rattle.optra_graph.specs.Nodes.{node_of}
 use Rattle.optra_graph.specs.Places.{places_of, state_of}
 use Rattle.optra_graph.specs.Settings.{IsSetting}
-use Rattle.optra_graph.specs.Steps.{IsStep, AreSteps, bound_of, key_of, rank_of, no_step}
+use Rattle.optra_graph.specs.Steps.{IsStep, AreSteps, bound_of, key_of, no_step}
 use Rattle.optra_graph.specs.Timed.{no_leg}
 use Rattle.optra_graph.proofs.NodeLemmas.{kept_less}
 use Rattle.optra_graph.proofs.OrderLemmas.{nat_less, nat_same}
@@ -33,7 +33,7 @@ use Rattle.optra_graph.proofs.FlagLemmas.{default_same}
 use Rattle.optra_graph.proofs.WayLemmas.{contains_filter}
 
 -- legs of one state ascend as their keys do
-action_less : (x y : Action) → rank_of x * 256 + dwell_of x < rank_of y * 256 + dwell_of y → dwell_of x < 256 → dwell_of y < 256 → action_cmp x y ≡ Less
+action_less : (x y : Action) → action_rank x * 256 + dwell_of x < action_rank y * 256 + dwell_of y → dwell_of x < 256 → dwell_of y < 256 → action_cmp x y ≡ Less
 action_less Pass Pass l a b = absurd (omega arith)
 action_less Pass (Halt e) l a b = refl
 action_less Pass (Wait e) l a b = refl
@@ -51,7 +51,7 @@ action_less Finish (Halt e) l a b = absurd (omega arith)
 action_less Finish (Wait e) l a b = absurd (omega arith)
 action_less Finish Finish l a b = absurd (omega arith)
 
-rank_few : (a : Action) → rank_of a < 4
+rank_few : (a : Action) → action_rank a < 4
 rank_few Pass = omega arith
 rank_few (Halt d) = omega arith
 rank_few (Wait d) = omega arith
@@ -60,7 +60,7 @@ rank_few Finish = omega arith
 pub leg_less : (a b : Leg) → dwell_of a.action < 256 → dwell_of b.action < 256 → key_of a < key_of b → leg_cmp a b ≡ Less
 leg_less a b h w l = by (cases_lt a.track.0 b.track.0)
   where
-    few : rank_of b.action < 4
+    few : action_rank b.action < 4
     few = rank_few b.action
 
     by : (a.track.0 < b.track.0) ⊎ (b.track.0 ≤ a.track.0) → leg_cmp a b ≡ Less

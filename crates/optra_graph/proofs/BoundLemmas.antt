@@ -1,12 +1,23 @@
 -- How many arcs there can be: of a minute, its stops and its mode at most 63 for each track.
 use Rattle.std.proofs.Common.{◌≡◌, ℕ, zero, suc, ◌+◌, ◌-◌, ◌*◌, ◌≤◌, ◌<◌, ◌⊎◌, inl, inr, Bool, true, false, cond, List, [], ◌∷◌, ◌++◌, length, get_or, map, filter, refl, sym, ap, ◌∙◌, subst, arith, nat_eq, length-append}
 use Rattle.std.specs.List.{range_with_len}
+use Rattle.std.specs.Option.{option_map_or}
+use Rattle.std.proofs.lemmas.List.FromFn.{filter_of_map_range_with_len_more}
+use Rattle.std.proofs.lemmas.Option.{slice_get-get_or}
+use Rattle.optra_network.specs.declared.StationId.{StationId}
 use Rattle.std.proofs.lemmas.Bool.{cases_lt}
 use Rattle.std.proofs.Math.Nat.{mul-le-mul_right}
 use Rattle.optra_network.specs.declared.Track.{Track}
 use Rattle.optra_network.specs.Net.{leaves, track_id, out_tracks_of}
-use Rattle.optra_network.proofs.OutLemmas.{out_more}
 use Rattle.optra_graph.specs.Arcs.{out_before, IsFew}
+
+-- the tracks that leave a station, with one more track
+out_more : (tracks : List Track) (s : StationId) (n : ℕ) (d : Track) (b : Bool) → n < length tracks → nat_eq (get_or tracks n d).tail.0 s.0 ≡ b
+    → filter (leaves tracks s) (map track_id (range_with_len 0 (n + 1))) ≡ filter (leaves tracks s) (map track_id (range_with_len 0 n)) ++ cond b (track_id n ∷ []) []
+out_more tracks s n d b l e =
+    let at : leaves tracks s (track_id n) ≡ b = ap (λ o. option_map_or (λ (t : Track). nat_eq t.tail.0 s.0) o false) (slice_get-get_or tracks n d l) ∙ e in
+    filter_of_map_range_with_len_more (leaves tracks s) track_id 0 n n (omega arith)
+    ∙ ap (λ c. filter (leaves tracks s) (map track_id (range_with_len 0 n)) ++ cond c (track_id n ∷ []) []) at
 
 -- how many of the first tracks leave a station
 abbrev leaving : List Track → ℕ → ℕ → ℕ

@@ -5,9 +5,8 @@ use Rattle.std.proofs.lemmas.List.Sums.{length-filter}
 use Rattle.std.proofs.lemmas.Bool.{cases_eq, cases_lt}
 use Rattle.std.proofs.lemmas.List.{take_more, get_or-replicate}
 use Rattle.std.proofs.lemmas.List.Elements.{Contains-append_left, Contains-push, Contains-push_cases}
-use Rattle.optra_network.specs.Net.{Net}
+use Rattle.optra_network.specs.Net.{Net, IsFromTo}
 use Rattle.optra_bid.specs.Specs.{Path}
-use Rattle.optra_walk.specs.Walks.{IsWithin}
 use Rattle.optra_graph.specs.declared.states.Layout.{Layout}
 use Rattle.optra_graph.specs.declared.stepping.Step.{Step}
 use Rattle.optra_graph.specs.Flags.{is_set, IsSet, IsStartPlace, AreStartsSet, Marks}
@@ -61,7 +60,7 @@ starts_none path layout flags = record {
   only = λ p h. inl h;
 }
 
-pub starts_more : (path : Path) (layout : Layout) (m : ℕ) (old flags : List Bool) → IsWithin path.depart.from path.depart.to m → IsPlaced layout (start_state path m)
+pub starts_more : (path : Path) (layout : Layout) (m : ℕ) (old flags : List Bool) → IsFromTo path.depart.from path.depart.to m → IsPlaced layout (start_state path m)
     → place_of layout (start_state path m) < length flags → AreStartsSet path layout m old flags → AreStartsSet path layout (m + 1) old (set flags (place_of layout (start_state path m)) true)
 starts_more path layout m old flags within placed l h = record {
   len = length-set flags (place_of layout (start_state path m)) true ∙ h.len;
@@ -70,7 +69,7 @@ starts_more path layout m old flags within placed l h = record {
   only = λ p s. from p (set_cases flags (place_of layout (start_state path m)) p l s);
 }
   where
-    by : (n : ℕ) → IsWithin path.depart.from path.depart.to n → IsPlaced layout (start_state path n) → (n < m) ⊎ (m ≤ n) → n < m + 1 → IsSet (set flags (place_of layout (start_state path m)) true) (place_of layout (start_state path n))
+    by : (n : ℕ) → IsFromTo path.depart.from path.depart.to n → IsPlaced layout (start_state path n) → (n < m) ⊎ (m ≤ n) → n < m + 1 → IsSet (set flags (place_of layout (start_state path m)) true) (place_of layout (start_state path n))
     by n w q (inl b) _ = set_keeps flags (place_of layout (start_state path m)) (place_of layout (start_state path n)) l (h.starts n w b q)
     by n w q (inr b) c = let e : m ≡ n = omega arith in
         subst (λ k. IsSet (set flags (place_of layout (start_state path m)) true) (place_of layout (start_state path k))) e (set_here flags (place_of layout (start_state path m)) true l)
@@ -87,7 +86,7 @@ starts_all path layout m n old flags far h = record {
   only = h.only;
 }
   where
-    by : (k : ℕ) → IsWithin path.depart.from path.depart.to k → k < n → (n ≤ m) ⊎ (path.depart.to < m) → k < m
+    by : (k : ℕ) → IsFromTo path.depart.from path.depart.to k → k < n → (n ≤ m) ⊎ (path.depart.to < m) → k < m
     by k w l (inl f) = omega arith
     by k w l (inr f) = let u = w.1 in omega arith
 

@@ -1,16 +1,15 @@
 -- A run departs before the end of the arrival window, and each state comes later than the one before.
 use Rattle.std.proofs.Common.{◌≡◌, ℕ, ◌+◌, ◌≤◌, ◌<◌, List, [], ◌∷◌, Option, None, Some, IsSomeAnd, inl, inr, refl, sym, ap, ◌∙◌, subst, arith}
-use Rattle.optra_network.specs.Net.{Net, IsProper}
+use Rattle.optra_network.specs.Net.{Net, IsProper, IsFromTo}
 use Rattle.optra_bid.specs.Specs.{Path}
 use Rattle.optra_walk.specs.declared.Leg.{Leg}
 use Rattle.optra_walk.specs.declared.Action.TheVariants.{Finish}
 use Rattle.optra_walk.specs.Legs.{arrival_of}
-use Rattle.optra_walk.specs.Walks.{IsWithin}
 use Rattle.optra_walk.proofs.WalkLemmas.{arrival_later, next_later}
 use Rattle.optra_graph.specs.declared.states.State.{State}
 use Rattle.optra_graph.specs.Moves.{FitsAction, IsMove, IsAfter, Runs}
 
-within_at : (o : Option ℕ) (from to : ℕ) → IsSomeAnd o (IsWithin from to) → (n : ℕ) × (o ≡ Some n) × (n ≤ to)
+within_at : (o : Option ℕ) (from to : ℕ) → IsSomeAnd o (IsFromTo from to) → (n : ℕ) × (o ≡ Some n) × (n ≤ to)
 within_at None from to h = absurd h
 within_at (Some n) from to h = (n, refl, h.1)
 

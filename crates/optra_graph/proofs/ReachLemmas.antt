@@ -4,13 +4,13 @@ use Rattle.std.specs.List.{count_by}
 use Rattle.std.proofs.lemmas.Bool.{cases_eq, cases_lt}
 use Rattle.std.proofs.lemmas.List.Elements.{All-contains}
 use Rattle.std.proofs.lemmas.Option.{slice_get_within}
-use Rattle.optra_network.specs.Net.{Net}
+use Rattle.optra_network.specs.Net.{Net, IsFromTo}
 use Rattle.optra_bid.specs.Specs.{Path}
 use Rattle.optra_bid.specs.declared.Stop.{Stop}
 use Rattle.optra_walk.specs.declared.Action.{Action}
 use Rattle.optra_walk.specs.declared.Action.TheVariants.{Pass, Halt, Wait, Finish}
 use Rattle.optra_walk.specs.declared.Leg.{Leg}
-use Rattle.optra_walk.specs.Walks.{IsWithin, MeetsStop}
+use Rattle.optra_walk.specs.Walks.{MeetsStop}
 use Rattle.optra_graph.specs.declared.states.State.{State}
 use Rattle.optra_graph.specs.declared.states.Layout.{Layout}
 use Rattle.optra_graph.specs.declared.stepping.Step.{Step}
@@ -256,7 +256,7 @@ module _ (net : Net) (path : Path) (layout : Layout) (setting : IsSetting net pa
       goes_on = λ place l s. t.goes_on place (omega arith) l s;
     }
       where
-        placed : (m : ℕ) (legs : List Leg) → IsWithin path.depart.from path.depart.to m → Runs net path (start_state path m) legs → IsPlaced layout (start_state path m)
+        placed : (m : ℕ) (legs : List Leg) → IsFromTo path.depart.from path.depart.to m → Runs net path (start_state path m) legs → IsPlaced layout (start_state path m)
         placed m legs w r =
             let b = runs_before net path setting.proper (start_state path m) legs r in
             let first = setting.laid.first in

@@ -2,7 +2,7 @@
 use Rattle.std.proofs.Common.{◌≡◌, ℕ, zero, suc, ◌+◌, ◌-◌, ◌≤◌, inl, inr, Bool, true, false, cond, List, [], ◌∷◌, length, drop, get_or, filter, All, Option, None, Some, IsSomeAnd, slice_get, refl, sym, ap, ◌∙◌, subst, arith, true≢false, zero-le}
 use Rattle.std.proofs.lemmas.List.Elements.{All-cons}
 use Rattle.std.specs.List.{AllZip, AllAdjacentBelow}
-use Rattle.optra_network.specs.Net.{Net, MayUse}
+use Rattle.optra_network.specs.Net.{Net, MayUse, IsFromTo}
 use Rattle.optra_network.specs.declared.StationId.{StationId}
 use Rattle.optra_network.specs.declared.Track.{Track}
 use Rattle.std.specs.Option.{option_map}
@@ -13,7 +13,7 @@ use Rattle.optra_walk.specs.declared.Action.TheVariants.{Pass, Halt, Wait, Finis
 use Rattle.optra_walk.specs.declared.Leg.{Leg}
 use Rattle.optra_walk.specs.Legs.{is_halt, is_finish, next_depart_of, arrival_of, after_action}
 use Rattle.optra_walk.specs.Values.{first_departure}
-use Rattle.optra_walk.specs.Walks.{IsWalk, IsNext, IsEnd, IsWithin, IsAllowedWait, MeetsStop, FinishesLast, tail_of, head_of, last_leg}
+use Rattle.optra_walk.specs.Walks.{IsWalk, IsNext, IsEnd, IsAllowedWait, MeetsStop, FinishesLast, tail_of, head_of, last_leg}
 use Rattle.optra_graph.specs.declared.states.State.{State}
 use Rattle.optra_graph.specs.Moves.{start_state, FitsAction, IsMove, Runs, done_after}
 
@@ -234,7 +234,7 @@ module _ (net : Net) (path : Path) where
       }
 
   -- a walk is a run from the start state of its departure
-  pub runs_of_walk : (legs : List Leg) → IsWalk net path legs → IsWithin path.depart.from path.depart.to (first_departure legs) × Runs net path (start_state path (first_departure legs)) legs
+  pub runs_of_walk : (legs : List Leg) → IsWalk net path legs → IsFromTo path.depart.from path.depart.to (first_departure legs) × Runs net path (start_state path (first_departure legs)) legs
   runs_of_walk [] w = absurd w.start
   runs_of_walk (x ∷ r) w = (
     w.start.window,
@@ -242,12 +242,12 @@ module _ (net : Net) (path : Path) where
         (record { may_use = w.may_use; goes_on = w.goes_on; stops = w.stops; waits = w.waits; end = w.end; finishes_last = w.finishes_last }),
   )
 
-  pub walk_of_runs : (legs : List Leg) (d : ℕ) → IsWithin path.depart.from path.depart.to d → Runs net path (start_state path d) legs → IsWalk net path legs
+  pub walk_of_runs : (legs : List Leg) (d : ℕ) → IsFromTo path.depart.from path.depart.to d → Runs net path (start_state path d) legs → IsWalk net path legs
   walk_of_runs [] d within h = absurd h
   walk_of_runs (x ∷ r) d within h =
       let t = tail_from x r (start_state path d) h in
       record {
-        start = record { origin = h.0.place; halted = h.0.mode; window = subst (λ i. IsWithin path.depart.from path.depart.to i) (sym h.0.time) within };
+        start = record { origin = h.0.place; halted = h.0.mode; window = subst (λ i. IsFromTo path.depart.from path.depart.to i) (sym h.0.time) within };
         may_use = t.may_use;
         goes_on = t.goes_on;
         stops = t.stops;

@@ -5,7 +5,7 @@ use Rattle.std.proofs.lemmas.Bool.{cases_lt}
 use Rattle.std.proofs.lemmas.List.Elements.{All-push, All-contains, Contains-append_left, Contains-push}
 use Rattle.std.proofs.lemmas.List.Quantifiers.{all_pairs_push}
 use Rattle.std.proofs.lemmas.Option.{get_or_from_slice_get, slice_get_within}
-use Rattle.optra_network.specs.Net.{Net}
+use Rattle.optra_network.specs.Net.{Net, IsFromTo}
 use Rattle.optra_network.specs.declared.TrackId.{TrackId}
 use Rattle.optra_bid.specs.Specs.{Path, IsStop}
 use Rattle.optra_bid.specs.declared.Stop.{Stop}
@@ -13,7 +13,8 @@ use Rattle.optra_walk.specs.declared.Action.{Action}
 use Rattle.optra_walk.specs.declared.Action.TheVariants.{Pass, Halt, Wait, Finish}
 use Rattle.optra_walk.specs.declared.Leg.{Leg}
 use Rattle.optra_walk.specs.Legs.{arrival_of, next_depart_of, is_finish, dwell_of}
-use Rattle.optra_walk.specs.Walks.{IsWithin, MeetsStop}
+use Rattle.optra_walk.specs.Walks.{MeetsStop}
+use Rattle.optra_walk.specs.Orders.{action_rank}
 use Rattle.optra_graph.specs.declared.states.State.{State}
 use Rattle.optra_graph.specs.declared.states.Layout.{Layout}
 use Rattle.optra_graph.specs.declared.stepping.Step.{Step}
@@ -21,7 +22,7 @@ use Rattle.optra_graph.specs.declared.stepping.Way.{Way}
 use Rattle.optra_graph.specs.Moves.{FitsAction, IsMove, IsAfter}
 use Rattle.optra_graph.specs.Places.{IsPlaced, place_of, places_of}
 use Rattle.optra_graph.specs.Settings.{IsSetting}
-use Rattle.optra_graph.specs.Steps.{LeadsTo, IsStep, rank_of, bound_of, key_of, AreSteps, AreStepsBelow, leg_by, IsWay}
+use Rattle.optra_graph.specs.Steps.{LeadsTo, IsStep, bound_of, key_of, AreSteps, AreStepsBelow, leg_by, IsWay}
 use Rattle.optra_graph.proofs.RunLemmas.{not_finish}
 use Rattle.optra_graph.proofs.HorizonLemmas.{after_later}
 use Rattle.optra_graph.proofs.PlaceLemmas.{place_below, place_later}
@@ -37,31 +38,31 @@ after_once net path s leg a b h w =
     let d : a.done ≡ b.done = h.done ∙ sym w.done in
     λ i. record { station = p i; minute = m i; halted = t i; done = d i }
 
-rank_few : (a : Action) → rank_of a < 4
+rank_few : (a : Action) → action_rank a < 4
 rank_few Pass = omega arith
 rank_few (Halt d) = omega arith
 rank_few (Wait d) = omega arith
 rank_few Finish = omega arith
 
-pub rank_pass : (a : Action) → rank_of a ≡ 0 → a ≡ Pass
+pub rank_pass : (a : Action) → action_rank a ≡ 0 → a ≡ Pass
 rank_pass Pass e = refl
 rank_pass (Halt d) e = absurd (omega arith)
 rank_pass (Wait d) e = absurd (omega arith)
 rank_pass Finish e = absurd (omega arith)
 
-pub rank_halt : (a : Action) → rank_of a ≡ 1 → a ≡ Halt (dwell_of a)
+pub rank_halt : (a : Action) → action_rank a ≡ 1 → a ≡ Halt (dwell_of a)
 rank_halt Pass e = absurd (omega arith)
 rank_halt (Halt d) e = refl
 rank_halt (Wait d) e = absurd (omega arith)
 rank_halt Finish e = absurd (omega arith)
 
-pub rank_wait : (a : Action) → rank_of a ≡ 2 → a ≡ Wait (dwell_of a)
+pub rank_wait : (a : Action) → action_rank a ≡ 2 → a ≡ Wait (dwell_of a)
 rank_wait Pass e = absurd (omega arith)
 rank_wait (Halt d) e = absurd (omega arith)
 rank_wait (Wait d) e = refl
 rank_wait Finish e = absurd (omega arith)
 
-pub rank_finish : (a : Action) → rank_of a ≡ 3 → a ≡ Finish
+pub rank_finish : (a : Action) → action_rank a ≡ 3 → a ≡ Finish
 rank_finish Pass e = absurd (omega arith)
 rank_finish (Halt d) e = absurd (omega arith)
 rank_finish (Wait d) e = absurd (omega arith)
@@ -70,11 +71,11 @@ rank_finish Finish e = refl
 pub track_same : (a b : TrackId) → a.0 ≡ b.0 → a ≡ b
 track_same a b e = λ i. record { 0 = e i }
 
-within_some : (o : Option ℕ) (n from to : ℕ) → o ≡ Some n → from ≤ n → n ≤ to → IsSomeAnd o (IsWithin from to)
-within_some o n from to e l u = subst (λ v. IsSomeAnd v (IsWithin from to)) (sym e) (l, u)
+within_some : (o : Option ℕ) (n from to : ℕ) → o ≡ Some n → from ≤ n → n ≤ to → IsSomeAnd o (IsFromTo from to)
+within_some o n from to e l u = subst (λ v. IsSomeAnd v (IsFromTo from to)) (sym e) (l, u)
 
-within_of : (o : Option ℕ) (n from to : ℕ) → o ≡ Some n → IsSomeAnd o (IsWithin from to) → IsWithin from to n
-within_of o n from to e h = subst (λ v. IsSomeAnd v (IsWithin from to)) e h
+within_of : (o : Option ℕ) (n from to : ℕ) → o ≡ Some n → IsSomeAnd o (IsFromTo from to) → IsFromTo from to n
+within_of o n from to e h = subst (λ v. IsSomeAnd v (IsFromTo from to)) e h
 
 -- what is known of a stop that is there
 pub stop_of : (P : Stop → Type 0) (o : Option Stop) (stop : Stop) → o ≡ Some stop → IsSomeAnd o P → P stop
@@ -130,7 +131,7 @@ module _ (net : Net) (path : Path) (layout : Layout) (setting : IsSetting net pa
   dwell_small y h = dwell_few y.leg y.leg.action h.move.action refl
 
   -- a key gives the track and the action
-  pub key_parts : (y : Step) → Is y → (t r : ℕ) → r < 4 → bound_of t r ≤ key_of y.leg → key_of y.leg < bound_of t (r + 1) → (y.leg.track.0 ≡ t) × (rank_of y.leg.action ≡ r)
+  pub key_parts : (y : Step) → Is y → (t r : ℕ) → r < 4 → bound_of t r ≤ key_of y.leg → key_of y.leg < bound_of t (r + 1) → (y.leg.track.0 ≡ t) × (action_rank y.leg.action ≡ r)
   key_parts y h t r few l u =
       let d = dwell_few y.leg y.leg.action h.move.action refl in
       let k = rank_few y.leg.action in
@@ -224,16 +225,16 @@ module _ (net : Net) (path : Path) (layout : Layout) (setting : IsSetting net pa
     pub halt_fits : (y : Step) → Is y → (d : ℕ) → y.leg ≡ leg_by s way.track (Halt d) → IsSomeAnd (slice_get path.stops s.done) (MeetsStop net path.kind (leg_by s way.track (Halt d)))
     halt_fits y h d e = subst (λ leg. FitsAction net path s.done leg leg.action) e h.move.action
 
-    pub wait_fits : (y : Step) → Is y → (d : ℕ) → y.leg ≡ leg_by s way.track (Wait d) → IsWithin 1 path.wait_max d
+    pub wait_fits : (y : Step) → Is y → (d : ℕ) → y.leg ≡ leg_by s way.track (Wait d) → IsFromTo 1 path.wait_max d
     wait_fits y h d e = subst (λ leg. FitsAction net path s.done leg leg.action) e h.move.action
 
-    pub finish_fits : (y : Step) → Is y → y.leg ≡ leg_by s way.track Finish → (s.done ≡ length path.stops) × (way.head ≡ path.destination) × IsWithin path.arrive.from path.arrive.to way.halt
+    pub finish_fits : (y : Step) → Is y → y.leg ≡ leg_by s way.track Finish → (s.done ≡ length path.stops) × (way.head ≡ path.destination) × IsFromTo path.arrive.from path.arrive.to way.halt
     finish_fits y h e =
         let f : FitsAction net path s.done (leg_by s way.track Finish) Finish = subst (λ leg. FitsAction net path s.done leg leg.action) e h.move.action in
         (f.0, some_same _ way.head path.destination by.head f.1.place, within_of _ way.halt path.arrive.from path.arrive.to by.halt f.1.time)
 
     -- a halt meets the stop there
-    pub halt_meets : (d : ℕ) (stop : Stop) → MeetsStop net path.kind (leg_by s way.track (Halt d)) stop → (stop.station ≡ way.head) × IsWithin stop.arrive.from stop.arrive.to way.halt × IsWithin stop.min_dwell stop.max_dwell d
+    pub halt_meets : (d : ℕ) (stop : Stop) → MeetsStop net path.kind (leg_by s way.track (Halt d)) stop → (stop.station ≡ way.head) × IsFromTo stop.arrive.from stop.arrive.to way.halt × IsFromTo stop.min_dwell stop.max_dwell d
     halt_meets d stop m = (some_same _ stop.station way.head m.place by.head, within_of _ way.halt stop.arrive.from stop.arrive.to by.halt m.time, m.dwell)
 
     move_by : (a : Action) → FitsAction net path s.done (leg_by s way.track a) a → IsMove net path s (leg_by s way.track a)
@@ -289,7 +290,7 @@ module _ (net : Net) (path : Path) (layout : Layout) (setting : IsSetting net pa
         (λ y w l u. let e = ap key_of (by_pass y w (omega (arith, l)) u) in absurd (omega (arith, l, e)))
 
     meets_at : (y : Step) → Is y → (stop : Stop) → slice_get path.stops s.done ≡ Some stop → (d : ℕ) → y.leg ≡ leg_by s way.track (Halt d)
-        → (stop.station ≡ way.head) × IsWithin stop.arrive.from stop.arrive.to way.halt × IsWithin stop.min_dwell stop.max_dwell d
+        → (stop.station ≡ way.head) × IsFromTo stop.arrive.from stop.arrive.to way.halt × IsFromTo stop.min_dwell stop.max_dwell d
     meets_at y w stop at d e = halt_meets d stop (stop_of (MeetsStop net path.kind (leg_by s way.track (Halt d))) (slice_get path.stops s.done) stop at (halt_fits y w d e))
 
     pub halt_no_stop : (steps : List Step) → Below (bound_of way.track.0 1) steps → slice_get path.stops s.done ≡ None → Below (bound_of way.track.0 2) steps

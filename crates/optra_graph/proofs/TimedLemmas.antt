@@ -5,11 +5,10 @@ use Rattle.std.proofs.lemmas.List.{get_or-map, length-map}
 use Rattle.std.proofs.lemmas.List.{length-replicate}
 use Rattle.optra_dag.specs.declared.Arc.{Arc}
 use Rattle.optra_dag.specs.Paths.{Graph, IsForward, IsEnd, no_arc, from_of, to_of}
-use Rattle.optra_network.specs.Net.{Net}
+use Rattle.optra_network.specs.Net.{Net, IsFromTo}
 use Rattle.optra_bid.specs.Specs.{Path}
 use Rattle.optra_walk.specs.declared.Action.TheVariants.{Finish}
 use Rattle.optra_walk.specs.declared.Leg.{Leg}
-use Rattle.optra_walk.specs.Walks.{IsWithin}
 use Rattle.optra_walk.specs.Orders.{leg_cmp}
 use Rattle.optra_graph.specs.declared.states.State.{State}
 use Rattle.optra_graph.specs.declared.states.Layout.{Layout}
@@ -65,7 +64,7 @@ module _ (net : Net) (path : Path) (layout : Layout) (setting : IsSetting net pa
       by (inl m) = let n = begin in omega arith
       by (inr m) = let w = made.sound k m l in let f = ap (λ (a : Arc). a.from) w.4.0 in absurd (omega arith)
 
-  start_all : (m : ℕ) → IsWithin path.depart.from path.depart.to m → (ls : List Leg) → Runs net path (start_state path m) ls → (k : ℕ) × (k < length minutes) × (get_or minutes k 0 ≡ m)
+  start_all : (m : ℕ) → IsFromTo path.depart.from path.depart.to m → (ls : List Leg) → Runs net path (start_state path m) ls → (k : ℕ) × (k < length minutes) × (get_or minutes k 0 ≡ m)
   start_all m within ls r =
       let w = kept.starts m ls within r in
       let late = w.0.late in

@@ -1,13 +1,12 @@
 -- The arcs of a graph while it is made.
 use Rattle.std.specs.Prelude.{◌≡◌, ℕ, zero, suc, ◌+◌, ◌-◌, ◌*◌, ◌<◌, ◌≤◌, ◌⊎◌, ◌++◌, Bool, false, List, length, map, filter, slice_index_or, Contains}
 use Rattle.std.specs.declared.cmp.Ordering.TheVariants.{Less}
-use Rattle.optra_network.specs.Net.{Net, out_tracks_of}
+use Rattle.optra_network.specs.Net.{Net, out_tracks_of, IsFromTo}
 use Rattle.optra_network.specs.declared.Track.{Track}
 use Rattle.optra_bid.specs.Specs.{Path}
 use Rattle.optra_dag.specs.declared.Arc.{Arc}
 use Rattle.optra_dag.specs.Paths.{no_arc}
 use Rattle.optra_walk.specs.declared.Leg.{Leg}
-use Rattle.optra_walk.specs.Walks.{IsWithin}
 use Rattle.optra_walk.specs.Orders.{leg_cmp}
 use Rattle.optra_graph.specs.declared.states.Layout.{Layout}
 use Rattle.optra_graph.specs.declared.stepping.Step.{Step}
@@ -34,7 +33,7 @@ start_arc path layout flags minute = record { from = 0; to = node_of flags (plac
 
 -- the minute is one at which a walk may begin whose state is kept
 pub record IsKeptStart (path : Path) (layout : Layout) (flags : List Bool) (minute : ℕ) : Type 0 where
-  pub within : IsWithin path.depart.from path.depart.to minute
+  pub within : IsFromTo path.depart.from path.depart.to minute
   pub placed : IsPlaced layout (start_state path minute)
   pub kept : IsSet flags (place_of layout (start_state path minute))
 

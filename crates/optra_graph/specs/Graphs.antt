@@ -1,12 +1,11 @@
 -- Graphs whose nodes stand for states.
 use Rattle.std.specs.Prelude.{◌≡◌, ℕ, ◌+◌, ◌-◌, ◌<◌, ◌≤◌, ◌⊎◌, false, List, ◌∷◌, length, slice_index_or}
 use Rattle.std.specs.declared.cmp.Ordering.TheVariants.{Less}
-use Rattle.optra_network.specs.Net.{Net}
+use Rattle.optra_network.specs.Net.{Net, IsFromTo}
 use Rattle.optra_bid.specs.Specs.{Path}
 use Rattle.optra_dag.specs.Paths as dag
 use Rattle.optra_walk.specs.declared.Action.TheVariants.{Finish}
 use Rattle.optra_walk.specs.declared.Leg.{Leg}
-use Rattle.optra_walk.specs.Walks.{IsWithin}
 use Rattle.optra_walk.specs.Orders.{leg_cmp}
 use Rattle.optra_graph.specs.declared.states.State.{State}
 use Rattle.optra_graph.specs.Moves.{start_state, IsMove, IsAfter, Runs}
@@ -38,9 +37,9 @@ pub record IsTimed (net : Net) (path : Path) (t : Timed) (states : List State) :
   pub start_from : (k : ℕ) → k < length t.minutes → dag.from_of t.dag k ≡ 0
   pub start_only : (k : ℕ) → k < length t.dag.arcs → dag.from_of t.dag k ≡ 0 → k < length t.minutes
   pub start_to : (k : ℕ) → k < length t.minutes → IsStateNode states (dag.to_of t.dag k) × (state_at states (dag.to_of t.dag k) ≡ start_state path (slice_index_or t.minutes k 0))
-  pub start_within : (k : ℕ) → k < length t.minutes → IsWithin path.depart.from path.depart.to (slice_index_or t.minutes k 0)
+  pub start_within : (k : ℕ) → k < length t.minutes → IsFromTo path.depart.from path.depart.to (slice_index_or t.minutes k 0)
   pub start_order : (j k : ℕ) → j < k → k < length t.minutes → slice_index_or t.minutes j 0 < slice_index_or t.minutes k 0
-  pub start_all : (m : ℕ) → IsWithin path.depart.from path.depart.to m → (legs : List Leg) → Runs net path (start_state path m) legs
+  pub start_all : (m : ℕ) → IsFromTo path.depart.from path.depart.to m → (legs : List Leg) → Runs net path (start_state path m) legs
       → (k : ℕ) × (k < length t.minutes) × (slice_index_or t.minutes k 0 ≡ m)
   -- the arcs of legs
   pub leg_from : (k : ℕ) → length t.minutes ≤ k → k < length t.dag.arcs → IsStateNode states (dag.from_of t.dag k)

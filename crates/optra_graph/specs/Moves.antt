@@ -1,12 +1,12 @@
 -- A walk as a run from state to state.
 use Rattle.std.specs.Prelude.{◌≡◌, ℕ, ◌+◌, ◌⊎◌, true, not, List, [], ◌∷◌, length, slice_get, Some, IsSomeAnd, ⊤}
-use Rattle.optra_network.specs.Net.{Net, MayUse}
+use Rattle.optra_network.specs.Net.{Net, MayUse, IsFromTo}
 use Rattle.optra_bid.specs.Specs.{Path}
 use Rattle.optra_walk.specs.declared.Action.{Action}
 use Rattle.optra_walk.specs.declared.Action.TheVariants.{Pass, Halt, Wait, Finish}
 use Rattle.optra_walk.specs.declared.Leg.{Leg}
 use Rattle.optra_walk.specs.Legs.{is_pass, next_depart_of}
-use Rattle.optra_walk.specs.Walks.{IsEnd, IsWithin, MeetsStop, tail_of, head_of}
+use Rattle.optra_walk.specs.Walks.{IsEnd, MeetsStop, tail_of, head_of}
 use Rattle.optra_graph.specs.declared.states.State.{State}
 
 -- the state in which a walk with this first departure begins
@@ -17,7 +17,7 @@ start_state path minute = record { station = path.origin; minute = minute; halte
 abbrev pub FitsAction : Net → Path → ℕ → Leg → Action → Type 0
 FitsAction net path done leg Pass = ⊤
 FitsAction net path done leg (Halt d) = IsSomeAnd (slice_get path.stops done) (MeetsStop net path.kind leg)
-FitsAction net path done leg (Wait d) = IsWithin 1 path.wait_max d
+FitsAction net path done leg (Wait d) = IsFromTo 1 path.wait_max d
 FitsAction net path done leg Finish = (done ≡ length path.stops) × IsEnd net path leg
 
 -- the leg may be the next one in the state

@@ -9,6 +9,7 @@ use Rattle.optra_walk.specs.declared.Action.{Action}
 use Rattle.optra_walk.specs.declared.Action.TheVariants.{Pass, Halt, Wait, Finish}
 use Rattle.optra_walk.specs.declared.Leg.{Leg}
 use Rattle.optra_walk.specs.Legs.{dwell_of, arrival_of}
+use Rattle.optra_walk.specs.Orders.{action_rank}
 use Rattle.optra_walk.specs.Walks.{head_of, tail_of}
 use Rattle.optra_graph.specs.declared.states.State.{State}
 use Rattle.optra_graph.specs.declared.states.Layout.{Layout}
@@ -27,19 +28,12 @@ pub record IsStep (net : Net) (path : Path) (layout : Layout) (s : State) (step 
   pub move : IsMove net path s step.leg
   pub leads : LeadsTo net path layout s step.leg step.to
 
--- the order of actions
-abbrev pub rank_of : Action → ℕ
-rank_of Pass = 0
-rank_of (Halt d) = 1
-rank_of (Wait d) = 2
-rank_of Finish = 3
-
 -- legs of a state ascend by track, then by action, then by dwell, which is below 256
 abbrev pub bound_of : ℕ → ℕ → ℕ
 bound_of track rank = (track * 4 + rank) * 256
 
 abbrev pub key_of : Leg → ℕ
-key_of leg = bound_of leg.track.0 (rank_of leg.action) + dwell_of leg.action
+key_of leg = bound_of leg.track.0 (action_rank leg.action) + dwell_of leg.action
 
 abbrev pub Ascend : List Step → Type 0
 Ascend steps = AllPairs (λ a b. key_of a.leg < key_of b.leg) steps

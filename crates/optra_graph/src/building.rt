@@ -1,6 +1,6 @@
 //! The graph of a bid.
 ghost use Rattle.std.specs.Prelude.{◌≡◌, ◌+◌, ◌<◌, min, IfOk, is_ok, if◌then◌else◌};
-ghost use Rattle.optra_network.specs.Net.{IsStation};
+ghost use Rattle.optra_bid.specs.Specs.{IsPathOn};
 ghost use Rattle.optra_graph.specs.Flags.{IsKept};
 ghost use Rattle.optra_graph.specs.Nodes.{AreNumbers};
 ghost use Rattle.optra_graph.specs.Settings.{IsSetting};
@@ -64,7 +64,7 @@ pub fn build(
     bid: &Bid,
     builds: &mut Builds,
 ) -> Result<TimeGraph, NoMemory>
-    requires { IsStation net.now bid.now.path.origin }
+    requires { IsPathOn net.now bid.now.path }
     ensures graph { IfOk result (λ graph. IsGraphOf net.now bid.now.path graph) }
     ensures counted { builds.new ≡ (if is_ok result then min (builds.old + 1) u64.MAX else builds.old) }
 {
@@ -74,7 +74,7 @@ pub fn build(
 }
 
 fn make_graph(alloc: Global, net: &Network, bid: &Bid) -> Result<TimeGraph, NoMemory>
-    requires { IsStation net.now bid.now.path.origin }
+    requires { IsPathOn net.now bid.now.path }
     ensures { IfOk result (λ graph. IsGraphOf net.now bid.now.path graph) }
 {
     let layout = make_layout(net, bid);

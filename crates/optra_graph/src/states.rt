@@ -1,6 +1,6 @@
 //! States of a train under way, and their places in one dense numbering.
 ghost use Rattle.std.specs.Prelude.{◌≡◌, ℕ, ◌+◌, ◌-◌, ◌*◌, ◌<◌, ◌≤◌, length};
-ghost use Rattle.optra_network.specs.Net.{IsStation};
+ghost use Rattle.optra_bid.specs.Specs.{IsPathOn};
 ghost use Rattle.optra_graph.specs.Places.{place_of, slot_of, state_of, places_of, IsPlaced, IsSmall};
 ghost use Rattle.optra_graph.specs.Settings.{IsSetting};
 
@@ -28,7 +28,7 @@ pub struct Layout {
 
 /// The states that a walk of the bid may come through: they depart before the end of the arrival window.
 pub fn make_layout(net: &Network, bid: &Bid) -> Layout
-    requires { IsStation net.now bid.now.path.origin }
+    requires { IsPathOn net.now bid.now.path }
     ensures { IsSetting net.now bid.now.path result }
 {
     let first = bid.path.depart.from;

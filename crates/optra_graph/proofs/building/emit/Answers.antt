@@ -42,7 +42,7 @@ is_graph c =
     ∙ ap (λ (e : ℕ). set (replicate (e + 1) false) e true) n in
     graph_of_timed c.args.net.now c.args.bid.now.path _ (states_of c.args.layout (places_of c.args.layout) c.args.flags.now)
     (timed_is c.args.net.now c.args.bid.now.path c.args.layout c.requires.setting c.args.flags.now c.requires.kept c.add_starts.new.dag.arcs c.add_legs.new.dag.arcs c.add_starts.new.minutes.items c.add_legs.new.legs.items (c.args.layout.first + c.args.layout.minutes) refl
-        c.in_ok-add_starts.ensures.starts made c.add_legs.new.dag.ends ends c.arcs-arcs.ensures.forward)
+    c.in_ok-add_starts.ensures.starts made c.add_legs.new.dag.ends ends c.arcs-arcs.ensures.forward)
 
 pub invariant_of-result : goal.invariant_of-result
 invariant_of-result c = let g = is_graph c in g.laid_out

@@ -26,8 +26,8 @@ returns c =
       refl,
       record {
         tail = c.requires.tail;
-        head = c.head.ensures;
-        station = head_within c.args.net.now c.args.track.0 c.head.result c.requires.proper c.head.ensures;
+        head = c.head.ensures.head;
+        station = head_within c.args.net.now c.args.track.0 c.head.result c.requires.proper c.head.ensures.head;
         may_use = run_some (times_of c.args.net.now c.args.track c.args.bid.now.path.kind) c.args.state.halted false c.in_ok-pass.pass e;
         pass = run_arrival (times_of c.args.net.now c.args.track c.args.bid.now.path.kind) c.args.state.halted false c.in_ok-pass.pass c.args.state.minute e;
         halt = run_arrival (times_of c.args.net.now c.args.track c.args.bid.now.path.kind) c.args.state.halted true c.in_ok-halt.halt c.args.state.minute f;
