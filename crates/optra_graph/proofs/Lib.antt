@@ -17,3 +17,4 @@ pub mod LegLemmas
 pub mod GraphLemmas
 pub mod TimedLemmas
 pub mod RouteLemmas
+pub mod ServeLemmas

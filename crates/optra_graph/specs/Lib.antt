@@ -9,3 +9,5 @@ pub mod Arcs
 pub mod Graphs
 pub mod Nodes
 pub mod Settings
+pub mod Served
+pub mod FreshParts

@@ -5,11 +5,13 @@ mod building;
 mod emitting;
 mod numbering;
 mod reaching;
+mod serving;
 mod states;
 mod stepping;
 mod timegraphs;
 
 pub use building::{Builds, build};
+pub use serving::{FreshGraphs, Graphs};
 pub use timegraphs::TimeGraph;
 
 #[cfg(test)]
