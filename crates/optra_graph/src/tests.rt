@@ -1,36 +1,40 @@
-//! Graphs of small networks beside a slow list of all walks.
-use crate::{Builds, TimeGraph, build};
+//! Graphs of a small network beside a slow list of all walks, which tries every list of legs.
+ghost use Rattle.std.specs.Prelude.{◌≡◌, ◌<◌, IsTrue, All};
+ghost use Rattle.optra_bid.specs.Specs.{IsPathOn};
+
+use crate::{Builds, FreshGraphs, Graphs, TimeGraph, build};
 use optra_bid::{Bid, BidFault, Name, RawBid, RawStop};
 use optra_dag::{Weight, first_best};
-use optra_network::{Builder, Network, NoMemory, StationId, TrackId, TypeId};
-use optra_walk::{Action, Leg, follows, next_depart, walk_order};
+use optra_network::{
+    Builder, NetFault, NetRefusal, Network, NoMemory, StationId, TrackId, TypeId, is_name,
+};
+use optra_walk::{Action, Leg, Walk, follows, next_depart, walk_order};
 use std::alloc::Global;
 use std::cmp::Ordering;
 use std::process::Abort;
 use std::test::Fail;
 
-/// Which arcs are allowed, and what each adds.
+/// Which arcs are allowed. They all add nothing.
 #[derive(Clone, Copy)]
 struct Table<'a> {
     allowed: &'a [bool],
-    weights: &'a [i64],
 }
 
 impl Weight for Table<'_> {
-    ghost use Rattle.std.specs.Prelude.{length, min, false, pos, slice_index_or};
+    ghost use Rattle.std.specs.Prelude.{length, false, pos, slice_index_or};
 
-    ghost asked = { λ table. min (length table.allowed.now) (length table.weights.now) };
+    ghost asked = { λ table. length table.allowed.now };
 
     ghost allows = { λ table arc. slice_index_or table.allowed.now arc false };
 
-    ghost weight = { λ table arc. slice_index_or table.weights.now arc (pos 0) };
+    ghost weight = { λ _ _. pos 0 };
 
     fn allowed(&self, arc: u32) -> bool {
         self.allowed[arc as usize]
     }
 
-    fn of(&self, arc: u32) -> i128 {
-        i128::from(self.weights[arc as usize])
+    fn of(&self, _arc: u32) -> i128 {
+        0
     }
 }
 
@@ -43,147 +47,58 @@ struct Part {
     halted: bool,
 }
 
-/// Two tracks from A to B, one on to C and back, with a slow type that may not use the second track.
-fn small_network(alloc: Global) -> Result<Network, optra_network::NetFault> {
-    let mut builder = Builder::new(alloc)?;
+fn unnamed() -> Fail {
+    Fail::from(NetFault::Refused(NetRefusal::UnknownName))
+}
+
+fn add_track(net: &mut Builder, name: &str, from: &str, to: &str) -> Result<(), Fail> {
+    if !is_name(name) {
+        return Err(unnamed());
+    }
+    net.track(name, from, to)?;
+    Ok(())
+}
+
+fn add_names(net: &mut Builder) -> Result<(), Fail> {
     for name in ["A", "B", "C"] {
-        builder.station(name)?;
+        if !is_name(name) {
+            return Err(unnamed());
+        }
+        net.station(name)?;
     }
-    for (name, from, to) in [
-        ("ab", "A", "B"),
-        ("ab2", "A", "B"),
-        ("bc", "B", "C"),
-        ("cb", "C", "B"),
-        ("ba", "B", "A"),
-    ] {
-        builder.track(name, from, to)?;
+    for name in ["fast", "slow"] {
+        if !is_name(name) {
+            return Err(unnamed());
+        }
+        net.train_type(name)?;
     }
-    builder.train_type("fast")?;
-    builder.train_type("slow")?;
+    Ok(())
+}
+
+/// Two tracks from A to B, and one each from B to C, from C to B and from B to A. The slow type may use neither the
+/// second track from A to B nor the one from C to B.
+fn make_network(alloc: Global) -> Result<Network, Fail> {
+    let mut net = Builder::new(alloc)?;
+    add_names(&mut net)?;
+    add_track(&mut net, "ab", "A", "B")?;
+    add_track(&mut net, "ab2", "A", "B")?;
+    add_track(&mut net, "bc", "B", "C")?;
+    add_track(&mut net, "cb", "C", "B")?;
+    add_track(&mut net, "ba", "B", "A")?;
     for track in ["ab", "ab2", "bc", "cb", "ba"] {
-        builder.running(track, "fast", [1, 2, 2, 3])?;
-        builder.headway(track, "fast", "fast", 2)?;
+        net.running(track, "fast", [1, 2, 2, 3])?;
+        net.headway(track, "fast", "fast", 2)?;
     }
     for track in ["ab", "bc", "ba"] {
-        builder.running(track, "slow", [2, 2, 3, 3])?;
-        builder.headway(track, "slow", "slow", 2)?;
-        builder.headway(track, "slow", "fast", 2)?;
-        builder.headway(track, "fast", "slow", 2)?;
+        net.running(track, "slow", [2, 2, 3, 3])?;
+        net.headway(track, "slow", "slow", 2)?;
+        net.headway(track, "slow", "fast", 2)?;
+        net.headway(track, "fast", "slow", 2)?;
     }
-    builder.finish()
+    Ok(net.finish()?)
 }
 
-/// Every leg by which the part may go on, with any of the actions.
-fn add_longer(
-    alloc: Global,
-    net: &Network,
-    bid: &Bid,
-    actions: &[Action],
-    part: &Part,
-    into: &mut Vec<Part>,
-) -> Result<(), NoMemory> {
-    if part.minute > u32::from(bid.path.arrive.to) || part.minute > 2879 {
-        return Ok(());
-    }
-    for track in 0..net.track_count() {
-        let track = TrackId(track);
-        if net.tail(track) != part.station {
-            continue;
-        }
-        for action in actions {
-            let leg = Leg {
-                track,
-                depart: part.minute as u16,
-                from_halt: part.halted,
-                action: *action,
-            };
-            let mut legs = Vec::from_slice(alloc, &part.legs)?;
-            legs.push(leg)?;
-            into.push(Part {
-                legs,
-                station: net.head(track),
-                minute: next_depart(net, bid.path.kind, leg).unwrap_or(9999),
-                halted: *action != Action::Pass,
-            })?;
-        }
-    }
-    Ok(())
-}
-
-/// All walks of the bid with at most so many legs, in walk order.
-fn all_walks(
-    alloc: Global,
-    net: &Network,
-    bid: &Bid,
-    actions: &[Action],
-    most: usize,
-) -> Result<Vec<Vec<Leg>>, NoMemory> {
-    let mut walks: Vec<Vec<Leg>> = Vec::new(alloc);
-    let mut parts = Vec::new(alloc);
-    for minute in u32::from(bid.path.depart.from)..u32::from(bid.path.depart.to) + 1 {
-        parts.push(Part {
-            legs: Vec::new(alloc),
-            station: bid.path.origin,
-            minute,
-            halted: true,
-        })?;
-    }
-    for _ in 0..most {
-        let mut longer = Vec::new(alloc);
-        for part in &parts {
-            add_longer(alloc, net, bid, actions, part, &mut longer)?;
-        }
-        parts = Vec::new(alloc);
-        for part in longer {
-            if follows(net, bid, &part.legs) {
-                add_walk(&mut walks, part.legs)?;
-            } else {
-                parts.push(part)?;
-            }
-        }
-    }
-    Ok(walks)
-}
-
-/// Puts a walk in its place in walk order.
-fn add_walk(walks: &mut Vec<Vec<Leg>>, walk: Vec<Leg>) -> Result<(), NoMemory> {
-    let mut place = 0;
-    for other in walks.iter() {
-        if other.is_empty() || walk.is_empty() || walk_order(other, &walk) != Ordering::Less {
-            break;
-        }
-        place += 1;
-    }
-    if place <= walks.len() {
-        walks.insert(place, walk)?;
-    }
-    Ok(())
-}
-
-/// The arcs of the only path by the legs of the walk.
-fn path_of(alloc: Global, graph: &TimeGraph, legs: &[Leg]) -> Result<Option<Vec<u32>>, NoMemory> {
-    let arcs = graph.dag().arcs();
-    let mut allowed = Vec::new(alloc);
-    let mut weights = Vec::new(alloc);
-    for arc in 0..arcs {
-        let fits = match graph.leg(arc) {
-            Some(leg) => legs.contains(&leg),
-            None => graph.start(arc) == legs.first().map(|leg| leg.depart),
-        };
-        allowed.push(fits)?;
-        weights.push(0)?;
-    }
-    if allowed.len() != arcs as usize || weights.len() != arcs as usize {
-        return Ok(None);
-    }
-    let table = Table {
-        allowed: &allowed,
-        weights: &weights,
-    };
-    Ok(first_best(alloc, graph.dag(), &table)?.map(|best| best.1))
-}
-
-/// What is to be tried: the type, where the bid leads to, and its windows' ends, greatest wait and stops.
+/// What is to be tried: the type, where the bid from A leads to, its windows' ends, its greatest wait and its stops.
 #[derive(Clone, Copy)]
 struct Case<'a> {
     kind: u16,
@@ -192,7 +107,15 @@ struct Case<'a> {
     arrive: [u64; 2],
     wait_max: u64,
     stops: &'a [RawStop],
-    walks: usize,
+}
+
+fn stop(station: u16, dwells: [u64; 2], arrive: [u64; 2]) -> RawStop {
+    RawStop {
+        station: StationId(station),
+        min_dwell: dwells[0],
+        max_dwell: dwells[1],
+        arrive,
+    }
 }
 
 fn make_bid(alloc: Global, case: &Case<'_>) -> Result<Option<Bid>, BidFault> {
@@ -218,115 +141,132 @@ fn make_bid(alloc: Global, case: &Case<'_>) -> Result<Option<Bid>, BidFault> {
     Ok(Some(bid))
 }
 
-fn stop(station: u16, min_dwell: u64, max_dwell: u64, from: u64, to: u64) -> RawStop {
-    RawStop {
-        station: StationId(station),
-        min_dwell,
-        max_dwell,
-        arrive: [from, to],
-    }
+/// Whether the type and the stations are positions of the network.
+fn is_on(net: &Network, bid: &Bid) -> bool
+    ensures { IsTrue result → IsPathOn net.now bid.now.path }
+{
+    let path = &bid.path;
+    let stations = net.station_count();
+    path.kind.0 < net.type_count()
+        && path.origin.0 < stations
+        && path.destination.0 < stations
+        && path.stops.iter().all(|stop| stop.station.0 < stations)
 }
 
-#[test]
-fn paths_are_all_walks_in_order(rt: HostRuntime) -> Result<(), Fail> {
-    let alloc = rt.alloc();
-    let net = small_network(alloc)?;
-    let mut builds = Builds::new();
-    let actions = [
-        Action::Pass,
-        Action::Halt(0),
-        Action::Halt(1),
-        Action::Halt(2),
-        Action::Halt(3),
-        Action::Wait(1),
-        Action::Wait(2),
-        Action::Wait(3),
-        Action::Finish,
-    ];
-    let cases = [
-        Case {
-            kind: 0,
-            to: 1,
-            depart: [0, 0],
-            arrive: [3, 5],
-            wait_max: 0,
-            stops: &[],
-            walks: 2,
-        },
-        Case {
-            kind: 0,
-            to: 1,
-            depart: [0, 0],
-            arrive: [0, 2],
-            wait_max: 0,
-            stops: &[],
-            walks: 0,
-        },
-        Case {
-            kind: 0,
-            to: 1,
-            depart: [0, 9],
-            arrive: [4, 7],
-            wait_max: 0,
-            stops: &[],
-            walks: 10,
-        },
-        Case {
-            kind: 1,
-            to: 2,
-            depart: [1, 2],
-            arrive: [0, 9],
-            wait_max: 2,
-            stops: &[],
-            walks: 9,
-        },
-        Case {
-            kind: 0,
-            to: 2,
-            depart: [0, 1],
-            arrive: [0, 8],
-            wait_max: 3,
-            stops: &[stop(1, 1, 2, 2, 4)],
-            walks: 9,
-        },
-        Case {
-            kind: 0,
-            to: 2,
-            depart: [0, 1],
-            arrive: [0, 11],
-            wait_max: 1,
-            stops: &[stop(1, 0, 1, 0, 99), stop(0, 0, 2, 0, 7)],
-            walks: 9,
-        },
-        Case {
-            kind: 0,
-            to: 1,
-            depart: [0, 0],
-            arrive: [0, 9],
-            wait_max: 1,
-            stops: &[stop(2, 0, 3, 5, 6)],
-            walks: 9,
-        },
-    ];
-    for case in &cases {
-        let Some(bid) = make_bid(alloc, case)? else {
-            continue;
-        };
-        let walks = all_walks(alloc, &net, &bid, &actions, 5)?;
-        let graph = build(alloc, &net, &bid, &mut builds)?;
-        println!(rt; "walks {} arcs {}", walks.len(), graph.dag().arcs())?;
-        check(&rt, &graph, &walks)?;
+/// The part with each leg by which it may go on, with any of the actions.
+fn add_longer(
+    alloc: Global,
+    net: &Network,
+    bid: &Bid,
+    actions: &[Action],
+    part: &Part,
+    into: &mut Vec<Part>,
+) -> Result<(), NoMemory> {
+    if part.minute > u32::from(bid.path.arrive.to) || part.minute > 2879 {
+        return Ok(());
     }
-    assert_eq!(rt; builds.count(), 7);
+    for number in 0..net.track_count() {
+        let track = TrackId(number);
+        if net.tail(track) != part.station {
+            continue;
+        }
+        for action in actions {
+            let leg = Leg {
+                track,
+                depart: part.minute as u16,
+                from_halt: part.halted,
+                action: *action,
+            };
+            let mut legs = Vec::from_slice(alloc, &part.legs)?;
+            legs.push(leg)?;
+            into.push(Part {
+                legs,
+                station: net.head(track),
+                minute: next_depart(net, bid.path.kind, leg).unwrap_or(9999),
+                halted: *action != Action::Pass,
+            })?;
+        }
+    }
     Ok(())
 }
 
-/// Each walk has its path, the paths ascend, and every arc is one of them.
-fn check<R: Abort>(rt: &R, graph: &TimeGraph, walks: &[Vec<Leg>]) -> Result<(), NoMemory>
-where
-    R: AllocGlobal,
-{
-    let alloc = rt.alloc();
+/// All walks of the bid with at most five legs, in walk order.
+fn all_walks(
+    alloc: Global,
+    net: &Network,
+    bid: &Bid,
+    actions: &[Action],
+) -> Result<Vec<Vec<Leg>>, NoMemory> {
+    let mut walks: Vec<Vec<Leg>> = Vec::new(alloc);
+    let mut parts = Vec::new(alloc);
+    for minute in bid.path.depart.from..bid.path.depart.to.saturating_add(1) {
+        parts.push(Part {
+            legs: Vec::new(alloc),
+            station: bid.path.origin,
+            minute: u32::from(minute),
+            halted: true,
+        })?;
+    }
+    for _ in 0..5 {
+        let mut longer = Vec::new(alloc);
+        for part in &parts {
+            add_longer(alloc, net, bid, actions, part, &mut longer)?;
+        }
+        parts = Vec::new(alloc);
+        for part in longer {
+            if follows(net, bid, &part.legs) {
+                add_walk(&mut walks, part.legs)?;
+            } else {
+                parts.push(part)?;
+            }
+        }
+    }
+    Ok(walks)
+}
+
+/// Puts a walk in its place in walk order.
+fn add_walk(walks: &mut Vec<Vec<Leg>>, walk: Vec<Leg>) -> Result<(), NoMemory> {
+    let place = place_in(walks, &walk);
+    if place <= walks.len() {
+        walks.insert(place, walk)?;
+    }
+    Ok(())
+}
+
+fn place_in(walks: &[Vec<Leg>], walk: &[Leg]) -> usize {
+    for (place, other) in walks.iter().enumerate() {
+        if other.is_empty() || walk.is_empty() || walk_order(other, walk) != Ordering::Less {
+            return place;
+        }
+    }
+    walks.len()
+}
+
+/// The path of the walk: the first one whose arcs have legs of the walk and its departure.
+fn path_of(alloc: Global, graph: &TimeGraph, legs: &[Leg]) -> Result<Option<Vec<u32>>, NoMemory> {
+    let arcs = graph.dag().arcs();
+    let mut allowed = Vec::new(alloc);
+    for arc in 0..arcs {
+        let fits = match graph.leg(arc) {
+            Some(leg) => legs.contains(&leg),
+            None => graph.start(arc) == legs.first().map(|leg| leg.depart),
+        };
+        allowed.push(fits)?;
+    }
+    if allowed.len() != arcs as usize {
+        return Ok(None);
+    }
+    let table = Table { allowed: &allowed };
+    Ok(first_best(alloc, graph.dag(), &table)?.map(|best| best.1))
+}
+
+/// Each walk has its path, the paths ascend, and every arc lies on one of them.
+fn check<R: Abort>(
+    rt: &R,
+    alloc: Global,
+    graph: &TimeGraph,
+    walks: &[Vec<Leg>],
+) -> Result<(), NoMemory> {
     let mut last: Vec<u32> = Vec::new(alloc);
     let mut used = Vec::new(alloc);
     used.resize(graph.dag().arcs() as usize, false)?;
@@ -335,7 +275,7 @@ where
             assert!(rt; false, "a walk has no path");
             continue;
         };
-        assert!(rt; last < path);
+        assert!(rt; last < path, "the paths don't ascend");
         for arc in &path {
             assert!(rt; (*arc as usize) < used.len());
             used[*arc as usize] = true;
@@ -344,4 +284,169 @@ where
     }
     assert!(rt; used.iter().all(|used| *used), "an arc is on no walk");
     Ok(())
+}
+
+#[test]
+fn paths_are_all_walks_in_order(rt: HostRuntime) -> Result<(), Fail> {
+    let alloc = rt.alloc();
+    let net = make_network(alloc)?;
+    let mut builds = Builds::new();
+    let mut fresh = FreshGraphs::new(&net);
+    let actions = [
+        Action::Pass,
+        Action::Halt(0),
+        Action::Halt(1),
+        Action::Halt(2),
+        Action::Wait(1),
+        Action::Wait(2),
+        Action::Finish,
+    ];
+    let at_b = [stop(1, [1, 2], [2, 4])];
+    let at_b_and_a = [stop(1, [0, 1], [0, 99]), stop(0, [0, 2], [0, 6])];
+    let at_c = [stop(2, [0, 2], [5, 6])];
+    let cases = [
+        Case {
+            kind: 0,
+            to: 1,
+            depart: [0, 0],
+            arrive: [3, 5],
+            wait_max: 0,
+            stops: &[],
+        },
+        Case {
+            kind: 0,
+            to: 1,
+            depart: [0, 0],
+            arrive: [0, 2],
+            wait_max: 0,
+            stops: &[],
+        },
+        Case {
+            kind: 0,
+            to: 1,
+            depart: [0, 9],
+            arrive: [4, 6],
+            wait_max: 0,
+            stops: &[],
+        },
+        Case {
+            kind: 1,
+            to: 2,
+            depart: [1, 2],
+            arrive: [0, 9],
+            wait_max: 2,
+            stops: &[],
+        },
+        Case {
+            kind: 0,
+            to: 2,
+            depart: [0, 1],
+            arrive: [0, 7],
+            wait_max: 2,
+            stops: &at_b,
+        },
+        Case {
+            kind: 0,
+            to: 2,
+            depart: [0, 0],
+            arrive: [0, 10],
+            wait_max: 0,
+            stops: &at_b_and_a,
+        },
+        Case {
+            kind: 0,
+            to: 1,
+            depart: [0, 0],
+            arrive: [0, 9],
+            wait_max: 1,
+            stops: &at_c,
+        },
+    ];
+    let mut counts = Vec::new(alloc);
+    let mut arcs = Vec::new(alloc);
+    let mut bids = Vec::new(alloc);
+    for case in &cases {
+        let Some(bid) = make_bid(alloc, case)? else {
+            return Err(unnamed());
+        };
+        assert!(rt; is_on(&net, &bid));
+        let walks = all_walks(alloc, &net, &bid, &actions)?;
+        let graph = build(alloc, &net, &bid, &mut builds)?;
+        check(&rt, alloc, &graph, &walks)?;
+        if let (Some(walk), Some(first)) = (walks.first(), first_walk(alloc, &graph)?) {
+            assert_eq!(rt; first.legs.as_slice(), walk.as_slice());
+        }
+        counts.push(walks.len())?;
+        arcs.push(graph.dag().arcs())?;
+        bids.push(bid)?;
+    }
+    assert!(rt; are_on(&net, &bids));
+    serve(&rt, alloc, &mut fresh, &bids, &arcs)?;
+    assert!(rt; counts.len() == 7 && arcs.len() == 7);
+    // Two tracks straight to B, or on from B, over C or by a track back to A, and again to B; too early for any.
+    assert_eq!(rt; counts[0], 8);
+    assert_eq!(rt; (counts[1], arcs[1]), (0, 0));
+    assert_eq!(rt; builds.count(), 7);
+    assert_eq!(rt; fresh.builds(), 7);
+    Ok(())
+}
+
+/// Graphs that are served have as many arcs as those that were built.
+fn serve<R: Abort, G: Graphs>(
+    rt: &R,
+    alloc: Global,
+    graphs: &mut G,
+    bids: &[Bid],
+    arcs: &[u32],
+) -> Result<(), NoMemory>
+    requires { All (λ bid. IsPathOn (G.network graphs.old) bid.path) bids.now }
+{
+    graphs.prepare(alloc, bids)?;
+    for (place, bid) in bids.iter().enumerate() {
+        assert!(rt; place < arcs.len());
+        assert_eq!(rt; graphs.graph(bid).dag().arcs(), arcs[place]);
+    }
+    Ok(())
+}
+
+/// Every arc is allowed.
+#[derive(Clone, Copy)]
+struct Free;
+
+impl Weight for Free {
+    ghost use Rattle.std.specs.Prelude.{true, pos};
+
+    ghost asked = { λ _. 4294967296 };
+
+    ghost allows = { λ _ _. true };
+
+    ghost weight = { λ _ _. pos 0 };
+
+    fn allowed(&self, _arc: u32) -> bool {
+        true
+    }
+
+    fn of(&self, _arc: u32) -> i128 {
+        0
+    }
+}
+
+/// The walk of the first path.
+fn first_walk(alloc: Global, graph: &TimeGraph) -> Result<Option<Walk>, NoMemory> {
+    let Some((_, path)) = first_best(alloc, graph.dag(), &Free)? else {
+        return Ok(None);
+    };
+    Ok(Some(graph.walk_of(alloc, &path)?))
+}
+
+/// Whether all bids are for the network.
+fn are_on(net: &Network, bids: &[Bid]) -> bool
+    ensures { IsTrue result → All (λ bid. IsPathOn net.now bid.path) bids.now }
+{
+    for bid in bids {
+        if !is_on(net, bid) {
+            return false;
+        }
+    }
+    true
 }
