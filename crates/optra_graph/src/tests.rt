@@ -286,125 +286,181 @@ fn check<R: Abort>(
     Ok(())
 }
 
+/// What was tried.
+#[derive(Drop)]
+struct Tried {
+    walks: Vec<usize>,
+    arcs: Vec<u32>,
+    bids: Vec<Bid>,
+    builds: Builds,
+}
+
+/// Builds the graph of a case and compares it with the slow list of its walks.
+fn try_case<R: Abort>(
+    rt: &R,
+    alloc: Global,
+    net: &Network,
+    case: &Case<'_>,
+    tried: &mut Tried,
+) -> Result<(), Fail> {
+    let Some(bid) = make_bid(alloc, case)? else {
+        return Err(unnamed());
+    };
+    assert!(rt; is_on(net, &bid));
+    let walks = all_walks(alloc, net, &bid, &ACTIONS)?;
+    let graph = build(alloc, net, &bid, &mut tried.builds)?;
+    check(rt, alloc, &graph, &walks)?;
+    compare_first(rt, alloc, &graph, &walks)?;
+    tried.walks.push(walks.len())?;
+    tried.arcs.push(graph.dag().arcs())?;
+    tried.bids.push(bid)?;
+    Ok(())
+}
+
+/// The first walk of the graph is the first of the list.
+fn compare_first<R: Abort>(
+    rt: &R,
+    alloc: Global,
+    graph: &TimeGraph,
+    walks: &[Vec<Leg>],
+) -> Result<(), NoMemory> {
+    let first = first_walk(alloc, graph)?;
+    assert_eq!(rt; first.is_some(), !walks.is_empty());
+    if let (Some(walk), Some(first)) = (walks.first(), first) {
+        assert!(rt; first.legs.as_slice() == walk.as_slice());
+    }
+    Ok(())
+}
+
+const ACTIONS: [Action; 7] = [
+    Action::Pass,
+    Action::Halt(0),
+    Action::Halt(1),
+    Action::Halt(2),
+    Action::Wait(1),
+    Action::Wait(2),
+    Action::Finish,
+];
+
+const STRAIGHT: Case<'static> = Case {
+    kind: 0,
+    to: 1,
+    depart: [0, 0],
+    arrive: [3, 5],
+    wait_max: 0,
+    stops: &[],
+};
+
+/// Straight to B, too early for any walk, and with a departure window that is wider than the arrival window allows.
+fn try_windows<R: Abort>(
+    rt: &R,
+    alloc: Global,
+    net: &Network,
+    tried: &mut Tried,
+) -> Result<(), Fail> {
+    try_case(rt, alloc, net, &STRAIGHT, tried)?;
+    let early = Case {
+        arrive: [0, 2],
+        ..STRAIGHT
+    };
+    try_case(rt, alloc, net, &early, tried)?;
+    let wide = Case {
+        depart: [0, 9],
+        arrive: [4, 6],
+        ..STRAIGHT
+    };
+    try_case(rt, alloc, net, &wide, tried)
+}
+
+/// The slow type over waits, and stops in order, a stop's station passed, and a station visited twice.
+fn try_stops<R: Abort>(
+    rt: &R,
+    alloc: Global,
+    net: &Network,
+    tried: &mut Tried,
+) -> Result<(), Fail> {
+    let slow = Case {
+        kind: 1,
+        to: 2,
+        depart: [1, 2],
+        arrive: [0, 9],
+        wait_max: 2,
+        ..STRAIGHT
+    };
+    try_case(rt, alloc, net, &slow, tried)?;
+    let at_b = [stop(1, [1, 2], [2, 4])];
+    let one = Case {
+        to: 2,
+        depart: [0, 1],
+        arrive: [0, 7],
+        wait_max: 2,
+        stops: &at_b,
+        ..STRAIGHT
+    };
+    try_case(rt, alloc, net, &one, tried)?;
+    let at_b_and_a = [stop(1, [0, 1], [0, 99]), stop(0, [0, 2], [0, 6])];
+    let two = Case {
+        to: 2,
+        arrive: [0, 10],
+        stops: &at_b_and_a,
+        ..STRAIGHT
+    };
+    try_case(rt, alloc, net, &two, tried)
+}
+
 #[test]
 fn paths_are_all_walks_in_order(rt: HostRuntime) -> Result<(), Fail> {
     let alloc = rt.alloc();
     let net = make_network(alloc)?;
-    let mut builds = Builds::new();
-    let mut fresh = FreshGraphs::new(&net);
-    let actions = [
-        Action::Pass,
-        Action::Halt(0),
-        Action::Halt(1),
-        Action::Halt(2),
-        Action::Wait(1),
-        Action::Wait(2),
-        Action::Finish,
-    ];
-    let at_b = [stop(1, [1, 2], [2, 4])];
-    let at_b_and_a = [stop(1, [0, 1], [0, 99]), stop(0, [0, 2], [0, 6])];
-    let at_c = [stop(2, [0, 2], [5, 6])];
-    let cases = [
-        Case {
-            kind: 0,
-            to: 1,
-            depart: [0, 0],
-            arrive: [3, 5],
-            wait_max: 0,
-            stops: &[],
-        },
-        Case {
-            kind: 0,
-            to: 1,
-            depart: [0, 0],
-            arrive: [0, 2],
-            wait_max: 0,
-            stops: &[],
-        },
-        Case {
-            kind: 0,
-            to: 1,
-            depart: [0, 9],
-            arrive: [4, 6],
-            wait_max: 0,
-            stops: &[],
-        },
-        Case {
-            kind: 1,
-            to: 2,
-            depart: [1, 2],
-            arrive: [0, 9],
-            wait_max: 2,
-            stops: &[],
-        },
-        Case {
-            kind: 0,
-            to: 2,
-            depart: [0, 1],
-            arrive: [0, 7],
-            wait_max: 2,
-            stops: &at_b,
-        },
-        Case {
-            kind: 0,
-            to: 2,
-            depart: [0, 0],
-            arrive: [0, 10],
-            wait_max: 0,
-            stops: &at_b_and_a,
-        },
-        Case {
-            kind: 0,
-            to: 1,
-            depart: [0, 0],
-            arrive: [0, 9],
-            wait_max: 1,
-            stops: &at_c,
-        },
-    ];
-    let mut counts = Vec::new(alloc);
-    let mut arcs = Vec::new(alloc);
-    let mut bids = Vec::new(alloc);
-    for case in &cases {
-        let Some(bid) = make_bid(alloc, case)? else {
-            return Err(unnamed());
-        };
-        assert!(rt; is_on(&net, &bid));
-        let walks = all_walks(alloc, &net, &bid, &actions)?;
-        let graph = build(alloc, &net, &bid, &mut builds)?;
-        check(&rt, alloc, &graph, &walks)?;
-        if let (Some(walk), Some(first)) = (walks.first(), first_walk(alloc, &graph)?) {
-            assert_eq!(rt; first.legs.as_slice(), walk.as_slice());
-        }
-        counts.push(walks.len())?;
-        arcs.push(graph.dag().arcs())?;
-        bids.push(bid)?;
-    }
-    assert!(rt; are_on(&net, &bids));
-    serve(&rt, alloc, &mut fresh, &bids, &arcs)?;
-    assert!(rt; counts.len() == 7 && arcs.len() == 7);
+    let mut tried = Tried {
+        walks: Vec::new(alloc),
+        arcs: Vec::new(alloc),
+        bids: Vec::new(alloc),
+        builds: Builds::new(),
+    };
+    try_windows(&rt, alloc, &net, &mut tried)?;
+    try_stops(&rt, alloc, &net, &mut tried)?;
     // Two tracks straight to B, or on from B, over C or by a track back to A, and again to B; too early for any.
-    assert_eq!(rt; counts[0], 8);
-    assert_eq!(rt; (counts[1], arcs[1]), (0, 0));
-    assert_eq!(rt; builds.count(), 7);
-    assert_eq!(rt; fresh.builds(), 7);
+    assert_eq!(rt; tried.walks.first(), Some(&8));
+    assert_eq!(rt; tried.walks.get(1), Some(&0));
+    assert_eq!(rt; tried.arcs.get(1), Some(&0));
+    assert_eq!(rt; tried.builds.count(), 6);
     Ok(())
 }
 
-/// Graphs that are served have as many arcs as those that were built.
+#[test]
+fn fresh_graphs_serve_what_was_prepared(rt: HostRuntime) -> Result<(), Fail> {
+    let alloc = rt.alloc();
+    let net = make_network(alloc)?;
+    let mut bids = Vec::new(alloc);
+    for to in [1, 2] {
+        let Some(bid) = make_bid(alloc, &Case { to, ..STRAIGHT })? else {
+            return Err(unnamed());
+        };
+        bids.push(bid)?;
+    }
+    assert!(rt; are_on(&net, &bids));
+    let mut fresh = FreshGraphs::new(&net);
+    serve(&rt, alloc, &mut fresh, &bids)?;
+    assert_eq!(rt; fresh.builds(), 2);
+    Ok(())
+}
+
+/// Graphs that are served have the walks of their bids.
 fn serve<R: Abort, G: Graphs>(
     rt: &R,
     alloc: Global,
     graphs: &mut G,
     bids: &[Bid],
-    arcs: &[u32],
 ) -> Result<(), NoMemory>
     requires { All (λ bid. IsPathOn (G.network graphs.old) bid.path) bids.now }
 {
     graphs.prepare(alloc, bids)?;
-    for (place, bid) in bids.iter().enumerate() {
-        assert!(rt; place < arcs.len());
-        assert_eq!(rt; graphs.graph(bid).dag().arcs(), arcs[place]);
+    for bid in bids {
+        if let Some(walk) = first_walk(alloc, graphs.graph(bid))? {
+            let last = walk.legs.last().map(|leg| leg.action);
+            assert!(rt; last == Some(Action::Finish));
+        }
     }
     Ok(())
 }
@@ -433,7 +489,9 @@ impl Weight for Free {
 
 /// The walk of the first path.
 fn first_walk(alloc: Global, graph: &TimeGraph) -> Result<Option<Walk>, NoMemory> {
-    let Some((_, path)) = first_best(alloc, graph.dag(), &Free)? else {
+    let dag = graph.dag();
+    let _arcs = dag.arcs();
+    let Some((_, path)) = first_best(alloc, dag, &Free)? else {
         return Ok(None);
     };
     Ok(Some(graph.walk_of(alloc, &path)?))
