@@ -41,10 +41,10 @@ impl Dag {
     }
 
     /// Makes room for so many more arcs at once, and no more than that; the graph stays as it is.
-    pub fn reserve(&mut self, arcs: u32) -> Result<(), NoMemory>
+    pub fn reserve(&mut self, arcs: usize) -> Result<(), NoMemory>
         ensures { self.new ≡ self.old }
     {
-        self.arcs.reserve_exact(arcs as usize)
+        self.arcs.reserve_exact(arcs)
     }
 
     /// Adds an arc, and gives its number, the count of arcs before the call. The arc must lead to a later node,

@@ -1,0 +1,51 @@
+-- One more place.
+use Rattle.std.proofs.Common.{rules, arith, ◌≡◌, ◌+◌, ◌-◌, ◌<◌, ◌∙◌, ap, sym, subst, replicate, true, false, length, List, Bool, ℕ}
+use Rattle.optra_graph.specs.declared.states.State.{State}
+use Rattle.optra_graph.specs.Flags.{IsTrimmedTo}
+use Rattle.optra_graph.specs.Places.{places_of, state_of}
+use Rattle.optra_graph.specs.Steps.{AreSteps}
+use Rattle.optra_graph.proofs.FlagLemmas.{read_flag}
+use Rattle.optra_graph.proofs.ReachLemmas.{trimmed_start, trimmed_skip, trimmed_more, kept_all, steps_within}
+use Rattle.optra_graph.proofs.reaching.trim.Goals as goal
+
+pub loop-left-init : goal.loop-left-init
+loop-left-init c = rw c.places-left.ensures.value (trimmed_start c.args.net.now c.args.bid.now.path c.args.layout c.requires.setting c.args.flags.now.items)
+
+pub settle-requires-clause-steps : goal.settle-requires-clause-steps
+settle-requires-clause-steps c =
+    let n = c.loop-left.invariant.len in
+    let m = c.requires.reached.len in
+    let few = c.loop-left.invariant.few in
+    let all : AreSteps c.args.net.now c.args.bid.now.path c.args.layout (state_of c.args.layout (c.loop-left.left - 1)) c.fill_steps.new.steps.items =
+    subst (λ (s : State). AreSteps c.args.net.now c.args.bid.now.path c.args.layout s c.fill_steps.new.steps.items) c.state.ensures.value c.in_ok-fill_steps.ensures.steps in
+    rw c.deref.ensures.value (steps_within c.args.net.now c.args.bid.now.path c.args.layout c.requires.setting (c.loop-left.left - 1) c.loop-left.flags.items c.fill_steps.new.steps.items (omega (arith, few, c.loop-left-test.true)) (n ∙ m) all)
+
+pub loop-left-preserved-then-index : goal.loop-left-preserved-then-index
+loop-left-preserved-then-index c =
+    let n = c.loop-left.invariant.len in
+    let m = c.requires.reached.len in
+    let few = c.loop-left.invariant.few in
+    let l : c.loop-left.left - 1 < places_of c.args.layout = omega (arith, few, c.loop-left-test.true) in
+    let all : AreSteps c.args.net.now c.args.bid.now.path c.args.layout (state_of c.args.layout (c.loop-left.left - 1)) c.fill_steps.new.steps.items =
+    subst (λ (s : State). AreSteps c.args.net.now c.args.bid.now.path c.args.layout s c.fill_steps.new.steps.items) c.state.ensures.value c.in_ok-fill_steps.ensures.steps in
+    let e : c.loop-left.left ≡ c.loop-left.left - 1 + 1 = omega (arith, c.loop-left-test.true) in
+    trimmed_more c.args.net.now c.args.bid.now.path c.args.layout c.requires.setting (c.loop-left.left - 1) c.fill_steps.new.steps.items c.args.flags.now.items c.loop-left.flags.items c.settle.new.flags.items c.settle.result l (omega (arith, n, m, l)) all
+    (rw c.deref.ensures.value at c.settle.ensures.count) c.settle.ensures.flags
+    (subst (λ (k : ℕ). IsTrimmedTo c.args.net.now c.args.bid.now.path c.args.layout k c.args.flags.now.items c.loop-left.flags.items) e c.loop-left.invariant)
+
+pub loop-left-preserved : goal.loop-left-preserved
+loop-left-preserved c =
+    let n = c.loop-left.invariant.len in
+    let m = c.requires.reached.len in
+    let few = c.loop-left.invariant.few in
+    let l : c.loop-left.left - 1 < places_of c.args.layout = omega (arith, few, c.loop-left-test.true) in
+    let within : c.loop-left.left - 1 < length c.loop-left.flags.items = omega (arith, n, m, l) in
+    let e : c.loop-left.left ≡ c.loop-left.left - 1 + 1 = omega (arith, c.loop-left-test.true) in
+    trimmed_skip c.args.net.now c.args.bid.now.path c.args.layout c.requires.setting (c.loop-left.left - 1) c.args.flags.now.items c.loop-left.flags.items l
+    (read_flag c.loop-left.flags.items (c.loop-left.left - 1) c.index.result.now false within c.index.ensures c.if-index.false)
+    (subst (λ (k : ℕ). IsTrimmedTo c.args.net.now c.args.bid.now.path c.args.layout k c.args.flags.now.items c.loop-left.flags.items) e c.loop-left.invariant)
+
+pub returns : goal.returns
+returns c =
+    let z : c.loop-left.left ≡ 0 = omega (arith, c.loop-left-test.false) in
+    kept_all c.args.net.now c.args.bid.now.path c.args.layout c.requires.setting c.args.flags.now.items c.loop-left.flags.items c.requires.reached (subst (λ (k : ℕ). IsTrimmedTo c.args.net.now c.args.bid.now.path c.args.layout k c.args.flags.now.items c.loop-left.flags.items) z c.loop-left.invariant)

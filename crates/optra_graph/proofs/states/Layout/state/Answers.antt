@@ -1,0 +1,8 @@
+-- The state at a place has one.
+use Rattle.std.proofs.Common.{subst, ◌≡◌, sym, ◌∙◌}
+use Rattle.optra_graph.specs.Places.{IsPlaced, state_of}
+use Rattle.optra_graph.proofs.PlaceLemmas.{placed_at}
+use Rattle.optra_graph.proofs.states.Layout.state.Goals as goal
+
+pub returns-clause-placed : goal.returns-clause-placed
+returns-clause-placed c = rw (c.from-stations.ensures, c.from-slots.ensures) (placed_at c.args.self c.args.place c.requires.within)

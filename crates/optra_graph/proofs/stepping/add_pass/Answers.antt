@@ -1,0 +1,18 @@
+-- One step that passes, where it departs within the layout.
+use Rattle.std.proofs.Common.{rules, arith, subst, sym, ap, ◌∙◌, ◌+◌, ◌≤◌, ◌<◌, ◌⊎◌, inl, inr, ◌++◌, ◌∷◌, [], List, Option, Some, None, ◌≡◌, true, false}
+use Rattle.optra_graph.specs.Places.{IsPlaced}
+use Rattle.optra_graph.specs.Steps.{AreStepsBelow, bound_of}
+use Rattle.optra_graph.specs.declared.stepping.Step.{Step}
+use Rattle.optra_graph.proofs.StepLemmas.{pass_none, pass_push, passed_at}
+use Rattle.optra_graph.proofs.stepping.add_pass.Goals as goal
+
+pub returns-then-way-layout-clause-steps : goal.returns-then-way-layout-clause-steps
+returns-then-way-layout-clause-steps c = pass_none c.args.net.now c.args.bid.now.path c.args.layout c.requires.setting c.args.state c.requires.placed c.args.way c.requires.way c.args.steps.now.items c.requires.before (omega arith)
+
+pub make_step-requires-clause-placed : goal.make_step-requires-clause-placed
+make_step-requires-clause-placed c = passed_at c.args.net.now c.args.bid.now.path c.args.layout c.requires.setting c.args.state c.requires.placed c.args.way c.requires.way (omega arith)
+
+pub returns-clause-steps : goal.returns-clause-steps
+returns-clause-steps c =
+    let p = pass_push c.args.net.now c.args.bid.now.path c.args.layout c.requires.setting c.args.state c.requires.placed c.args.way c.requires.way c.args.steps.now.items c.requires.before (passed_at c.args.net.now c.args.bid.now.path c.args.layout c.requires.setting c.args.state c.requires.placed c.args.way c.requires.way (omega arith)) in
+    rw (c.in_ok-push.ensures.items, c.make_step.ensures) p

@@ -1,0 +1,13 @@
+-- What time-expanded graphs mean, and what the parts of their construction keep.
+pub mod Timed
+pub mod TimedParts
+pub mod Moves
+pub mod Places
+pub mod Steps
+pub mod Flags
+pub mod Arcs
+pub mod Graphs
+pub mod Nodes
+pub mod Settings
+pub mod Served
+pub mod FreshParts

@@ -1,0 +1,105 @@
+//! The arcs of a graph: first those of the starts, then those of the kept places, place by place.
+ghost use Rattle.std.specs.Prelude.{◌≡◌, ℕ, ◌+◌, ◌-◌, ◌<◌, ◌≤◌, [], ◌++◌, All, length, map, filter, OnOk};
+ghost use Rattle.optra_graph.specs.Arcs.{arc_of, is_kept, leg_of_step, Starts, Emits};
+ghost use Rattle.optra_graph.specs.Nodes.{AreNumbers, node_of};
+ghost use Rattle.optra_graph.specs.Places.{places_of};
+ghost use Rattle.optra_graph.specs.Settings.{IsSetting};
+
+use crate::reaching::{make_start, starts_end};
+use crate::states::Layout;
+use crate::stepping::{Step, fill_steps};
+use optra_bid::Bid;
+use optra_dag::Dag;
+use optra_network::{Minute, Network, NoMemory};
+use optra_walk::Leg;
+
+/// Adds a start arc for each minute at which a walk begins.
+pub fn add_starts(
+    net: &Network,
+    bid: &Bid,
+    layout: Layout,
+    flags: &[bool],
+    numbers: &[u32],
+    dag: &mut Dag,
+    minutes: &mut Vec<Minute>,
+) -> Result<(), NoMemory>
+    requires setting { IsSetting net.now bid.now.path layout }
+    requires flags { length flags.now ≡ places_of layout + 1 }
+    requires numbers { AreNumbers flags.now numbers.now }
+    requires arcs { dag.old.arcs ≡ [] }
+    requires ends { length dag.old.ends ≡ node_of flags.now (places_of layout) + 1 }
+    requires minutes { minutes.old.items ≡ [] }
+    ensures starts { OnOk result (Starts bid.now.path layout flags.now (layout.first + layout.minutes) dag.new.arcs minutes.new.items) }
+    ensures ends { OnOk result (dag.new.ends ≡ dag.old.ends) }
+{
+    for minute in layout.first..starts_end(bid, layout) {
+        let place = layout.place(make_start(bid, minute)) as usize;
+        if !flags[place] {
+            continue;
+        }
+        dag.arc(0, numbers[place])?;
+        minutes.push(minute)?;
+    }
+    Ok(())
+}
+
+/// Adds the arcs of the kept places.
+pub fn add_legs(
+    net: &Network,
+    bid: &Bid,
+    layout: Layout,
+    flags: &[bool],
+    numbers: &[u32],
+    dag: &mut Dag,
+    legs: &mut Vec<Leg>,
+    steps: &mut Vec<Step>,
+) -> Result<(), NoMemory>
+    requires setting { IsSetting net.now bid.now.path layout }
+    requires flags { length flags.now ≡ places_of layout + 1 }
+    requires numbers { AreNumbers flags.now numbers.now }
+    requires starts { All (λ arc. arc.from ≡ 0) dag.old.arcs }
+    requires few { length dag.old.arcs ≤ 2880 }
+    requires ends { length dag.old.ends ≡ node_of flags.now (places_of layout) + 1 }
+    requires legs { legs.old.items ≡ [] }
+    ensures arcs { OnOk result (Emits net.now bid.now.path layout flags.now (places_of layout) dag.old.arcs dag.new.arcs legs.new.items) }
+    ensures ends { OnOk result (dag.new.ends ≡ dag.old.ends) }
+{
+    for place in 0..layout.places() {
+        if !flags[place as usize] {
+            continue;
+        }
+        fill_steps(net, bid, layout, layout.state(place), steps)?;
+        add_arcs(dag, legs, numbers[place as usize], steps, flags, numbers)?;
+    }
+    Ok(())
+}
+
+/// Adds an arc from the node for each of the steps that lead to a place that is kept.
+fn add_arcs(
+    dag: &mut Dag,
+    legs: &mut Vec<Leg>,
+    from: u32,
+    steps: &[Step],
+    flags: &[bool],
+    numbers: &[u32],
+) -> Result<(), NoMemory>
+    requires numbers { AreNumbers flags.now numbers.now }
+    requires within { All (λ step. step.to < length flags.now) steps.now }
+    requires forward { All (λ step. from < node_of flags.now step.to) steps.now }
+    requires nodes { All (λ step. node_of flags.now step.to < length dag.old.ends) steps.now }
+    requires sorted { All (λ before. before.from ≤ from) dag.old.arcs }
+    requires room { length dag.old.arcs + length steps.now ≤ 4294967295 }
+    ensures arcs { OnOk result (dag.new.arcs ≡ dag.old.arcs ++ map (arc_of flags.now from) (filter (is_kept flags.now) steps.now)) }
+    ensures legs { OnOk result (legs.new.items ≡ legs.old.items ++ map leg_of_step (filter (is_kept flags.now) steps.now)) }
+    ensures ends { OnOk result (dag.new.ends ≡ dag.old.ends) }
+{
+    for step in steps {
+        let to = step.to as usize;
+        if !flags[to] {
+            continue;
+        }
+        dag.arc(from, numbers[to])?;
+        legs.push(step.leg)?;
+    }
+    Ok(())
+}

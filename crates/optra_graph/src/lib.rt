@@ -1,0 +1,18 @@
+//! Time-expanded graphs of bids, whose paths are the timed walks of the bid.
+#![tactic(auto)]
+
+mod building;
+mod emitting;
+mod numbering;
+mod reaching;
+mod serving;
+mod states;
+mod stepping;
+mod timegraphs;
+
+pub use building::{Builds, build};
+pub use serving::{FreshGraphs, Graphs};
+pub use timegraphs::TimeGraph;
+
+#[cfg(test)]
+mod tests;

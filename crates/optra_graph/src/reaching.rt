@@ -1,0 +1,128 @@
+//! Which states come into walks: those that are reached from a start and lead on to the end.
+ghost use Rattle.std.specs.Prelude.{◌≡◌, ℕ, ◌+◌, ◌-◌, ◌<◌, ◌≤◌, length, min, IfOk, OnOk, All, count_by, nat_eq, slice_set, false, if◌then◌else◌};
+ghost use Rattle.optra_graph.specs.Flags.{is_set, IsSet, IsReached, IsKept, Marks, AreStartsSet};
+ghost use Rattle.optra_graph.specs.Places.{IsPlaced, IsSmall, IsLayout, place_of, places_of};
+ghost use Rattle.optra_graph.specs.Settings.{IsSetting};
+ghost use Rattle.optra_graph.specs.Moves.{start_state};
+
+use crate::states::{Layout, State};
+use crate::stepping::{Step, fill_steps};
+use optra_bid::Bid;
+use optra_network::{Minute, Network, NoMemory};
+use std::alloc::Global;
+
+/// The first minute after those at which walks may begin.
+pub fn starts_end(bid: &Bid, layout: Layout) -> Minute
+    requires { IsSmall layout }
+    ensures { result ≡ min (bid.now.path.depart.to + 1) (layout.first + layout.minutes) }
+{
+    (bid.path.depart.to + 1).min(layout.first + layout.minutes)
+}
+
+/// The state in which a walk begins that departs then.
+pub fn make_start(bid: &Bid, minute: Minute) -> State
+    ensures { result ≡ start_state bid.now.path minute }
+{
+    State {
+        station: bid.path.origin,
+        minute,
+        halted: true,
+        done: 0,
+    }
+}
+
+/// A flag for each place and for the end: whether steps lead there from a start. One pass, from early to late.
+pub fn reach(
+    alloc: Global,
+    net: &Network,
+    bid: &Bid,
+    layout: Layout,
+    steps: &mut Vec<Step>,
+) -> Result<Vec<bool>, NoMemory>
+    requires { IsSetting net.now bid.now.path layout }
+    ensures { IfOk result (λ flags. IsReached net.now bid.now.path layout flags.items) }
+{
+    let mut flags = vec![in alloc; false; layout.places() as usize + 1]?;
+    mark_starts(net, bid, layout, &mut flags);
+    for place in 0..layout.places() {
+        if flags[place as usize] {
+            fill_steps(net, bid, layout, layout.state(place), steps)?;
+            mark(&mut flags, steps);
+        }
+    }
+    Ok(flags)
+}
+
+fn mark_starts(net: &Network, bid: &Bid, layout: Layout, flags: &mut Vec<bool>)
+    requires setting { IsSetting net.now bid.now.path layout }
+    requires len { length flags.old.items ≡ places_of layout + 1 }
+    ensures { AreStartsSet bid.now.path layout (layout.first + layout.minutes) flags.old.items flags.new.items }
+{
+    for minute in layout.first..starts_end(bid, layout) {
+        let place = layout.place(make_start(bid, minute));
+        flags[place as usize] = true;
+    }
+}
+
+/// Sets the flags of the places that the steps lead to.
+fn mark(flags: &mut Vec<bool>, steps: &[Step])
+    requires { All (λ step. step.to < length flags.old.items) steps.now }
+    ensures { Marks steps.now flags.old.items flags.new.items }
+{
+    for step in steps {
+        flags[step.to as usize] = true;
+    }
+}
+
+/// Clears the flags of the places from which the end is not reached, and counts the steps between those that
+/// stay. One pass, from late to early.
+pub fn trim(
+    net: &Network,
+    bid: &Bid,
+    layout: Layout,
+    flags: &mut Vec<bool>,
+    steps: &mut Vec<Step>,
+) -> Result<usize, NoMemory>
+    requires setting { IsSetting net.now bid.now.path layout }
+    requires reached { IsReached net.now bid.now.path layout flags.old.items }
+    ensures { OnOk result (IsKept net.now bid.now.path layout flags.new.items) }
+{
+    let mut arcs: usize = 0;
+    let mut left = layout.places();
+    while left > 0 {
+        left -= 1;
+        if flags[left as usize] {
+            fill_steps(net, bid, layout, layout.state(left), steps)?;
+            arcs = arcs.saturating_add(settle(flags, left, steps));
+        }
+    }
+    Ok(arcs)
+}
+
+/// Clears the flag of the place where none of its steps leads to a place whose flag is set, and counts those that do.
+fn settle(flags: &mut Vec<bool>, place: u32, steps: &[Step]) -> usize
+    requires place { place < length flags.old.items }
+    requires steps { All (λ step. step.to < length flags.old.items) steps.now }
+    ensures count { result ≡ count_by (λ step. is_set flags.old.items step.to) steps.now }
+    ensures flags { flags.new.items ≡ (if nat_eq result 0 then slice_set flags.old.items place false else flags.old.items) }
+{
+    let on = count_on(flags, steps);
+    if on == 0 {
+        flags[place as usize] = false;
+    }
+    on
+}
+
+/// How many of the steps lead to a place whose flag is set.
+fn count_on(flags: &[bool], steps: &[Step]) -> usize
+    requires { All (λ step. step.to < length flags.now) steps.now }
+    ensures { result ≡ count_by (λ step. is_set flags.now step.to) steps.now }
+{
+    let mut count = 0;
+    for step in steps {
+        if flags[step.to as usize] {
+            count += 1;
+        }
+    }
+    count
+}

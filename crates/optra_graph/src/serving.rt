@@ -1,0 +1,152 @@
+//! Who serves the graphs of bids.
+ghost use Rattle.std.specs.Prelude.{◌≡◌, ◌⊎◌, ◌<◌, ℕ, Bool, true, List, [], length, map, slice_index_or, All, Contains, OnOk, IfOk};
+ghost use Rattle.optra_network.specs.Net.{Net};
+ghost use Rattle.optra_bid.specs.Specs.{Path, IsPathOn};
+ghost use Rattle.optra_graph.specs.Served.{path_of, IsServed};
+ghost use Rattle.optra_graph.specs.Timed.{IsGraphOf};
+
+use crate::building::{Builds, build};
+use crate::timegraphs::TimeGraph;
+use optra_bid::Bid;
+use optra_network::{Network, NoMemory};
+use std::alloc::Global;
+use std::marker::Model;
+
+/// Graphs of bids on one network, which never changes.
+pub trait Graphs {
+    /// The network that it was made with.
+    ghost network: { Self → Net };
+
+    /// The path specifications whose graphs it holds.
+    ghost held: { Self → List Path };
+
+    /// Whether it keeps what it holds.
+    ghost keeps: { Self → Bool };
+
+    /// How often it built a graph.
+    ghost built: { Self → ℕ };
+
+    /// Sees to it that the path specification of each bid of the list is held, and no other one that was not held
+    /// before. One that keeps still holds all that it held. The bids' types and stations must be positions of the
+    /// network. After `NoMemory` it may hold other graphs than before.
+    fn prepare(&mut self, alloc: Global, bids: &[Bid]) -> Result<(), NoMemory>
+        requires { All (λ bid. IsPathOn (network self.old) bid.path) bids.now }
+        ensures held { OnOk result (All (λ bid. Contains (held self.new) bid.path) bids.now) }
+        ensures others { OnOk result (All (λ path. Contains (held self.old) path ⊎ Contains (map (λ bid. bid.path) bids.now) path) (held self.new)) }
+        ensures kept { OnOk result (keeps self.old ≡ true → All (Contains (held self.new)) (held self.old)) }
+        ensures network { network self.new ≡ network self.old }
+        ensures keeps { keeps self.new ≡ keeps self.old };
+
+    /// The graph of the bid's path specification, which must be held.
+    fn graph(&self, bid: &Bid) -> &TimeGraph
+        requires { Contains (held self.now) bid.now.path }
+        ensures { IsGraphOf (network self.now) bid.now.path result.now };
+
+    /// How often it built a graph, as its `Builds` counts.
+    fn builds(&self) -> u64
+        ensures { result ≡ built self.now };
+}
+
+/// A bid whose path specification is held, and its graph.
+#[derive(Drop)]
+pub(crate) struct Served {
+    pub(crate) bid: Bid,
+    pub(crate) graph: TimeGraph,
+}
+
+/// Graphs that are built anew, one for each bid, whenever some are prepared. Those held before are then let go.
+#[derive(Drop)]
+pub struct FreshGraphs<'n> {
+    net: &'n Network,
+    served: Option<Vec<Served>>,
+    builds: Builds,
+}
+
+impl<'n> Model for FreshGraphs<'n> {
+    ghost use Rattle.optra_graph.specs.Served.{Holding};
+
+    ghost Value = { Holding };
+
+    ghost use Rattle.optra_graph.specs.FreshParts.{holding_of, AreServed};
+
+    ghost view = { holding_of };
+
+    ghost invariant = { AreServed };
+}
+
+impl FreshGraphs<'_> {
+    /// Holds nothing yet.
+    pub fn new(net: &Network) -> FreshGraphs<'_>
+        ensures { result ≡ record { network = net.now; held = []; built = 0 } }
+    {
+        FreshGraphs {
+            net,
+            served: None,
+            builds: Builds::new(),
+        }
+    }
+}
+
+impl Graphs for FreshGraphs<'_> {
+    ghost use Rattle.std.specs.Prelude.{false};
+
+    ghost network = { λ graphs. graphs.network };
+
+    ghost held = { λ graphs. graphs.held };
+
+    ghost keeps = { λ _. false };
+
+    ghost built = { λ graphs. graphs.built };
+
+    fn prepare(&mut self, alloc: Global, bids: &[Bid]) -> Result<(), NoMemory> {
+        self.served = None;
+        self.served = Some(build_all(alloc, self.net, bids, &mut self.builds)?);
+        Ok(())
+    }
+
+    fn graph(&self, bid: &Bid) -> &TimeGraph {
+        let Some(served) = &self.served else {
+            unreachable!()
+        };
+        let place = place_of(served, bid);
+        &served[place].graph
+    }
+
+    fn builds(&self) -> u64 {
+        self.builds.count()
+    }
+}
+
+/// A graph for each of the bids.
+fn build_all(
+    alloc: Global,
+    net: &Network,
+    bids: &[Bid],
+    builds: &mut Builds,
+) -> Result<Vec<Served>, NoMemory>
+    requires { All (λ bid. IsPathOn net.now bid.path) bids.now }
+    ensures paths { IfOk result (λ served. map path_of served.items ≡ map (λ bid. bid.path) bids.now) }
+    ensures graphs { IfOk result (λ served. All (IsServed net.now) served.items) }
+{
+    let mut served = Vec::with_capacity(alloc, bids.len())?;
+    for bid in bids {
+        let graph = build(alloc, net, bid, builds)?;
+        let bid = bid.copied(alloc)?;
+        served.push(Served { bid, graph })?;
+    }
+    Ok(served)
+}
+
+/// The first place whose bid has the same path specification.
+fn place_of(served: &[Served], bid: &Bid) -> usize
+    requires { Contains (map path_of served.now) bid.now.path }
+    ensures there { result < length served.now }
+    ensures same { (s : Served) → (slice_index_or served.now result s).bid.path ≡ bid.now.path }
+{
+    for (place, entry) in served.iter().enumerate() {
+        if entry.bid.same_path(bid) {
+            return place;
+        }
+    }
+    unreachable!()
+}
