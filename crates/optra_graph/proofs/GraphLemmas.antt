@@ -5,7 +5,7 @@ use Rattle.std.specs.Cmp.Lexicographic.{slice_cmp}
 use Rattle.std.specs.List.{AllPairs}
 use Rattle.std.proofs.lemmas.Bool.{cases_lt, cases_eq}
 use Rattle.std.proofs.lemmas.List.{get_or-map, length-map}
-use Rattle.std.proofs.lemmas.List.Elements.{All-nil, All-cons, All-head, All-tail, Contains-append_right}
+use Rattle.std.proofs.lemmas.List.Elements.{All-map, All-nil, All-cons, All-head, All-tail, Contains-append_right}
 use Rattle.std.proofs.lemmas.Option.{slice_get-get_or}
 use Rattle.std.proofs.Math.Nat.{eq-or-lt_of_le}
 use Rattle.optra_network.specs.Net.{Net}
@@ -21,6 +21,7 @@ use Rattle.optra_graph.specs.Timed.{Timed, AreAllWalks, IsLaidOut, leg_at, leg_o
 use Rattle.optra_graph.specs.declared.states.State.{State}
 use Rattle.optra_graph.specs.Moves.{start_state, IsMove, IsAfter, Runs}
 use Rattle.optra_graph.specs.Graphs.{state_at, IsStateNode, LeadsOn, IsTimed}
+use Rattle.optra_graph.proofs.AllRoutes.{all_routes}
 use Rattle.optra_graph.proofs.StepLemmas.{after_once}
 use Rattle.optra_graph.proofs.RunLemmas.{runs_of_walk, walk_of_runs, not_finish}
 use Rattle.optra_graph.proofs.OrderLemmas.{nat_same, nat_less, nat_greater, leg_same, leg_turned}
@@ -347,6 +348,40 @@ module _ (net : Net) (path : Path) (t : Timed) (states : List State) (h : IsTime
           order_of (get_or rs i d) (get_or rs j d) (c.2 i d (omega arith)) (c.2 j d m)
           ∙ (λ x. walk_cmp (sym (walk_at i d [] (omega arith)) x) (sym (walk_at j d [] m) x)) ∙ up
 
+  all_of : (walks : List (List Leg)) × (routes : List (List ℕ)) × AreAllWalks net path walks × AreAllRoutes t routes × (map (walk_of t) routes ≡ walks)
+  all_of = (map (walk_of t) rs, rs, record { sound = sound; whole = whole; ascending = ascending }, r.1, refl)
+    where
+      r : (routes : List (List ℕ)) × AreAllRoutes t routes
+      r = all_routes t h.forward
+
+      rs : List (List ℕ)
+      rs = r.0
+
+      n : length (map (walk_of t) rs) ≡ length rs
+      n = length-map rs (walk_of t)
+
+      sound : All (IsWalk net path) (map (walk_of t) rs)
+      sound = All-map (IsWalk net path) (walk_of t) rs (λ k d l. sound_of (get_or rs k d) (r.1.sound k d l))
+
+      whole : (legs : List Leg) → IsWalk net path legs → Contains (map (walk_of t) rs) legs
+      whole legs w =
+          let v = whole_of legs w in
+          let c = r.1.whole v.0 v.1 in
+          (c.0, omega (arith, c.1, n), get_or-map (walk_of t) rs c.0 v.0 legs c.1 ∙ ap (walk_of t) c.2 ∙ v.2)
+
+      ascending : AllPairs (λ a b. walk_cmp a b ≡ Less) (map (walk_of t) rs)
+      ascending i j d l m =
+          let a = get_or-map (walk_of t) rs i [] d (omega (arith, n)) in
+          let b = get_or-map (walk_of t) rs j [] d (omega (arith, n)) in
+          (λ x. walk_cmp (a x) (b x)) ∙ sym (order_of (get_or rs i []) (get_or rs j []) (r.1.sound i [] (omega (arith, n))) (r.1.sound j [] (omega (arith, n)))) ∙ r.1.ascending i j [] l (omega (arith, n))
+
+  empty_of : ((legs : List Leg) → IsWalk net path legs → ⊥) → t.dag.arcs ≡ []
+  empty_of none = by t.dag.arcs (λ l. let w = trimmed_of 0 l in none (walk_of t w.0) (sound_of w.0 w.1))
+    where
+      by : {X : Type 0} (xs : List X) → (0 < length xs → ⊥) → xs ≡ []
+      by [] f = refl
+      by (x ∷ xs) f = absurd (f (omega arith))
+
   -- so its paths are the walks, in walk order
   pub graph_of_timed : IsGraphOf net path t
   graph_of_timed = record {
@@ -356,6 +391,8 @@ module _ (net : Net) (path : Path) (t : Timed) (states : List State) (h : IsTime
     order = order_of;
     begins = begins_of;
     trimmed = trimmed_of;
+    all = all_of;
     listed = listed_of;
+    empty = empty_of;
     laid_out = record { forward = h.forward; arcs = h.count; starts = h.start_from; others = h.start_only };
   }

@@ -18,3 +18,4 @@ pub mod GraphLemmas
 pub mod TimedLemmas
 pub mod RouteLemmas
 pub mod ServeLemmas
+pub mod AllRoutes

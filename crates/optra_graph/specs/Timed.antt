@@ -81,5 +81,9 @@ pub record IsGraphOf (net : Net) (path : Path) (t : Timed) : Type 0 where
   pub order : (a b : List ℕ) → IsRoute t a → IsRoute t b → slice_cmp nat_cmp a b ≡ walk_cmp (walk_of t a) (walk_of t b)
   pub begins : (arcs : List ℕ) → IsRoute t arcs → BeginsOnce t arcs
   pub trimmed : (k : ℕ) → k < length t.dag.arcs → (arcs : List ℕ) × IsRoute t arcs × Contains arcs k
+  -- there is a list of all walks, with the paths beside it, and any such list is that of the paths
+  pub all : (walks : List (List Leg)) × (routes : List (List ℕ)) × AreAllWalks net path walks × AreAllRoutes t routes × (map (walk_of t) routes ≡ walks)
   pub listed : (walks : List (List Leg)) → AreAllWalks net path walks → (routes : List (List ℕ)) × AreAllRoutes t routes × (map (walk_of t) routes ≡ walks)
+  -- a path without a walk has a graph without arcs
+  pub empty : ((legs : List Leg) → IsWalk net path legs → ⊥) → t.dag.arcs ≡ []
   pub laid_out : IsLaidOut t
