@@ -121,3 +121,6 @@ impl<T: Drop> From<AllocFailed<T>> for NetFault {
         NetFault::NoMemory
     }
 }
+
+#[cfg(test)]
+mod tests;
