@@ -213,6 +213,3 @@ fn print_stops(
     }
     Ok(())
 }
-
-#[cfg(test)]
-mod tests;
