@@ -119,22 +119,22 @@ module _ {X : Type 0} where
   pub table_more : (f : ℕ → X) (n : ℕ) (xs new : List X) (v : X) → xs ≡ map f (range_with_len 0 n) → v ≡ f n → new ≡ xs ++ v ∷ [] → new ≡ map f (range_with_len 0 (n + 1))
   table_more f n xs new v e ev made = made ∙ (λ i. e i ++ ev i ∷ []) ∙ sym (map-range_with_len_more f 0 n n (omega arith))
 
-quotient : (q r : ℕ) → r < 16 → (q * 16 + r) / 16 ≡ q
+pub quotient : (q r : ℕ) → r < 16 → (q * 16 + r) / 16 ≡ q
 quotient q r h = omega arith
 
-remainder : (q r : ℕ) → r < 16 → (q * 16 + r) % 16 ≡ r
+pub remainder : (q r : ℕ) → r < 16 → (q * 16 + r) % 16 ≡ r
 remainder q r h = omega arith
 
 -- a table of all places holds what it was made from
-pub HoldsPairs-from_places : (f : ℕ → ℕ → ℕ) (tracks : ℕ) (table : List ℕ) → table ≡ map (λ n. f (n / 16) (n % 16)) (range_with_len 0 (tracks * 16)) → HoldsPairs f tracks table
+pub HoldsPairs-from_places : {X : Type 0} (f : ℕ → ℕ → X) (tracks : ℕ) (table : List X) → table ≡ map (λ n. f (n / 16) (n % 16)) (range_with_len 0 (tracks * 16)) → HoldsPairs f tracks table
 HoldsPairs-from_places f tracks table is =
     let len : length table ≡ tracks * 16 = ap length is ∙ length-map-range_with_len (λ n. f (n / 16) (n % 16)) 0 (tracks * 16) in
     record {
       len = len;
       each = λ t k lt lk.
           let within : t * 16 + k < tracks * 16 = omega arith in
-          slice_get-get_or table (t * 16 + k) 0 (omega arith)
-          ∙ ap Some (ap (λ l. get_or l (t * 16 + k) 0) is ∙ get_or-map-range_with_len (λ n. f (n / 16) (n % 16)) 0 (tracks * 16) (t * 16 + k) (t * 16 + k) 0 within (omega arith)
+          slice_get-get_or table (t * 16 + k) (f 0 0) (omega arith)
+          ∙ ap Some (ap (λ l. get_or l (t * 16 + k) (f 0 0)) is ∙ get_or-map-range_with_len (λ n. f (n / 16) (n % 16)) 0 (tracks * 16) (t * 16 + k) (t * 16 + k) (f 0 0) within (omega arith)
           ∙ (λ i. f (quotient t k lk i) (remainder t k lk i)));
     }
 

@@ -12,6 +12,7 @@ use std::alloc::Global;
 use std::marker::Model;
 
 mod finishing;
+mod pairing;
 
 /// A network in the making. Each call names what is there already. A refused call, or one that finds no memory, leaves
 /// the builder as it was.

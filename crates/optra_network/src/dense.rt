@@ -6,7 +6,7 @@ ghost use Rattle.std.specs.Prelude.{◌≡◌, ℕ, ◌+◌, ◌*◌, ◌<◌, �
 ghost use Rattle.optra_network.specs.Net.{out_tracks_of};
 ghost use Rattle.optra_network.specs.Tables.{no_times, IsPair, IsTriple, found_times, found_headway, HoldsPairs, HoldsTriples, at_pair, at_triple, HoldsOut, HasRange, range_of, AreOut, AreJoined};
 
-use crate::{NoMemory, StationId, Times, Track, TrackId, TypeId};
+use crate::{NoMemory, Partner, StationId, Times, Track, TrackId, TypeId};
 use indexmap::IndexMap;
 use std::alloc::Global;
 
@@ -19,6 +19,8 @@ pub(crate) struct Tables {
     pub(crate) leasts: Vec<u16>,
     /// The tracks that leave the stations.
     pub(crate) out: Outgoing,
+    /// The partners of a use in pair rows, by track and type.
+    pub(crate) partners: Vec<Vec<Partner>>,
 }
 
 /// Running times and headways by place.
@@ -57,13 +59,20 @@ impl Tables {
     pub(crate) fn least(&self, track: TrackId, kind: TypeId) -> u16
         ensures { result ≡ at_pair 0 self.now.leasts.items track.0 kind.0 }
     {
-        if kind.0 >= 16 {
-            return 0;
-        }
-        match self.leasts.get(track.0 as usize * 16 + kind.0 as usize) {
-            Some(minutes) => *minutes,
-            None => 0,
-        }
+        least_in(&self.leasts, track, kind)
+    }
+}
+
+/// The least headway after the type on the track by the table of least headways, and 0 where it has none.
+pub(crate) fn least_in(leasts: &[u16], track: TrackId, kind: TypeId) -> u16
+    ensures { result ≡ at_pair 0 leasts.now track.0 kind.0 }
+{
+    if kind.0 >= 16 {
+        return 0;
+    }
+    match leasts.get(track.0 as usize * 16 + kind.0 as usize) {
+        Some(minutes) => *minutes,
+        None => 0,
     }
 }
 

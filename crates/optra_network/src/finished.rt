@@ -1,14 +1,16 @@
 //! A finished network, its look-ups, and when two uses of tracks are in conflict.
-ghost use Rattle.std.specs.Prelude.{◌≡◌, ◌+◌, ◌<◌, ◌≤◌, ◌↔◌, length, All, IfSome, IsTrue, MatchBool, Some, slice_get};
+ghost use Rattle.std.specs.Prelude.{◌≡◌, ◌+◌, ◌<◌, ◌≤◌, ◌↔◌, length, All, Contains, IfSome, IsTrue, MatchBool, Some, slice_get};
 ghost use Rattle.std.specs.Option.{option_map};
 ghost use Rattle.optra_network.specs.Headways.{hmin_of};
 ghost use Rattle.optra_network.specs.Net.{times_of, headway_of, minutes_by, out_tracks_of, IsFromTo, MayUse, IsProper, IsStation, IsTrack, IsKind};
 ghost use Rattle.optra_network.specs.Refusals.{station_named, track_named, type_named};
 ghost use Rattle.optra_network.specs.Conflict.{AreCompatible, KeepsHeadway};
+ghost use Rattle.optra_network.specs.Partners.{IsPartner, partners_of};
+ghost use Rattle.optra_network.specs.declared.Partner.{Partner};
 
 use crate::dense::{Tables, above_zero};
 use crate::names::Names;
-use crate::{StationId, Times, Track, TrackId, TrackUse, TypeId};
+use crate::{Partner, StationId, Times, Track, TrackId, TrackUse, TypeId};
 use indexmap::IndexMap;
 use std::marker::Model;
 
@@ -91,6 +93,16 @@ impl Network {
         ensures there { All (IsTrack self.now) result.now }
     {
         self.tables.out.of(station)
+    }
+
+    /// The partners of a use of the type in pair rows, by shift and then by type. This call is beyond the rest of the
+    /// surface: rows of headways need it at hand, since a family of rows takes no memory.
+    pub fn partners(&self, track: TrackId, kind: TypeId) -> &[Partner]
+        requires { MayUse self.now track kind }
+        ensures partners { result.now ≡ partners_of self.now track kind }
+        ensures each { (partner : Partner) → Contains result.now partner ↔ IsPartner self.now track kind partner }
+    {
+        &self.tables.partners[track.0 as usize * 16 + kind.0 as usize]
     }
 
     /// How many stations there are, at most 300.

@@ -44,6 +44,16 @@ pub struct TrackUse {
     pub time: Minute,
 }
 
+/// Another use of a track that stands in one pair row with a use of a type: the two are in conflict and share no window
+/// minute. `Network::partners` gives them.
+#[derive(Clone, Copy, Debug, PartialEq, Eq)]
+pub struct Partner {
+    /// 120, and the minutes by which the other use departs later, or less those by which it departs earlier: 1 to 239.
+    pub shift: u16,
+    /// The type of the other use.
+    pub kind: TypeId,
+}
+
 /// The ends of a track, two different stations. No call takes or gives it: it stands in what contracts see of a
 /// network, so it is public.
 #[derive(Clone, Copy, Debug, PartialEq, Eq)]

@@ -72,7 +72,13 @@ impl Builder {
     {
         let leasts = self.leasts(alloc, &rows)?;
         let out = Outgoing::new(alloc, self.stations.len(), &self.tracks)?;
-        Ok(Tables { rows, leasts, out })
+        let partners = self.partners(alloc, &rows, &leasts)?;
+        Ok(Tables {
+            rows,
+            leasts,
+            out,
+            partners,
+        })
     }
 
     /// The least headways by track and type.

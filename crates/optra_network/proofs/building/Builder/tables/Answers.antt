@@ -1,7 +1,9 @@
-use Rattle.std.proofs.Common.{◌≤◌, ◌<◌, length, subst, sym, All, List}
-use Rattle.optra_network.specs.Net.{Net}
+use Rattle.std.proofs.Common.{◌≡◌, ◌≤◌, ◌<◌, length, subst, sym, map, All, List, ℕ}
+use Rattle.optra_network.specs.Net.{Net, track_id}
+use Rattle.optra_network.specs.Headways.{type_id}
 use Rattle.optra_network.specs.BuilderParts.{net_of}
-use Rattle.optra_network.specs.Tables.{AreOut, hmin_at}
+use Rattle.optra_network.specs.Partners.{partners_of}
+use Rattle.optra_network.specs.Tables.{AreOut, HoldsPairs, hmin_at}
 use Rattle.optra_network.specs.declared.Track.{Track}
 use Rattle.optra_network.proofs.ReadLemmas.{tails_built}
 use Rattle.optra_network.proofs.TableLemmas.{HoldsPairs-from_places}
@@ -16,6 +18,11 @@ new-requires c =
       ends = subst (All (λ (t : Track). t.tail.0 < c.len.result)) (sym c.deref.ensures.value) tails;
     }
 
+pub partners-requires-clause-leasts : goal.partners-requires-clause-leasts
+partners-requires-clause-leasts c =
+    subst (HoldsPairs (hmin_at c.args.self.now) (length c.args.self.now.tracks)) (sym c.deref-2.ensures.value)
+    (HoldsPairs-from_places (hmin_at c.args.self.now) (length c.args.self.now.tracks) c.in_ok-leasts.leasts.items c.in_ok-leasts.ensures)
+
 pub returns : goal.returns
 returns c =
     let out =
@@ -25,4 +32,5 @@ returns c =
       rows = c.requires;
       leasts = HoldsPairs-from_places (hmin_at c.args.self.now) (length c.args.self.now.tracks) c.in_ok-leasts.leasts.items c.in_ok-leasts.ensures;
       out = subst (λ (n : Net). AreOut n.tracks (length n.stations) c.in_ok-out.out) c.self.view_is out;
+      partners = HoldsPairs-from_places (λ t k. partners_of c.args.self.now (track_id t) (type_id k)) (length c.args.self.now.tracks) (map (λ list. list.items) c.in_ok-partners.partners.items) c.in_ok-partners.ensures;
     }
