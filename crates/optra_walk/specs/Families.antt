@@ -1,5 +1,7 @@
--- Legs of types, as families of rows count them.
-use Rattle.std.specs.Prelude.{◌≡◌, ℕ, ◌≤◌, Bool, true, List, [], ◌∷◌, ◌++◌, map, sum_by, Option, None, Some}
+-- Legs of types, the rows that they use, and what a family says of its rows.
+use Rattle.std.specs.Prelude.{◌≡◌, ℕ, ◌≤◌, ◌<◌, ◌↔◌, Bool, true, List, [], ◌∷◌, ◌++◌, map, length, sum_by, All, Contains, Option, None, Some, ⊤}
+use Rattle.std.specs.declared.cmp.Ordering.{Ordering}
+use Rattle.std.specs.declared.cmp.Ordering.TheVariants.{Less, Equal}
 use Rattle.optra_network.specs.Net.{Net, MayUse}
 use Rattle.optra_network.specs.declared.TypeId.{TypeId}
 use Rattle.optra_bid.specs.declared.bids.Bid.{Bid}
@@ -36,3 +38,20 @@ load_of rows row entries = sum_by (λ e. rows.uses e.0 e.1 row) entries
 -- the legs use at most the capacity of each row
 abbrev pub FitRows : {R : Type 0} → Rows R → List Entry → Type 0
 FitRows {R} rows entries = (row : R) → rows.is_row row ≡ true → load_of rows row entries ≤ rows.capacity row
+
+-- each row is below all that come after it
+abbrev pub Ascends : {R : Type 0} → (R → R → Ordering) → List R → Type 0
+Ascends cmp [] = ⊤
+Ascends cmp (row ∷ rows) = All (λ later. cmp row later ≡ Less) rows × Ascends cmp rows
+
+-- rows that the order does not tell apart are the same
+abbrev pub TellsApart : {R : Type 0} → (R → R → Ordering) → Type 0
+TellsApart {R} cmp = (a b : R) → cmp a b ≡ Equal → a ≡ b
+
+-- the list holds the rows in which a leg's use is above zero, ascending and each once; they are rows of the family, few, and used little in all
+pub record ListsRows {R : Type 0} (cmp : R → R → Ordering) (is_row : R → Bool) (uses : R → ℕ) (rows : List R) : Type 0 where
+  pub ascending : Ascends cmp rows
+  pub used : (row : R) → 0 < uses row ↔ Contains rows row
+  pub are_rows : (row : R) → 0 < uses row → is_row row ≡ true
+  pub few : length rows ≤ 8192
+  pub total : sum_by uses rows ≤ 8192

@@ -1,59 +1,77 @@
-//! Families of rows, each with a capacity.
-ghost use Rattle.std.specs.Prelude.{◌≡◌, ℕ, ◌+◌, ◌≤◌, ◌<◌, ◌↔◌, IsTrue, List, length, Option, slice_get, Bool, true, All, Contains, sum_by};
-ghost use Rattle.std.specs.List.{AllPairs};
-ghost use Rattle.std.specs.declared.cmp.Ordering.TheVariants.{Less};
+//! Families of rows. A row is something that legs use up, and it has a capacity. A family states a rule of the railway by
+//! rows: legs keep the rule exactly where no row is used above its capacity.
+//!
+//! This is the packing form of train timetabling: R. Borndörfer and T. Schlechte, "Models for Railway Track
+//! Allocation", 2007. Searches, prices and certificates speak of rows alone, so a rule that is stated by a new family
+//! needs no change in them.
+ghost use Rattle.std.specs.Prelude.{◌≡◌, ℕ, ◌≤◌, ◌↔◌, List, Option, slice_get, true, All};
 ghost use Rattle.optra_network.specs.Net.{Net, IsProper, MayUse};
 ghost use Rattle.optra_network.specs.declared.TypeId.{TypeId as Kind};
 ghost use Rattle.optra_walk.specs.declared.Leg.{Leg as Step};
-ghost use Rattle.optra_walk.specs.Families.{IsUsable, Entry, entries_of, Rows, FitRows};
-ghost use Rattle.optra_bid.specs.declared.bids.Bid.{Bid as Order};
+ghost use Rattle.optra_walk.specs.Families.{IsUsable, Entry, Rows, ListsRows, TellsApart, FitRows};
 
 use crate::Leg;
 use optra_network::{Network, TypeId};
 
+/// A family of rows: a rule of the railway, stated by how much of which row a leg uses and how much of it there is.
+///
+/// A leg may be asked of where it is usable by the type: the type may use the leg's track, the leg departs by minute
+/// 2,879, and its dwell is at most 240 minutes. The legs of every walk of a bid are usable by the bid's type.
+///
+/// Each family proves the laws below the calls. Code that is generic over a family rests on them alone.
 pub trait RowFamily {
+    /// A row. Rows are ordered, and rows that compare as equal are the same.
     type Row: Copy + Ord;
 
+    /// The rows on a network: which values are rows, the capacity of each, and how much of each a leg of a type uses.
     ghost rows_of: { Self → Net → Rows Self.Row };
 
+    /// The rows that a leg of a type uses, ascending.
     ghost rows_used: { Self → Net → Kind → Step → List Self.Row };
 
+    /// The rule on the legs of all trains together, each with its type.
     ghost KeepsRule: { Self → Net → List Entry → Type 0 };
 
+    /// Whether a value is a row of the family on this network. Every value may be asked of.
     fn is_row(&self, net: &Network, row: Self::Row) -> bool
         ensures { result ≡ (rows_of self.now net.now).is_row row };
 
+    /// The capacity of a row, at most 65,535. Only a row of the family may be asked of.
     fn cap(&self, net: &Network, row: Self::Row) -> u32
         requires { (rows_of self.now net.now).is_row row ≡ true }
         ensures { result ≡ (rows_of self.now net.now).capacity row };
 
+    /// How much of a row a usable leg of the type uses, at most 8,192. It is 0 where the value is no row.
     fn leg_use(&self, net: &Network, kind: TypeId, leg: Leg, row: Self::Row) -> u32
         requires { IsUsable net.now kind leg }
         ensures { result ≡ (rows_of self.now net.now).uses kind leg row };
 
+    /// The row at place `k`, from 0, of the rows that a usable leg of the type uses, in ascending order, or `None` from
+    /// the end on. There are at most 8,192, each use is above zero, and the uses add up to at most 8,192.
+    ///
+    /// By it a caller goes over the rows that matter to a leg without going over all rows, and without a list:
+    /// ask from 0 on until `None`.
     fn touched(&self, net: &Network, kind: TypeId, leg: Leg, k: u32) -> Option<Self::Row>
         requires { IsUsable net.now kind leg }
         ensures { result ≡ slice_get (rows_used self.now net.now kind leg) k };
 
-    ghost same_rows: { (a b : Self.Row) → Self.Row.eq a b ≡ true → a ≡ b };
+    /// Rows that compare as equal are the same.
+    ghost tells_apart: { TellsApart Self.Row.cmp };
 
-    ghost touches_few: { (f : Self) (net : Net) (kind : Kind) (leg : Step) → IsProper net → IsUsable net kind leg → length (rows_used f net kind leg) ≤ 8192 };
+    /// The rows that a usable leg uses are listed ascending and each once; they are rows of the family, at most 8,192,
+    /// and the uses add up to at most 8,192.
+    ghost lists_rows: { (f : Self) (net : Net) (kind : Kind) (leg : Step) → IsProper net → IsUsable net kind leg
+        → ListsRows Self.Row.cmp (rows_of f net).is_row ((rows_of f net).uses kind leg) (rows_used f net kind leg) };
 
-    ghost touches_used: { (f : Self) (net : Net) (kind : Kind) (leg : Step) (row : Self.Row) → IsProper net → IsUsable net kind leg
-        → (0 < (rows_of f net).uses kind leg row) ↔ Contains (rows_used f net kind leg) row };
+    /// The capacity of a row is at most 65,535.
+    ghost capacity_fits: { (f : Self) (net : Net) (row : Self.Row) → IsProper net → (rows_of f net).is_row row ≡ true
+        → (rows_of f net).capacity row ≤ 65535 };
 
-    ghost touches_in_order: { (f : Self) (net : Net) (kind : Kind) (leg : Step) → IsProper net → IsUsable net kind leg → AllPairs (λ a b. Self.Row.cmp a b ≡ Less) (rows_used f net kind leg) };
+    /// A leg whose type may not use its track uses no row.
+    ghost unusable_uses_none: { (f : Self) (net : Net) (kind : Kind) (leg : Step) (row : Self.Row) → (MayUse net leg.track kind → ⊥)
+        → (rows_of f net).uses kind leg row ≡ 0 };
 
-    ghost used_are_rows: { (f : Self) (net : Net) (kind : Kind) (leg : Step) (row : Self.Row) → IsProper net → IsUsable net kind leg → 0 < (rows_of f net).uses kind leg row → (rows_of f net).is_row row ≡ true };
-
-    ghost uses_little: { (f : Self) (net : Net) (kind : Kind) (leg : Step) (row : Self.Row) → IsProper net → IsUsable net kind leg → (rows_of f net).uses kind leg row ≤ 8192 };
-
-    ghost uses_little_in_all: { (f : Self) (net : Net) (kind : Kind) (leg : Step) → IsProper net → IsUsable net kind leg → sum_by ((rows_of f net).uses kind leg) (rows_used f net kind leg) ≤ 8192 };
-
-    ghost small_capacity: { (f : Self) (net : Net) (row : Self.Row) → IsProper net → (rows_of f net).is_row row ≡ true → (rows_of f net).capacity row ≤ 65535 };
-
-    ghost unusable_uses_none: { (f : Self) (net : Net) (kind : Kind) (leg : Step) (row : Self.Row) → (MayUse net leg.track kind → ⊥) → (rows_of f net).uses kind leg row ≡ 0 };
-
+    /// Usable legs keep the rule exactly where they use no row above its capacity.
     ghost rule_by_rows: { (f : Self) (net : Net) (entries : List Entry) → IsProper net → All (λ e. IsUsable net e.0 e.1) entries
         → KeepsRule f net entries ↔ FitRows (rows_of f net) entries };
 }
