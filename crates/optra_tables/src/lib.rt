@@ -103,3 +103,6 @@ impl<T: Drop> From<AllocFailed<T>> for ReadError {
         ReadError::NoMemory
     }
 }
+
+#[cfg(test)]
+mod tests;

@@ -1,0 +1,38 @@
+//! Bids as they are written, and read again.
+
+use super::small::files_with;
+use crate::{Table, bids_text, read_bids, read_network, stops_text};
+use std::alloc::Global;
+use std::test::Fail;
+
+static STATIONS: &str = "station\nA\nB\n\"C, \"\"x\"\"\"\n";
+
+/// The tables of two bids and three stops: as they are handed in, and as they are written.
+static BIDS: [&str; 2] = [
+    "\u{FEFF}bid,bidder,type,origin,destination,depart_from,depart_ideal,depart_to,arrive_from,arrive_ideal,arrive_to,base,early_depart,late_depart,early_arrive,late_arrive,travel,wait,wait_max\r\n\"b\"\"1\",\"ann\",ic,A,\"C, \"\"x\"\"\",00,02,0010,0,12,60,1000,10,20,0,1,2,1000000,7\r\n\r\nb2,b b,ic,B,A,0,0,2879,0,0,2879,1000000000,0,0,0,0,0,0,0",
+    "bid,bidder,type,origin,destination,depart_from,depart_ideal,depart_to,arrive_from,arrive_ideal,arrive_to,base,early_depart,late_depart,early_arrive,late_arrive,travel,wait,wait_max\n\"b\"\"1\",ann,ic,A,\"C, \"\"x\"\"\",0,2,10,0,12,60,1000,10,20,0,1,2,1000000,7\nb2,b b,ic,B,A,0,0,2879,0,0,2879,1000000000,0,0,0,0,0,0,0\n",
+];
+
+static STOPS: [&str; 2] = [
+    "bid,station,min_dwell,max_dwell,arrive_from,arrive_to\nb2,A,0,30,005,6\n\"b\"\"1\",B,1,3,0,2879\n\"b2\",\"C, \"\"x\"\"\",240,240,0,1",
+    "bid,station,min_dwell,max_dwell,arrive_from,arrive_to\n\"b\"\"1\",B,1,3,0,2879\nb2,A,0,30,5,6\nb2,\"C, \"\"x\"\"\",240,240,0,1\n",
+];
+
+/// The bids of two tables, written again.
+fn written(alloc: Global, bids: &str, stops: &str) -> Result<[Vec<u8>; 2], Fail> {
+    let net = read_network(alloc, &files_with(Table::Stations, STATIONS.as_bytes()))?;
+    let bids = read_bids(alloc, &net, bids.as_bytes(), stops.as_bytes())?;
+    let bids_bytes = bids_text(alloc, &net, &bids)?;
+    let stops_bytes = stops_text(alloc, &net, &bids)?;
+    Ok([bids_bytes, stops_bytes])
+}
+
+#[test]
+fn bids_are_written_and_read_again(rt: HostRuntime) -> Result<(), Fail> {
+    for (bids, stops) in BIDS.iter().zip(&STOPS) {
+        let [bids_bytes, stops_bytes] = written(rt.alloc(), bids, stops)?;
+        assert_eq!(rt; bids_bytes.as_slice(), BIDS[1].as_bytes());
+        assert_eq!(rt; stops_bytes.as_slice(), STOPS[1].as_bytes());
+    }
+    Ok(())
+}
