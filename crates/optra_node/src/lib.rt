@@ -14,6 +14,8 @@ mod laws;
 mod loads;
 mod nodes;
 mod spans;
+#[cfg(test)]
+mod tests;
 
 pub use laws::{
     bound_holds, dual_laws, prices_by_used_rows, tests_tell_allowed, tree_cover, weak_duality,
