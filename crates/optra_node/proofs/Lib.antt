@@ -9,3 +9,5 @@ pub mod BaseLemmas
 pub mod PriceLemmas
 pub mod UniqueLemmas
 pub mod RowLemmas
+pub mod LeastLemmas
+pub mod NodeLemmas
