@@ -1,0 +1,224 @@
+//! The rows of headways, as a family.
+ghost use Rattle.std.specs.Prelude.{IsTrue, ◌≡◌, ℕ, ◌+◌, ◌<◌, ◌≤◌, ◌↔◌, ◌&&◌, nat_le, nat_lt, List, length, slice_get, unwrap_or, All, Option};
+ghost use Rattle.std.specs.List.{position_or_len};
+ghost use Rattle.std.specs.Option.{option_map};
+ghost use Rattle.optra_network.specs.Net.{Net, IsProper, MayUse};
+ghost use Rattle.optra_network.specs.Headways.{hmin_or_0};
+ghost use Rattle.optra_network.specs.Partners.{is_paired};
+ghost use Rattle.optra_bid.specs.declared.bids.Bid.{Bid};
+ghost use Rattle.optra_walk.specs.declared.Leg.{Leg as Step};
+ghost use Rattle.optra_walk.specs.Choices.{KeepsHeadways, uses_of};
+ghost use Rattle.optra_walk.specs.Families.{IsUsable, FitRows, entries_of};
+ghost use Rattle.optra_rows.specs.Headways.{is_row_of, is_used_by, headway_rows, IsHeadwayRow, pair_of, is_started, is_not_over, ShiftsRise, kept};
+
+use crate::HRow;
+use optra_network::{Minute, Network, Partner, TrackId, TypeId};
+use optra_walk::{Leg, RowFamily};
+
+/// The family of headway rows. Its rule is that the uses of tracks at every two different places are compatible.
+///
+/// A window row alone doesn't do where a headway exceeds the least headway after its first type: two uses can be in
+/// conflict and share no window minute. Each such two have a row of their own. This is the packing form of Borndörfer and
+/// Schlechte, "Models for Railway Track Allocation" (2007).
+#[derive(Clone, Copy, Debug, Drop)]
+pub struct HeadwayRows;
+
+impl HeadwayRows {
+    /// The family of headway rows, which takes no memory.
+    pub fn new() -> HeadwayRows
+        ensures { (net : Net) (bids : List Bid) (walks : List (Option (List Step))) → IsProper net → All (λ e. IsUsable net e.0 e.1) (entries_of bids walks) → KeepsHeadways net (uses_of bids walks) ↔ FitRows (headway_rows net) (entries_of bids walks) }
+    {
+        HeadwayRows
+    }
+}
+
+impl RowFamily for HeadwayRows {
+    ghost use Rattle.std.proofs.Common.{lit≤};
+    ghost use Rattle.optra_rows.specs.TouchedLemmas.{rows_told_apart, headway_rows_listed, unusable_none};
+    ghost use Rattle.optra_rows.specs.RuleLemmas.{headways_by_rows};
+    ghost use Rattle.optra_rows.specs.Headways.{touched_rows, KeepsHeadwayRule};
+
+    type Row = HRow;
+
+    ghost rows_of = { λ _ net. headway_rows net };
+
+    ghost rows_used = { λ _ net kind leg. touched_rows net leg.track kind leg.depart };
+
+    ghost KeepsRule = { λ _ net entries. KeepsHeadwayRule net entries };
+
+    ghost tells_apart = { rows_told_apart };
+
+    ghost lists_rows = { λ f net kind leg p u. headway_rows_listed net leg.track kind leg.depart p u.may_use u.depart };
+
+    ghost capacity_fits = { λ f net row p is. lit≤ tt };
+
+    ghost unusable_uses_none = { λ f net kind leg row may_not. unusable_none net leg.track kind leg.depart row may_not };
+
+    ghost rule_by_rows = { λ f net entries p all. headways_by_rows net entries p all };
+
+    /// Whether the value is a row: a minute of a track, or two uses that are a pair.
+    fn is_row(&self, net: &Network, row: HRow) -> bool
+        ensures row { result ≡ (headway_rows net.now).is_row row }
+        ensures rule { IsTrue result ↔ IsHeadwayRow net.now row }
+    {
+        let _ = net.track_count();
+        is_row(net, row)
+    }
+
+    fn cap(&self, _net: &Network, _row: HRow) -> u32 {
+        1
+    }
+
+    fn leg_use(&self, net: &Network, kind: TypeId, leg: Leg, row: HRow) -> u32 {
+        if is_row(net, row) && is_used(net, leg.track, kind, leg.depart, row) {
+            1
+        } else {
+            0
+        }
+    }
+
+    fn touched(&self, net: &Network, kind: TypeId, leg: Leg, k: u32) -> Option<HRow> {
+        let least = u32::from(least_of(net, leg.track, kind));
+        if k < least {
+            return Some(HRow::Window {
+                track: leg.track,
+                minute: leg.depart + k as u16,
+            });
+        }
+        let partners = net.partners(leg.track, kind);
+        pair_at(partners, leg.track, kind, leg.depart, k - least)
+    }
+}
+
+/// The row of the k-th partner in the day.
+fn pair_at(partners: &[Partner], track: TrackId, kind: TypeId, time: Minute, k: u32) -> Option<HRow>
+    requires time { time ≤ 2879 }
+    requires order { ShiftsRise partners.now }
+    ensures { result ≡ option_map (pair_of track kind time) (kept (is_not_over time) (slice_get partners.now (position_or_len (is_started time) partners.now + k))) }
+{
+    let start = first_started(partners, time);
+    let partner = partners.get(start + k as usize)?;
+    if u32::from(time) + u32::from(partner.shift) <= 2999 {
+        Some(pair_of(track, kind, time, *partner))
+    } else {
+        None
+    }
+}
+
+/// The row of a use and a partner.
+fn pair_of(track: TrackId, kind: TypeId, time: Minute, partner: Partner) -> HRow
+    requires time { time ≤ 2879 }
+    requires shift { time + partner.shift ≤ 2999 }
+    ensures { result ≡ pair_of track kind time partner }
+{
+    let at = (time + partner.shift).saturating_sub(120);
+    if partner.shift < 120 {
+        HRow::Pair {
+            track,
+            first_at: at,
+            first: partner.kind,
+            second_at: time,
+            second: kind,
+        }
+    } else {
+        HRow::Pair {
+            track,
+            first_at: time,
+            first: kind,
+            second_at: at,
+            second: partner.kind,
+        }
+    }
+}
+
+/// The place of the first partner whose minute is not before the day. From minute 120 on none is before it.
+fn first_started(partners: &[Partner], time: Minute) -> usize
+    requires time { time ≤ 2879 }
+    requires order { ShiftsRise partners.now }
+    ensures place { result ≡ position_or_len (is_started time) partners.now }
+    ensures within { result ≤ length partners.now }
+{
+    if time >= 120 {
+        return 0;
+    }
+    partners.partition_point(|partner| u32::from(time) + u32::from(partner.shift) < 120)
+}
+
+fn is_row(net: &Network, row: HRow) -> bool
+    ensures { result ≡ is_row_of net.now row }
+{
+    match row {
+        HRow::Window { track, minute } => track.0 < net.track_count() && minute <= 2998,
+        HRow::Pair {
+            track,
+            first_at,
+            first,
+            second_at,
+            second,
+        } => is_pair(net, track, first_at, first, second_at, second) && second_at <= 2879,
+    }
+}
+
+/// The least headway after a type, and 0 where it may not use the track.
+fn least_of(net: &Network, track: TrackId, kind: TypeId) -> u16
+    ensures least { result ≡ hmin_or_0 net.now track kind }
+    ensures most { result ≤ 120 }
+    ensures proper { IsProper net.now }
+{
+    let _ = net.track_count();
+    net.hmin(track, kind).unwrap_or(0)
+}
+
+fn is_pair(
+    net: &Network,
+    track: TrackId,
+    first_at: Minute,
+    first: TypeId,
+    second_at: Minute,
+    second: TypeId,
+) -> bool
+    ensures { result ≡ is_paired net.now track first_at first second_at second }
+{
+    if net.run(track, first, false, false).is_none() {
+        return false;
+    }
+    if net.run(track, second, false, false).is_none() {
+        return false;
+    }
+    let headway = net.headway(track, first, second).unwrap_or(0);
+    is_apart(least_of(net, track, first), headway, first_at, second_at)
+}
+
+/// Whether the second minute is at least the first number of minutes after the first one, and less than the second
+/// number.
+fn is_apart(least: u16, headway: u16, first_at: Minute, second_at: Minute) -> bool
+    ensures { result ≡ (nat_le (first_at + least) second_at && nat_lt second_at (first_at + headway)) }
+{
+    let (first_at, second_at) = (u32::from(first_at), u32::from(second_at));
+    first_at + u32::from(least) <= second_at && second_at < first_at + u32::from(headway)
+}
+
+fn is_used(net: &Network, track: TrackId, kind: TypeId, time: Minute, row: HRow) -> bool
+    ensures { result ≡ is_used_by net.now track kind time row }
+{
+    match row {
+        HRow::Window {
+            track: other,
+            minute,
+        } => {
+            track == other
+                && time <= minute
+                && u32::from(minute) < u32::from(time) + u32::from(least_of(net, track, kind))
+        }
+        HRow::Pair {
+            track: other,
+            first_at,
+            first,
+            second_at,
+            second,
+        } => {
+            track == other
+                && ((kind == first && time == first_at) || (kind == second && time == second_at))
+        }
+    }
+}

@@ -1,0 +1,125 @@
+//! Two families of rows together.
+ghost use Rattle.std.specs.Prelude.{◌≡◌, ℕ, ◌+◌, ◌<◌, ◌≤◌, length, slice_get, List};
+ghost use Rattle.optra_network.specs.Net.{Net, IsProper};
+ghost use Rattle.optra_network.specs.declared.TypeId.{TypeId as Kind};
+ghost use Rattle.optra_walk.specs.declared.Leg.{Leg as Step};
+ghost use Rattle.optra_walk.specs.Families.{IsUsable};
+ghost use Rattle.optra_rows.specs.Eithers.{AreFew};
+
+use optra_network::{Network, TypeId};
+use optra_walk::{Leg, RowFamily};
+
+/// A row of the first or of the second family. All of the first are below all of the second.
+#[derive(Clone, Copy, Debug, PartialEq, Eq, PartialOrd, Ord)]
+pub enum Either<P, Q> {
+    /// A row of the first family.
+    First(P),
+    /// A row of the second family.
+    Second(Q),
+}
+
+/// Two families as one. It has the rows of both, and its rule is that both rules hold.
+#[derive(Drop)]
+pub struct Both<A: RowFamily, B: RowFamily> {
+    /// The family whose rows come first.
+    pub first: A,
+    /// The family whose rows come after them.
+    pub second: B,
+    ghost few: { (net : Net) (kind : Kind) (leg : Step) → IsProper net → IsUsable net kind leg
+        → AreFew ((A.rows_of first net).uses kind leg) ((B.rows_of second net).uses kind leg) (A.rows_used first net kind leg) (B.rows_used second net kind leg) },
+}
+
+impl<A: RowFamily, B: RowFamily> Both<A, B> {
+    /// Two families together. It takes no memory. A usable leg must use at most 8,192 rows of the two together, and its
+    /// uses of them must add up to at most 8,192.
+    pub fn new(first: A, second: B) -> Both<A, B>
+        requires { (net : Net) (kind : Kind) (leg : Step) → IsProper net → IsUsable net kind leg → AreFew ((A.rows_of first net).uses kind leg) ((B.rows_of second net).uses kind leg) (A.rows_used first net kind leg) (B.rows_used second net kind leg) }
+        ensures first { result.first ≡ first }
+        ensures second { result.second ≡ second }
+    {
+        Both { first, second }
+    }
+
+    /// How many rows of the first family the leg uses, which are at most k.
+    fn first_count(&self, net: &Network, kind: TypeId, leg: Leg, k: u32) -> u32
+        requires usable { IsUsable net.now kind leg }
+        requires most { length (A.rows_used self.now.first net.now kind leg) ≤ k }
+        ensures { result ≡ length (A.rows_used self.now.first net.now kind leg) }
+    {
+        let mut low = 0;
+        let mut high = k;
+        while low < high {
+            let mid = low + (high - low) / 2;
+            if self.first.touched(net, kind, leg, mid).is_some() {
+                low = mid + 1;
+            } else {
+                high = mid;
+            }
+        }
+        low
+    }
+}
+
+impl<A: RowFamily, B: RowFamily> RowFamily for Both<A, B> {
+    type Row = Either<A::Row, B::Row>;
+
+    ghost use Rattle.optra_rows.specs.Eithers.{both_rows, both_lists};
+    ghost use Rattle.optra_rows.specs.EitherLemmas.{tell_both_apart, lists_both, fits_both, caps_fit, none_of_both};
+    ghost use Rattle.std.specs.Prelude.{refl};
+
+    ghost rows_of = { λ f net. both_rows (A.rows_of f.first net) (B.rows_of f.second net) };
+
+    ghost rows_used = { λ f net kind leg. both_lists (A.rows_used f.first net kind leg) (B.rows_used f.second net kind leg) };
+
+    ghost KeepsRule = { λ f net entries. A.KeepsRule f.first net entries × B.KeepsRule f.second net entries };
+
+    ghost tells_apart = { tell_both_apart A.Row.cmp B.Row.cmp ⟦<Either<A::Row, B::Row> as Ord>⟧.cmp (λ a b. refl) (λ a b. refl) (λ a b. refl) (λ a b. refl) A.tells_apart B.tells_apart };
+
+    ghost lists_rows = { λ f net kind leg p u.
+        lists_both A.Row.cmp B.Row.cmp ⟦<Either<A::Row, B::Row> as Ord>⟧.cmp (λ a b. refl) (λ a b. refl) (λ a b. refl)
+        (A.rows_of f.first net) (B.rows_of f.second net) kind leg
+        (A.rows_used f.first net kind leg) (B.rows_used f.second net kind leg)
+        (A.lists_rows f.first net kind leg p u) (B.lists_rows f.second net kind leg p u) (f.few net kind leg p u) };
+
+    ghost capacity_fits = { λ f net row p is. caps_fit (A.rows_of f.first net) (B.rows_of f.second net) (λ r. A.capacity_fits f.first net r p) (λ r. B.capacity_fits f.second net r p) row is };
+
+    ghost unusable_uses_none = { λ f net kind leg row may_not. none_of_both (A.rows_of f.first net) (B.rows_of f.second net) kind leg (λ r. A.unusable_uses_none f.first net kind leg r may_not) (λ r. B.unusable_uses_none f.second net kind leg r may_not) row };
+
+    ghost rule_by_rows = { λ f net entries p all. fits_both (A.rows_of f.first net) (B.rows_of f.second net) entries _ _ (A.rule_by_rows f.first net entries p all) (B.rule_by_rows f.second net entries p all) };
+
+    fn is_row(&self, net: &Network, row: Either<A::Row, B::Row>) -> bool {
+        match row {
+            Either::First(p) => self.first.is_row(net, p),
+            Either::Second(q) => self.second.is_row(net, q),
+        }
+    }
+
+    fn cap(&self, net: &Network, row: Either<A::Row, B::Row>) -> u32 {
+        match row {
+            Either::First(p) => self.first.cap(net, p),
+            Either::Second(q) => self.second.cap(net, q),
+        }
+    }
+
+    fn leg_use(&self, net: &Network, kind: TypeId, leg: Leg, row: Either<A::Row, B::Row>) -> u32 {
+        match row {
+            Either::First(p) => self.first.leg_use(net, kind, leg, p),
+            Either::Second(q) => self.second.leg_use(net, kind, leg, q),
+        }
+    }
+
+    fn touched(
+        &self,
+        net: &Network,
+        kind: TypeId,
+        leg: Leg,
+        k: u32,
+    ) -> Option<Either<A::Row, B::Row>> {
+        if let Some(p) = self.first.touched(net, kind, leg, k) {
+            return Some(Either::First(p));
+        }
+        let count = self.first_count(net, kind, leg, k);
+        let q = self.second.touched(net, kind, leg, k - count)?;
+        Some(Either::Second(q))
+    }
+}
