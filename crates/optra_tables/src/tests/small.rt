@@ -1,6 +1,8 @@
 //! A small network with one bid, and its first fault with another table in the place of one of its own.
 
 use crate::{NetFiles, ReadError, Table, TableFault, read_bids, read_network};
+use optra_bid::Bid;
+use optra_network::Network;
 use std::alloc::{AllocError, Global};
 
 static STATIONS: &str = "station\nA\nB\n";
@@ -51,27 +53,44 @@ fn chosen<'a>(asked: Table, table: Table, content: &'a [u8]) -> &'a [u8] {
     }
 }
 
-/// The tables of the network with this content of one table.
-pub fn files_with<'a>(table: Table, content: &'a [u8]) -> NetFiles<'a> {
-    NetFiles {
+/// The network of the small tables with this content of one table.
+pub fn network_with(alloc: Global, table: Table, content: &[u8]) -> Result<Network, ReadError> {
+    let files = NetFiles {
         stations: chosen(Table::Stations, table, content),
         tracks: chosen(Table::Tracks, table, content),
         types: chosen(Table::Types, table, content),
         running: chosen(Table::Running, table, content),
         headways: chosen(Table::Headways, table, content),
-    }
+    };
+    read_network(alloc, &files)
 }
 
-/// The fault of the network's tables and then of its bids, if there is one.
-fn fault_of(
+/// The bids of the small tables with this content of one table.
+fn bids_with(
     alloc: Global,
-    files: &NetFiles<'_>,
-    bids: &[u8],
-    stops: &[u8],
-) -> Result<(), ReadError> {
-    let net = read_network(alloc, files)?;
-    let _bids = read_bids(alloc, &net, bids, stops)?;
+    net: &Network,
+    table: Table,
+    content: &[u8],
+) -> Result<Vec<Bid>, ReadError> {
+    let bids = chosen(Table::Bids, table, content);
+    let stops = chosen(Table::Stops, table, content);
+    read_bids(alloc, net, bids, stops)
+}
+
+/// Reads the network's tables and then the bids.
+fn read(alloc: Global, table: Table, content: &[u8]) -> Result<(), ReadError> {
+    let net = network_with(alloc, table, content)?;
+    bids_with(alloc, &net, table, content)?;
     Ok(())
+}
+
+/// The fault that ended a reading, if there is one.
+fn fault_of(read: Result<(), ReadError>) -> Result<Option<TableFault>, ReadError> {
+    match read {
+        Ok(()) => Ok(None),
+        Err(ReadError::Fault(fault)) => Ok(Some(fault)),
+        Err(ReadError::NoMemory) => Err(ReadError::NoMemory),
+    }
 }
 
 /// The fault of the small tables with this content of one table, if there is one.
@@ -80,12 +99,5 @@ pub fn fault_with(
     table: Table,
     content: &[u8],
 ) -> Result<Option<TableFault>, ReadError> {
-    let files = files_with(table, content);
-    let bids = chosen(Table::Bids, table, content);
-    let stops = chosen(Table::Stops, table, content);
-    match fault_of(alloc, &files, bids, stops) {
-        Ok(()) => Ok(None),
-        Err(ReadError::Fault(fault)) => Ok(Some(fault)),
-        Err(ReadError::NoMemory) => Err(ReadError::NoMemory),
-    }
+    fault_of(read(alloc, table, content))
 }

@@ -1,7 +1,7 @@
 //! Bids as they are written, and read again.
 
-use super::small::files_with;
-use crate::{Table, bids_text, read_bids, read_network, stops_text};
+use super::small::network_with;
+use crate::{Table, bids_text, read_bids, stops_text};
 use std::alloc::Global;
 use std::test::Fail;
 
@@ -20,7 +20,7 @@ static STOPS: [&str; 2] = [
 
 /// The bids of two tables, written again.
 fn written(alloc: Global, bids: &str, stops: &str) -> Result<[Vec<u8>; 2], Fail> {
-    let net = read_network(alloc, &files_with(Table::Stations, STATIONS.as_bytes()))?;
+    let net = network_with(alloc, Table::Stations, STATIONS.as_bytes())?;
     let bids = read_bids(alloc, &net, bids.as_bytes(), stops.as_bytes())?;
     let bids_bytes = bids_text(alloc, &net, &bids)?;
     let stops_bytes = stops_text(alloc, &net, &bids)?;
