@@ -3,6 +3,7 @@
 
 mod building;
 mod emitting;
+mod finding;
 mod numbering;
 mod reaching;
 mod serving;
