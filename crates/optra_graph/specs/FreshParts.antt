@@ -1,13 +1,12 @@
 -- What contracts see of graphs that are built anew.
-use Rattle.std.specs.Prelude.{List, [], map, All, Option, None, Some, ⊤}
+use Rattle.std.specs.Prelude.{List, [], map, All}
 use Rattle.std.specs.Option.{option_map_or}
-use Rattle.optra_graph.specs.Served.{Holding, path_of, IsServed}
-use Rattle.optra_graph.specs.declared.serving.Served.{Served}
+use Rattle.optra_graph.specs.Served.{Holding, Kept, path_of, IsServed}
 use Rattle.optra_graph.specs.declared.serving.FreshGraphs.TheInside.{Inside}
 
 -- the list that is there, or none
-abbrev pub served_of : Inside → List Served
-served_of a = option_map_or (λ served. served.items) a.served []
+abbrev pub served_of : Inside → List Kept
+served_of a = option_map_or (λ (kept : List Kept). kept) a.served []
 
 abbrev pub holding_of : Inside → Holding
 holding_of a = record { network = a.net.now; held = map path_of (served_of a); built = a.builds }

@@ -10,4 +10,5 @@ pub mod Graphs
 pub mod Nodes
 pub mod Settings
 pub mod Served
+pub mod Chains
 pub mod FreshParts

@@ -3,6 +3,7 @@
 
 mod building;
 mod emitting;
+mod finding;
 mod numbering;
 mod reaching;
 mod serving;
@@ -13,3 +14,6 @@ mod timegraphs;
 pub use building::{Builds, build};
 pub use serving::{FreshGraphs, Graphs};
 pub use timegraphs::TimeGraph;
+
+#[cfg(test)]
+mod tests;

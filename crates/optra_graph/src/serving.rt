@@ -1,11 +1,12 @@
 //! Who serves the graphs of bids.
-ghost use Rattle.std.specs.Prelude.{◌≡◌, ◌⊎◌, ◌<◌, ℕ, Bool, true, List, [], length, map, slice_index_or, All, Contains, OnOk, IfOk};
+ghost use Rattle.std.specs.Prelude.{◌≡◌, ◌⊎◌, ℕ, Bool, true, List, [], map, All, Contains, OnOk, IfOk};
 ghost use Rattle.optra_network.specs.Net.{Net};
 ghost use Rattle.optra_bid.specs.Specs.{Path, IsPathOn};
 ghost use Rattle.optra_graph.specs.Served.{path_of, IsServed};
 ghost use Rattle.optra_graph.specs.Timed.{IsGraphOf};
 
 use crate::building::{Builds, build};
+use crate::finding::Index;
 use crate::timegraphs::TimeGraph;
 use optra_bid::Bid;
 use optra_network::{Network, NoMemory};
@@ -47,18 +48,11 @@ pub trait Graphs {
         ensures { result ≡ built self.now };
 }
 
-/// A bid whose path specification is held, and its graph.
-#[derive(Drop)]
-pub(crate) struct Served {
-    pub(crate) bid: Bid,
-    pub(crate) graph: TimeGraph,
-}
-
 /// Graphs that are built anew, one for each bid, whenever some are prepared. Those held before are then let go.
 #[derive(Drop)]
 pub struct FreshGraphs<'n> {
     net: &'n Network,
-    served: Option<Vec<Served>>,
+    served: Option<Index>,
     builds: Builds,
 }
 
@@ -108,8 +102,10 @@ impl Graphs for FreshGraphs<'_> {
         let Some(served) = &self.served else {
             unreachable!()
         };
-        let place = place_of(served, bid);
-        &served[place].graph
+        let Some(graph) = served.graph(bid) else {
+            unreachable!()
+        };
+        graph
     }
 
     fn builds(&self) -> u64 {
@@ -123,30 +119,16 @@ fn build_all(
     net: &Network,
     bids: &[Bid],
     builds: &mut Builds,
-) -> Result<Vec<Served>, NoMemory>
+) -> Result<Index, NoMemory>
     requires { All (λ bid. IsPathOn net.now bid.path) bids.now }
-    ensures paths { IfOk result (λ served. map path_of served.items ≡ map (λ bid. bid.path) bids.now) }
-    ensures graphs { IfOk result (λ served. All (IsServed net.now) served.items) }
+    ensures paths { IfOk result (λ served. map path_of served ≡ map (λ bid. bid.path) bids.now) }
+    ensures graphs { IfOk result (λ served. All (IsServed net.now) served) }
 {
-    let mut served = Vec::with_capacity(alloc, bids.len())?;
+    let mut served = Index::new(alloc, bids.len())?;
     for bid in bids {
         let graph = build(alloc, net, bid, builds)?;
         let bid = bid.copied(alloc)?;
-        served.push(Served { bid, graph })?;
+        served.add(bid, graph)?;
     }
     Ok(served)
-}
-
-/// The first place whose bid has the same path specification.
-fn place_of(served: &[Served], bid: &Bid) -> usize
-    requires { Contains (map path_of served.now) bid.now.path }
-    ensures there { result < length served.now }
-    ensures same { (s : Served) → (slice_index_or served.now result s).bid.path ≡ bid.now.path }
-{
-    for (place, entry) in served.iter().enumerate() {
-        if entry.bid.same_path(bid) {
-            return place;
-        }
-    }
-    unreachable!()
 }
