@@ -11,3 +11,5 @@ pub mod UniqueLemmas
 pub mod RowLemmas
 pub mod LeastLemmas
 pub mod NodeLemmas
+pub mod RaiseLemmas
+pub mod SummaryLemmas

@@ -3,7 +3,7 @@
 ghost use Rattle.std.specs.Prelude.{◌≡◌, ◌<◌, false, length, IfOk};
 ghost use Rattle.optra_node.specs.Nodes.{IsNode};
 
-use crate::{Decision, Node, is_formed_leg};
+use crate::{Decision, Node, Summary, is_formed_leg};
 use optra_bid::{Bid, Name, RawBid};
 use optra_network::{
     Builder, Minute, NetFault, NetRefusal, Network, StationId, TrackId, TypeId, is_name,
@@ -162,6 +162,23 @@ fn leg_ok(inst: Instance<'_>, node: &Node, bid: u32, leg: Leg) -> Option<bool>
     }
 }
 
+/// The same by a summary of the node.
+fn leg_ok_by_summary(
+    inst: Instance<'_>,
+    summary: &Summary<'_, NoRows>,
+    bid: u32,
+    leg: Leg,
+) -> Option<bool>
+    requires net { summary.now.net ≡ inst.net.now }
+    requires bids { summary.now.bids ≡ inst.bids.now }
+{
+    if (bid as usize) < inst.bids.len() && is_formed_leg(inst.net, leg) {
+        Some(summary.leg_ok(bid, leg))
+    } else {
+        None
+    }
+}
+
 /// Whether the bid may start at the minute.
 fn start_ok(inst: Instance<'_>, node: &Node, bid: u32, minute: Minute) -> Option<bool>
     requires node { IsNode inst.net.now (length inst.bids.now) node.now }
@@ -179,6 +196,16 @@ fn check_legs(rt: &impl Abort, inst: Instance<'_>, node: &Node)
     for (bid, depart, from_halt, action, want) in &LEG_CASES {
         let answer = leg_ok(inst, node, *bid, leg(*depart, *from_halt, *action));
         assert_eq!(rt; answer, Some(*want));
+    }
+}
+
+fn check_legs_by_summary(rt: &impl Abort, inst: Instance<'_>, summary: &Summary<'_, NoRows>)
+    requires net { summary.now.net ≡ inst.net.now }
+    requires bids { summary.now.bids ≡ inst.bids.now }
+{
+    for (bid, depart, from_halt, action, want) in &LEG_CASES {
+        let leg = leg(*depart, *from_halt, *action);
+        assert_eq!(rt; leg_ok_by_summary(inst, summary, *bid, leg), Some(*want));
     }
 }
 
@@ -221,5 +248,7 @@ fn a_yes_leg_refuses_what_its_minute_is_in(rt: HostRuntime) -> Result<(), Fail> 
     check_legs(&rt, inst, &node);
     check_starts(&rt, inst, &node);
     assert_eq!(rt; node.overfull(inst, &NoRows), None);
+    let summary = Summary::new(alloc, inst, &NoRows, &node)?;
+    check_legs_by_summary(&rt, inst, &summary);
     Ok(())
 }
