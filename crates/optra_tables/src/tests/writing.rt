@@ -1,7 +1,13 @@
 //! Bids as they are written, and read again.
 
+ghost use Rattle.std.specs.Prelude.{map};
+ghost use Rattle.optra_network.specs.Names.{AllDiffer};
+ghost use Rattle.optra_bid.specs.Instances.{IsInstance};
+
 use super::small::network_with;
-use crate::{Table, bids_text, read_bids, stops_text};
+use crate::{ReadError, Table, bids_text, read_bids, stops_text};
+use optra_bid::Bid;
+use optra_network::{Network, NoMemory};
 use std::alloc::Global;
 use std::test::Fail;
 
@@ -18,13 +24,34 @@ static STOPS: [&str; 2] = [
     "bid,station,min_dwell,max_dwell,arrive_from,arrive_to\n\"b\"\"1\",B,1,3,0,2879\nb2,A,0,30,5,6\nb2,\"C, \"\"x\"\"\",240,240,0,1\n",
 ];
 
-/// The bids of two tables, written again.
-fn written(alloc: Global, bids: &str, stops: &str) -> Result<[Vec<u8>; 2], Fail> {
-    let net = network_with(alloc, Table::Stations, STATIONS.as_bytes())?;
-    let bids = read_bids(alloc, &net, bids.as_bytes(), stops.as_bytes())?;
-    let bids_bytes = bids_text(alloc, &net, &bids)?;
-    let stops_bytes = stops_text(alloc, &net, &bids)?;
+/// The two tables of bids.
+fn tables_of(alloc: Global, net: &Network, bids: &[Bid]) -> Result<[Vec<u8>; 2], NoMemory>
+    requires instance { IsInstance net.now bids.now }
+    requires differ { AllDiffer (map (λ bid. bid.name) bids.now) }
+{
+    let bids_bytes = bids_text(alloc, net, bids)?;
+    let stops_bytes = stops_text(alloc, net, bids)?;
     Ok([bids_bytes, stops_bytes])
+}
+
+/// The bids of two tables on a network, written again.
+fn written_on(
+    alloc: Global,
+    net: &Network,
+    bids: &str,
+    stops: &str,
+) -> Result<[Vec<u8>; 2], ReadError> {
+    let bids = read_bids(alloc, net, bids.as_bytes(), stops.as_bytes())?;
+    match tables_of(alloc, net, &bids) {
+        Ok(tables) => Ok(tables),
+        Err(_) => Err(ReadError::NoMemory),
+    }
+}
+
+/// The bids of two tables, written again.
+fn written(alloc: Global, bids: &str, stops: &str) -> Result<[Vec<u8>; 2], ReadError> {
+    let net = network_with(alloc, Table::Stations, STATIONS.as_bytes())?;
+    written_on(alloc, &net, bids, stops)
 }
 
 #[test]
