@@ -1,5 +1,5 @@
 -- A choice with one more bid: its uses, its headways, its revenue and its rule; and what no choice can earn.
-use Rattle.std.proofs.Common.{◌≡◌, ℕ, zero, suc, ℤ, pos, ◌+ℤ◌, ◌≤ℤ◌, List, [], ◌∷◌, ◌++◌, fold, length, Option, None, Some, slice_get, ◌⊎◌, inl, inr, refl, sym, ap, ◌∙◌, subst, arith, append_assoc}
+use Rattle.std.proofs.Common.{◌≡◌, ℕ, zero, suc, ◌+◌, ◌-◌, ℤ, pos, ◌+ℤ◌, ◌≤ℤ◌, List, [], ◌∷◌, ◌++◌, fold, length, Option, None, Some, slice_get, ◌⊎◌, inl, inr, refl, sym, ap, ◌∙◌, subst, arith, append_assoc}
 use Rattle.std.specs.Prelude.{All}
 use Rattle.std.specs.List.{AllZip}
 use Rattle.std.proofs.lemmas.Int.{ints}
@@ -13,7 +13,7 @@ use Rattle.optra_network.specs.declared.TrackUse.{TrackUse}
 use Rattle.optra_bid.specs.declared.bids.Bid.{Bid}
 use Rattle.optra_walk.specs.declared.Leg.{Leg}
 use Rattle.optra_walk.specs.Choices.{IsChoice, uses_of, KeepsHeadways, IsConflictFree, revenue_of}
-use Rattle.optra_top.specs.OneTrack.{uses_in, uses_taken, TakesFirstBest, Greedy, IsGreatestOffer, IsSumOfOffers}
+use Rattle.optra_top.specs.PathRule.{uses_in, uses_taken, TakesFirstBest, Greedy, IsGreatestOffer, IsSumOfOffers}
 use Rattle.optra_top.specs.Plans.{IsPlan}
 
 -- compatible either way round
@@ -44,6 +44,35 @@ KeepsHeadways-push net uses new keeps fits = λ i j a b apart at_i at_j.
         | inr new_b ↦ absurd (apart (new_a.0 ∙ sym new_b.0))
       ]
     ]
+
+-- what stands in two lists, one after the other
+at_append : {X : Type 0} (xs ys : List X) (i : ℕ) (a : X) → slice_get (xs ++ ys) i ≡ Some a → (slice_get xs i ≡ Some a) ⊎ ((j : ℕ) × (i ≡ length xs + j) × (slice_get ys j ≡ Some a))
+at_append [] ys i a e = inr (i, omega arith, e)
+at_append (x ∷ xs) ys zero a e = inl e
+at_append (x ∷ xs) ys (suc i) a e = elim (at_append xs ys i a e) [ inl h ↦ inl h | inr h ↦ let is = h.1 in inr (h.0, omega arith, h.2) ]
+
+append_at : {X : Type 0} (xs ys : List X) (i : ℕ) (a : X) → slice_get ys i ≡ Some a → slice_get (xs ++ ys) (length xs + i) ≡ Some a
+append_at [] ys i a e = let at : 0 + i ≡ i = omega arith in ap (slice_get ys) at ∙ e
+append_at (x ∷ xs) ys i a e = let at : length (x ∷ xs) + i ≡ suc (length xs + i) = omega arith in ap (slice_get (x ∷ (xs ++ ys))) at ∙ append_at xs ys i a e
+
+-- the headways of two lists, each of which keeps its own, and each use of the second is compatible with each of the first
+pub KeepsHeadways-append : (net : Net) (uses new : List TrackUse) → KeepsHeadways net uses → KeepsHeadways net new → All (λ b. All (λ a. AreCompatible net a b) uses) new → KeepsHeadways net (uses ++ new)
+KeepsHeadways-append net uses new keeps own fits = λ i j a b apart at_i at_j.
+    elim (at_append uses new i a at_i) [
+      | inl old_a ↦ elim (at_append uses new j b at_j) [
+        | inl old_b ↦ keeps i j a b apart old_a old_b
+        | inr new_b ↦ all_at (λ (a : TrackUse). AreCompatible net a b) uses i a (all_at (λ (b : TrackUse). All (λ a. AreCompatible net a b) uses) new new_b.0 b fits new_b.2) old_a
+      ]
+      | inr new_a ↦ elim (at_append uses new j b at_j) [
+        | inl old_b ↦ compatible_comm net b a (all_at (λ (b : TrackUse). AreCompatible net b a) uses j b (all_at (λ (b : TrackUse). All (λ a. AreCompatible net a b) uses) new new_a.0 a fits new_a.2) old_b)
+        | inr new_b ↦ own new_a.0 new_b.0 a b (λ e. apart (new_a.1 ∙ ap (λ n. length uses + n) e ∙ sym new_b.1)) new_a.2 new_b.2
+      ]
+    ]
+
+-- the second of two lists keeps the headways where both together do
+pub KeepsHeadways-own : (net : Net) (uses new : List TrackUse) → KeepsHeadways net (uses ++ new) → KeepsHeadways net new
+KeepsHeadways-own net uses new keeps = λ i j a b apart at_i at_j.
+    keeps (length uses + i) (length uses + j) a b (λ e. apart (omega arith)) (append_at uses new i a at_i) (append_at uses new j b at_j)
 
 module _ (net : Net) (bid : Bid) (entry : Option (List Leg)) where
   pub uses_of-push : (bids : List Bid) (walks : List (Option (List Leg))) → IsChoice net bids walks → uses_of (bids ++ bid ∷ []) (walks ++ entry ∷ []) ≡ uses_of bids walks ++ uses_taken bid entry

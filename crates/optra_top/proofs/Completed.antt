@@ -5,9 +5,9 @@ use Rattle.optra_outside.specs.Pen.{PenState}
 use Rattle.optra_outside.specs.Shelf.{ShelfState}
 use Rattle.optra_outside.specs.declared.shelves.ShelfError.TheVariants.{Absent as NotThere, TooLong as Overlong}
 use Rattle.optra_top.specs.declared.faults.Fault.{Fault}
-use Rattle.optra_top.specs.declared.faults.Fault.TheVariants.{Table, NotServed, Read, Absent, TooLong, Write, NoMemory}
+use Rattle.optra_top.specs.declared.faults.Fault.TheVariants.{Table, Read, Absent, TooLong, Write, NoMemory}
 use Rattle.optra_text.specs.FaultLines.{refusal_line}
-use Rattle.optra_top.specs.Lines.{line_of, status_of, one_track_line}
+use Rattle.optra_top.specs.Lines.{line_of, status_of}
 use Rattle.optra_top.specs.Replies.{Reply, refused, answered}
 use Rattle.optra_top.specs.Commands.{Command, plan, files_of, MayReply}
 use Rattle.optra_top.specs.Ending.{IsValid, IsRefused, Holds, IsMissing, Replies, IsDone, NoFaults, Says}
@@ -54,7 +54,6 @@ never-overlong command s s' o o' contents name holds missing =
 -- what the shelf holds is accepted, and nothing outside failed
 pub complete : (command : Command) (s s' : ShelfState) (o o' : PenState) (fault : Fault) → EndsBy command s s' o o' fault → IsValid command s → NoFaults s s' o o' → status_of fault ≡ 8
 complete command s s' o o' (Table fault) ends valid none = absurd (valid.accepted (refusal_line fault) (reply-held command s valid.contents ends.contents (refused (refusal_line fault)) valid.holds ends.replied))
-complete command s s' o o' NotServed ends valid none = absurd (valid.accepted one_track_line (reply-held command s valid.contents ends.contents (refused one_track_line) valid.holds ends.replied))
 complete command s s' o o' (Read name) ends valid none = absurd (none.read (ends.refuses.failed refl))
 complete command s s' o o' (Absent name) ends valid none = absurd (never-absent command s s' o o' valid.contents _ valid.holds ends)
 complete command s s' o o' (TooLong name) ends valid none = absurd (never-overlong command s s' o o' valid.contents _ valid.holds ends)
@@ -66,10 +65,6 @@ pub refuses : (command : Command) (s s' : ShelfState) (o o' e e' : PenState) (fa
     → ((status ≡ 3) × Says e e' line) ⊎ (status ≡ 8)
 refuses command s s' o o' e e' (Table fault) status is ends says none line refused-so =
     let same = same_line line (refusal_line fault) (refused-alone command refused-so.contents line (refused (refusal_line fault)) refused-so.refuses (reply-held command s refused-so.contents ends.contents (refused (refusal_line fault)) refused-so.holds ends.replied)) in
-    let P : List ℕ → Type 0 = λ l. Says e e' l in
-    inl (is, subst P same says)
-refuses command s s' o o' e e' NotServed status is ends says none line refused-so =
-    let same = same_line line one_track_line (refused-alone command refused-so.contents line (refused one_track_line) refused-so.refuses (reply-held command s refused-so.contents ends.contents (refused one_track_line) refused-so.holds ends.replied)) in
     let P : List ℕ → Type 0 = λ l. Says e e' l in
     inl (is, subst P same says)
 refuses command s s' o o' e e' (Read name) status is ends says none line refused-so = absurd (none (ends.refuses.failed refl))

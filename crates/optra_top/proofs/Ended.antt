@@ -6,13 +6,13 @@ use Rattle.optra_outside.specs.Shelf.{ShelfState, GetLeaves, PutLeaves}
 use Rattle.optra_outside.specs.declared.shelves.ShelfError.{ShelfError}
 use Rattle.optra_outside.specs.declared.shelves.ShelfError.TheVariants.{Absent as NotThere, Failed, TooLong as Overlong, NoMemory as NoRoom}
 use Rattle.optra_top.specs.declared.faults.Fault.{Fault}
-use Rattle.optra_top.specs.declared.faults.Fault.TheVariants.{Table, NotServed, Read, Absent, TooLong, Write, NoMemory}
-use Rattle.optra_text.specs.FaultLines.{read_line}
+use Rattle.optra_top.specs.declared.faults.Fault.TheVariants.{Table, Read, Absent, TooLong, Write, NoMemory}
+use Rattle.optra_text.specs.FaultLines.{read_line, memory_line}
 use Rattle.optra_top.specs.Lines.{status_of, line_of}
 use Rattle.optra_top.specs.Replies.{Reply}
 use Rattle.optra_top.specs.Commands.{Command, files_of, MayReply}
 use Rattle.optra_top.specs.Gathering.{HoldsAll, Refuses}
-use Rattle.optra_top.specs.Ending.{Replies, IsMissing, Says, RunLeaves}
+use Rattle.optra_top.specs.Ending.{Replies, IsMissing, IsSilent, Says, RunLeaves}
 use Rattle.optra_top.specs.Faults.{EndsBy, FaultOf, Refusing}
 
 missing : (command : Command) (s s' : ShelfState) (o : PenState) (at : ℕ) (why : ShelfError) (name : List ℕ) → Refuses s s' (files_of command) at why → get_or (files_of command) at [] ≡ name → GetLeaves s s' → IsMissing command s s' o o why name
@@ -29,7 +29,6 @@ EndsBy-refusal command s s' o at NoRoom fault refuses leaves is = rw is (record 
 pub EndsBy-refused : (command : Command) (s s' : ShelfState) (o : PenState) (contents : List (List ℕ)) (fault : Fault) → ((reply : Reply) → MayReply command contents reply → Replies command s contents reply) → GetLeaves s s'
     → Refusing (λ reply. MayReply command contents reply) fault → EndsBy command s s' o o fault
 EndsBy-refused command s s' o contents (Table fault) got leaves refuses = record { contents = contents; replied = got _ refuses; silent = record { shelf = leaves; out = refl } }
-EndsBy-refused command s s' o contents NotServed got leaves refuses = record { contents = contents; replied = got _ refuses; silent = record { shelf = leaves; out = refl } }
 EndsBy-refused command s s' o contents (Read name) got leaves refuses = absurd refuses
 EndsBy-refused command s s' o contents (Absent name) got leaves refuses = absurd refuses
 EndsBy-refused command s s' o contents (TooLong name) got leaves refuses = absurd refuses
@@ -60,8 +59,16 @@ RunLeaves-both a b c gets puts = record {
 pub said-read : (command : Command) (s s' : ShelfState) (o o' e e' : PenState) (fault : Fault) → status_of fault ≡ 5 → EndsBy command s s' o o' fault → Says e e' (line_of fault) → (name : List ℕ) × IsMissing command s s' o o' Failed name × Says e e' (read_line name)
 said-read command s s' o o' e e' (Read name) is ends says = (string_bytes name, ends, says)
 said-read command s s' o o' e e' (Table fault) is ends says = absurd (omega arith)
-said-read command s s' o o' e e' NotServed is ends says = absurd (omega arith)
 said-read command s s' o o' e e' (Absent name) is ends says = absurd (omega arith)
 said-read command s s' o o' e e' (TooLong name) is ends says = absurd (omega arith)
 said-read command s s' o o' e e' Write is ends says = absurd (omega arith)
 said-read command s s' o o' e e' NoMemory is ends says = absurd (omega arith)
+
+-- status 8 is want of memory alone
+pub said-memory : (command : Command) (s s' : ShelfState) (o o' e e' : PenState) (fault : Fault) → status_of fault ≡ 8 → EndsBy command s s' o o' fault → Says e e' (line_of fault) → IsSilent s s' o o' × Says e e' memory_line
+said-memory command s s' o o' e e' NoMemory is ends says = (ends, says)
+said-memory command s s' o o' e e' (Table fault) is ends says = absurd (omega arith)
+said-memory command s s' o o' e e' (Read name) is ends says = absurd (omega arith)
+said-memory command s s' o o' e e' (Absent name) is ends says = absurd (omega arith)
+said-memory command s s' o o' e e' (TooLong name) is ends says = absurd (omega arith)
+said-memory command s s' o o' e e' Write is ends says = absurd (omega arith)

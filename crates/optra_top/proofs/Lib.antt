@@ -1,4 +1,4 @@
--- Lemmas on how a command ends, on what its files mean, and on the plan of one track.
+-- Lemmas on how a command ends, on what its files mean, and on the plan.
 pub mod Held
 pub mod PlanRefusals
 pub mod Ended
@@ -6,8 +6,9 @@ pub mod Completed
 pub mod Put
 mod NetworkFacts
 mod MinuteLemmas
-mod OneLegLemmas
-mod OfferLemmas
 mod ChoiceLemmas
-mod RuleLemmas
+mod PriceLemmas
+mod KeepLemmas
+mod RouteFacts
+mod OfferLemmas
 mod PlannedLemmas

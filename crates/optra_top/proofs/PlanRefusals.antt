@@ -1,31 +1,24 @@
 -- What the plan command refuses: contents that are refused have no other reply, and what the tables' faults are.
-use Rattle.std.proofs.Common.{◌≡◌, ℕ, List, length, map, Result, Ok, Err, refl, sym, ap, ◌∙◌, subst, true, false}
-use Rattle.std.specs.Prelude.{◌==◌, IsErrAnd}
-use Rattle.std.specs.List.{list_all}
-use Rattle.std.proofs.lemmas.List.Folds.{list_all-map}
-use Rattle.optra_bid.specs.declared.bids.Bid.{Bid}
+use Rattle.std.proofs.Common.{◌≡◌, ℕ, List, Result, Ok, Err, refl, sym, ap, ◌∙◌, subst}
+use Rattle.std.specs.Prelude.{IsErrAnd}
 use Rattle.optra_network.specs.Net.{Net}
 use Rattle.optra_tables.specs.declared.ReadError.{ReadError}
 use Rattle.optra_tables.specs.declared.ReadError.TheVariants as unread
 use Rattle.optra_tables.specs.Outcomes.{Fails, Gives}
 use Rattle.optra_tables.specs.Networks.{network_of}
-use Rattle.optra_tables.specs.Bids.{Parts, parts_of}
+use Rattle.optra_tables.specs.Bids.{Parts}
 use Rattle.optra_tables.specs.Stops.{bids_of}
 use Rattle.optra_text.specs.FaultLines.{refusal_line}
 use Rattle.optra_tables.specs.declared.TableFault.{TableFault}
 use Rattle.optra_top.specs.Replies.{Reply, refused, answered}
-use Rattle.optra_top.specs.PlanCommand.{PlanReplies, ReplyTo, Tables, content_at, is_served, meaning_of, net_files}
+use Rattle.optra_top.specs.PlanCommand.{PlanReplies, ReplyTo, Tables, content_at, meaning_of, net_files}
 use Rattle.optra_top.specs.declared.faults.Fault.{Fault}
 use Rattle.optra_top.specs.Faults.{IsUnread, Refusing}
 
 refused-alone : (read : Result Tables TableFault) (line : List ℕ) (reply : Reply) → ReplyTo read (refused line) → ReplyTo read reply → reply ≡ refused line
 refused-alone (Err fault) line (refused other) refuses replies = ap (λ l. refused l) (replies ∙ sym refuses)
 refused-alone (Err fault) line (answered status text puts) refuses replies = absurd replies
-refused-alone (Ok tables) line (refused other) refuses replies = ap (λ l. refused l) (replies.1 ∙ sym refuses.1)
-refused-alone (Ok tables) line (answered status text puts) refuses replies =
-    let served : is_served tables ≡ true = replies.0 in
-    let not : is_served tables ≡ false = refuses.0 in
-    cc
+refused-alone (Ok tables) line reply refuses replies = absurd refuses
 
 pub plan-refused-alone : (contents : List (List ℕ)) (line : List ℕ) (reply : Reply) → PlanReplies contents (refused line) → PlanReplies contents reply → reply ≡ refused line
 plan-refused-alone contents line reply refuses replies = refused-alone (meaning_of contents) line reply refuses replies
@@ -53,10 +46,6 @@ Fails-bids contents net unread.NoMemory is fails = tt
 pub meaning-read : (contents : List (List ℕ)) (net : Net) (bids : List Parts) → network_of (net_files contents) ≡ Ok net → bids_of net (content_at contents 5) (content_at contents 6) ≡ Ok bids → meaning_of contents ≡ Ok (record { net = net; bids = bids })
 unfolding meaning_of
 meaning-read contents net bids is read = rw (is, read) refl
-
--- tables with one track are served where no bid has a stop
-pub served-read : (net : Net) (bids : List Bid) → length net.tracks ≡ 1 → list_all (λ (bid : Bid). length bid.path.stops == 0) bids ≡ is_served (record { net = net; bids = map parts_of bids })
-served-read net bids one = simp (one, list_all-map) refl
 
 -- an error that is handed on says what it said
 pub Gives-kept : {X Y : Type 0} (view : X → Y) (result : Result X ReadError) (error : ReadError) (read : Result Y TableFault) → IsErrAnd result (λ e. e ≡ error) → Fails error read → Gives view result read

@@ -6,11 +6,10 @@ use Rattle.optra_outside.specs.Shelf.{ShelfState}
 use Rattle.optra_outside.specs.declared.shelves.ShelfError.{ShelfError}
 use Rattle.optra_outside.specs.declared.shelves.ShelfError.TheVariants.{Failed, Absent as NotThere, TooLong as Overlong, NoMemory as NoRoom}
 use Rattle.optra_top.specs.declared.faults.Fault.{Fault}
-use Rattle.optra_top.specs.declared.faults.Fault.TheVariants.{Table, NotServed, Read, Absent, TooLong, Write, NoMemory}
+use Rattle.optra_top.specs.declared.faults.Fault.TheVariants.{Table, Read, Absent, TooLong, Write, NoMemory}
 use Rattle.optra_text.specs.FaultLines.{refusal_line}
 use Rattle.optra_tables.specs.declared.ReadError.{ReadError}
 use Rattle.optra_tables.specs.declared.ReadError.TheVariants as unread
-use Rattle.optra_top.specs.Lines.{one_track_line}
 use Rattle.optra_top.specs.Replies.{Reply, refused}
 use Rattle.optra_top.specs.Commands.{Command}
 use Rattle.optra_top.specs.Ending.{IsSilent, IsRefusal, IsMissing, IsWriteFault}
@@ -18,7 +17,6 @@ use Rattle.optra_top.specs.Ending.{IsSilent, IsRefusal, IsMissing, IsWriteFault}
 -- how a command ended by this fault
 abbrev pub EndsBy : Command → ShelfState → ShelfState → PenState → PenState → Fault → Type 0
 EndsBy command s s' o o' (Table fault) = IsRefusal command s s' o o' (refusal_line fault)
-EndsBy command s s' o o' NotServed = IsRefusal command s s' o o' one_track_line
 EndsBy command s s' o o' (Read name) = IsMissing command s s' o o' Failed (string_bytes name)
 EndsBy command s s' o o' (Absent name) = IsMissing command s s' o o' NotThere (string_bytes name)
 EndsBy command s s' o o' (TooLong name) = IsMissing command s s' o o' Overlong (string_bytes name)
@@ -28,7 +26,6 @@ EndsBy command s s' o o' NoMemory = IsSilent s s' o o'
 -- the fault that contents with these replies were answered with: a refusal, or want of memory
 abbrev pub Refusing : (Reply → Type 0) → Fault → Type 0
 Refusing MayReply (Table fault) = MayReply (refused (refusal_line fault))
-Refusing MayReply NotServed = MayReply (refused one_track_line)
 Refusing MayReply (Read name) = ⊥
 Refusing MayReply (Absent name) = ⊥
 Refusing MayReply (TooLong name) = ⊥

@@ -1,4 +1,4 @@
--- What the commands are, what they reply, and how they end; and the rule of the plan on one track.
+-- What the commands are, what they reply, and how they end; and the rule of the plan.
 pub mod Words
 pub mod WordsRead
 pub mod Replies
@@ -11,6 +11,7 @@ pub mod TablesRead
 pub mod Commands
 pub mod Ending
 pub mod Faults
-pub mod OneTrack
+pub mod PathRule
 pub mod Minutes
-pub mod Offers
+pub mod Prices
+pub mod Searches

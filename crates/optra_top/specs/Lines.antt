@@ -1,17 +1,12 @@
 -- The line and the status of each fault.
-use Rattle.std.specs.Prelude.{ℕ, List, codes, string_bytes}
-use Rattle.optra_text.specs.FaultLines.{line, refusal_line, read_line, absent_line, too_long_line, write_line, memory_line}
+use Rattle.std.specs.Prelude.{ℕ, List, string_bytes}
+use Rattle.optra_text.specs.FaultLines.{refusal_line, read_line, absent_line, too_long_line, write_line, memory_line}
 use Rattle.optra_top.specs.declared.faults.Fault.{Fault}
-use Rattle.optra_top.specs.declared.faults.Fault.TheVariants.{Table, NotServed, Read, Absent, TooLong, Write, NoMemory}
-
--- accepted tables that are not planned now: the number of tracks isn't one, or a bid has a stop
-abbrev pub one_track_line : List ℕ
-one_track_line = line (codes "refused: tracks row 0 OneTrackOnly")
+use Rattle.optra_top.specs.declared.faults.Fault.TheVariants.{Table, Read, Absent, TooLong, Write, NoMemory}
 
 -- the line of each fault
 abbrev pub line_of : Fault → List ℕ
 line_of (Table fault) = refusal_line fault
-line_of NotServed = one_track_line
 line_of (Read name) = read_line (string_bytes name)
 line_of (Absent name) = absent_line (string_bytes name)
 line_of (TooLong name) = too_long_line (string_bytes name)
@@ -21,7 +16,6 @@ line_of NoMemory = memory_line
 -- the status of each fault
 abbrev pub status_of : Fault → ℕ
 status_of (Table fault) = 3
-status_of NotServed = 3
 status_of (Read name) = 5
 status_of (Absent name) = 6
 status_of (TooLong name) = 9

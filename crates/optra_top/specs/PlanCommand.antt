@@ -1,7 +1,6 @@
 -- What the plan command replies: the tables mean a network and bids, or they have a first fault; and a plan of these is printed.
-use Rattle.std.specs.Prelude.{◌≡◌, ◌⊎◌, ℕ, ℤ, List, [], length, map, Bool, true, false, ◌==◌, ◌&&◌, Option, Result, Ok, Err, slice_index_or}
+use Rattle.std.specs.Prelude.{◌≡◌, ◌⊎◌, ℕ, ℤ, List, [], map, Option, Result, Ok, Err, slice_index_or}
 use Rattle.std.specs.Prelude.{◌<ℤ◌}
-use Rattle.std.specs.List.{list_all}
 use Rattle.optra_network.specs.Net.{Net}
 use Rattle.optra_bid.specs.declared.bids.Bid.{Bid}
 use Rattle.optra_walk.specs.declared.Leg.{Leg}
@@ -13,7 +12,6 @@ use Rattle.optra_tables.specs.Stops.{bids_of}
 use Rattle.optra_text.specs.FaultLines.{refusal_line}
 use Rattle.optra_text.specs.PlanTexts.{plan_text_of}
 use Rattle.optra_top.specs.Replies.{Reply, refused, answered}
-use Rattle.optra_top.specs.Lines.{one_track_line}
 use Rattle.optra_top.specs.Plans.{IsPlan}
 
 -- a network and its bids
@@ -42,14 +40,6 @@ meaning_of contents = do
   bids ← bids_of net (content_at contents 5) (content_at contents 6)
   Ok (record { net = net; bids = bids })
 
--- no bid has a stop
-abbrev pub have_no_stop : List Parts → Bool
-have_no_stop bids = list_all (λ bid. length bid.path.stops == 0) bids
-
--- the tables are planned now: one track, and no stop
-abbrev pub is_served : Tables → Bool
-is_served tables = (length tables.net.tracks == 1) && have_no_stop tables.bids
-
 -- 0 exactly where the bound is the revenue, and 1 where it is above
 abbrev pub IsStatusOf : ℤ → ℤ → ℕ → Type 0
 IsStatusOf revenue bound status = ((status ≡ 0) × (revenue ≡ bound)) ⊎ ((status ≡ 1) × (revenue <ℤ bound))
@@ -69,8 +59,8 @@ pub record PrintsPlan (tables : Tables) (status : ℕ) (text : List ℕ) : Type 
 abbrev pub ReplyTo : Result Tables TableFault → Reply → Type 0
 ReplyTo (Err fault) (refused line) = line ≡ refusal_line fault
 ReplyTo (Err fault) (answered status text puts) = ⊥
-ReplyTo (Ok tables) (refused line) = (is_served tables ≡ false) × (line ≡ one_track_line)
-ReplyTo (Ok tables) (answered status text puts) = (is_served tables ≡ true) × PrintsPlan tables status text × (puts ≡ [])
+ReplyTo (Ok tables) (refused line) = ⊥
+ReplyTo (Ok tables) (answered status text puts) = PrintsPlan tables status text × (puts ≡ [])
 
 -- the reply to the contents of the seven files
 abbrev pub PlanReplies : List (List ℕ) → Reply → Type 0

@@ -15,8 +15,6 @@ use std::alloc::{AllocError, AllocFailed};
 pub enum Fault {
     /// The tables are refused, by their first fault.
     Table(TableFault),
-    /// The tables are accepted, but the number of tracks isn't one, or a bid has a stop.
-    NotServed,
     /// The file of this name could not be read.
     Read(String),
     /// No file has this name.
@@ -35,7 +33,7 @@ impl Fault {
         ensures { result ≡ status_of self.now }
     {
         match self {
-            Fault::Table(_) | Fault::NotServed => 3,
+            Fault::Table(_) => 3,
             Fault::Read(_) => 5,
             Fault::Absent(_) => 6,
             Fault::TooLong(_) => 9,
@@ -50,7 +48,6 @@ impl Fault {
     {
         match self {
             Fault::Table(fault) => fault_text(pen, FaultView::Table(*fault)),
-            Fault::NotServed => pen.write(b"refused: tracks row 0 OneTrackOnly\n"),
             Fault::Read(name) => fault_text(pen, FaultView::Read(name.as_str())),
             Fault::Absent(name) => fault_text(pen, FaultView::Absent(name.as_str())),
             Fault::TooLong(name) => fault_text(pen, FaultView::TooLong(name.as_str())),

@@ -4,7 +4,7 @@
 mod answering;
 mod faults;
 mod gathering;
-mod one_track;
+mod path_planning;
 mod performing;
 mod planning;
 mod putting;

@@ -1,22 +1,21 @@
 //! The plan command: from the contents of its files to what is printed.
-ghost use Rattle.std.specs.Prelude.{◌≡◌, ◌<◌, ◌++◌, ◌==◌, [], ◌∷◌, length, map, string_bytes, vec_items, OnOk, IfOk, IfErr, Ok, nat_eq};
+ghost use Rattle.std.specs.Prelude.{◌≡◌, ◌<◌, ◌++◌, [], ◌∷◌, length, map, string_bytes, vec_items, OnOk, IfOk, IfErr, Ok, nat_eq};
 ghost use Rattle.std.specs.Prelude.{◌≤ℤ◌};
 ghost use Rattle.optra_bid.specs.Instances.{IsInstance};
-ghost use Rattle.std.specs.List.{list_all};
 ghost use Rattle.optra_tables.specs.Outcomes.{Gives};
 ghost use Rattle.optra_tables.specs.Networks.{network_of};
 ghost use Rattle.optra_tables.specs.Bids.{parts_of};
 ghost use Rattle.optra_top.specs.Words.{plan_files};
 ghost use Rattle.optra_top.specs.Replies.{answered};
 ghost use Rattle.optra_top.specs.Putting.{texts_of};
-ghost use Rattle.optra_top.specs.PlanCommand.{meaning_of, content_at, net_files, is_served, IsStatusOf, PrintsPlan, PlanReplies};
+ghost use Rattle.optra_top.specs.PlanCommand.{meaning_of, content_at, net_files, IsStatusOf, PrintsPlan, PlanReplies};
 ghost use Rattle.optra_top.specs.TablesRead.{tables_seen};
 ghost use Rattle.optra_top.specs.Faults.{Refusing};
 ghost use Rattle.optra_top.specs.Ending.{IsDoneStatus};
 
 use crate::answering::Answer;
 use crate::faults::Fault;
-use crate::one_track::plan_one_track;
+use crate::path_planning::plan_paths;
 use optra_bid::Bid;
 use optra_network::{Cents, Network, NoMemory};
 use optra_tables::{NetFiles, ReadError, read_bids, read_network};
@@ -32,14 +31,11 @@ pub fn plan(alloc: Global, contents: &[Vec<u8>]) -> Result<Answer, Fault>
     ensures err { IfErr result (λ fault. Refusing (λ reply. PlanReplies (map vec_items contents.now) reply) fault) }
 {
     let tables = read_tables(alloc, contents)?;
-    if !is_served(&tables) {
-        return Err(Fault::NotServed);
-    }
     let inst = Instance {
         net: &tables.net,
         bids: &tables.bids,
     };
-    let Ok(answer) = plan_served(alloc, inst) else {
+    let Ok(answer) = plan_instance(alloc, inst) else {
         return Err(Fault::NoMemory);
     };
     Ok(answer)
@@ -86,33 +82,13 @@ fn content(contents: &[Vec<u8>], place: usize) -> &[u8]
     &contents[place]
 }
 
-// Whether there is one track and no stop.
-fn is_served(tables: &Tables) -> bool
-    ensures { result ≡ is_served (tables_seen tables.now) }
-{
-    tables.net.track_count() == 1 && have_no_stop(&tables.bids)
-}
-
-fn have_no_stop(bids: &[Bid]) -> bool
-    ensures { result ≡ list_all (λ bid. length bid.path.stops == 0) bids.now }
-{
-    bids.iter().all(|bid| has_no_stop(bid))
-}
-
-fn has_no_stop(bid: &Bid) -> bool
-    ensures { result ≡ (length bid.now.path.stops == 0) }
-{
-    bid.path.stops.is_empty()
-}
-
-// Plans tables that are served.
-fn plan_served(alloc: Global, inst: Instance<'_>) -> Result<Answer, NoMemory>
-    requires instance { IsInstance inst.net.now inst.bids.now }
-    requires one { length inst.net.now.tracks ≡ 1 }
+// Plans the bids on their network.
+fn plan_instance(alloc: Global, inst: Instance<'_>) -> Result<Answer, NoMemory>
+    requires { IsInstance inst.net.now inst.bids.now }
     ensures plan { IfOk result (λ answer. PrintsPlan (record { net = inst.entry.net.now; bids = map parts_of inst.entry.bids.now }) answer.status answer.text.items) }
     ensures puts { IfOk result (λ answer. answer.puts.items ≡ []) }
 {
-    let plan = plan_one_track(alloc, inst)?;
+    let plan = plan_paths(alloc, inst)?;
     let view = PlanView {
         inst,
         choice: &plan.choice,

@@ -83,7 +83,7 @@ const PLAIN: Case = Case {
     err: "",
 };
 
-static CASES: [Case; 32] = [
+static CASES: [Case; 33] = [
     Case {
         name: "one bid gets its best minute",
         out: "status,optimal\nrevenue,1000\nbound,1000\nnodes,1\ntrain,1,b1,ann,1000\nleg,ab,A,2,B,12,finish,0\n",
@@ -100,7 +100,7 @@ static CASES: [Case; 32] = [
         ..PLAIN
     },
     Case {
-        name: "two tracks and a stop",
+        name: "a train that comes back to a track too soon",
         rows: &[
             ("net/tracks.csv", b"ab,A,B\nba,B,A\n"),
             ("net/running.csv", b"ab,ic,10,10,10,10\nba,ic,10,10,10,10\n"),
@@ -111,9 +111,31 @@ static CASES: [Case; 32] = [
             ),
             ("stops.csv", b"r,B,1,1,0,60\nr,A,1,1,0,60\n"),
         ],
-        status: 3,
-        out: "",
-        err: "refused: tracks row 0 OneTrackOnly\n",
+        status: 1,
+        out: "status,gap\nrevenue,0\nbound,1000\nnodes,1\n",
+        ..PLAIN
+    },
+    Case {
+        name: "a fast train finds no room behind a slow one",
+        rows: &[
+            ("net/stations.csv", b"A\nB\nC\n"),
+            ("net/tracks.csv", b"ab,A,B\nbc,B,C\n"),
+            ("net/types.csv", b"slow\nfast\n"),
+            (
+                "net/running.csv",
+                b"ab,slow,20,20,20,20\nab,fast,10,10,10,10\nbc,slow,20,20,20,20\nbc,fast,10,10,10,10\n",
+            ),
+            (
+                "net/headways.csv",
+                b"ab,slow,slow,3\nab,slow,fast,13\nab,fast,slow,3\nab,fast,fast,3\nbc,slow,slow,3\nbc,slow,fast,13\nbc,fast,slow,3\nbc,fast,fast,3\n",
+            ),
+            (
+                "bids.csv",
+                b"s,ann,slow,A,C,0,0,0,0,40,60,1000,0,0,0,0,0,5,10\nf,bob,fast,A,C,13,13,13,0,33,60,1100,0,0,0,0,0,0,0\n",
+            ),
+        ],
+        status: 1,
+        out: "status,gap\nrevenue,1000\nbound,2100\nnodes,1\ntrain,1,s,ann,1000\nleg,ab,A,0,B,20,pass,0\nleg,bc,B,20,C,40,finish,0\n",
         ..PLAIN
     },
     Case {
@@ -374,9 +396,7 @@ static CASES: [Case; 32] = [
     Case {
         name: "a stop on one track",
         rows: &[("stops.csv", b"b1,B,1,1,0,60\n")],
-        status: 3,
-        out: "",
-        err: "refused: tracks row 0 OneTrackOnly\n",
+        out: "status,optimal\nrevenue,0\nbound,0\nnodes,1\n",
         ..PLAIN
     },
     Case {
@@ -386,12 +406,25 @@ static CASES: [Case; 32] = [
             ("net/running.csv", b""),
             ("net/headways.csv", b""),
         ],
-        status: 3,
-        out: "",
-        err: "refused: tracks row 0 OneTrackOnly\n",
+        out: "status,optimal\nrevenue,0\nbound,0\nnodes,1\n",
         ..PLAIN
     },
 ];
+
+// A bid of more than 2^900 walks: it may wait at each station of two tracks, forth and back, all through both days.
+const WIDE: Case = Case {
+    name: "a bid of more walks than could be listed",
+    rows: &[
+        ("net/tracks.csv", b"ab,A,B\nba,B,A\n"),
+        ("net/running.csv", b"ab,ic,1,1,1,1\nba,ic,1,1,1,1\n"),
+        ("net/headways.csv", b"ab,ic,ic,1\nba,ic,ic,1\n"),
+        (
+            "bids.csv",
+            b"w,ann,ic,A,B,0,0,0,2879,2879,2879,1000,0,0,0,0,0,1,30\n",
+        ),
+    ],
+    ..PLAIN
+};
 
 fn words(alloc: Global, count: usize) -> Result<Vec<String>, AllocError> {
     let mut words = Vec::new(alloc);
@@ -459,6 +492,38 @@ fn worked_cases(rt: HostRuntime) -> Result<(), Fail> {
     for case in &CASES {
         run_case(&rt, case)?;
     }
+    Ok(())
+}
+
+// The printed plan of the wide bid: each wait costs a cent, so the best walk passes at every minute and waits nowhere.
+fn passing_text(alloc: Global) -> Result<String, AllocError> {
+    let head = "status,optimal\nrevenue,1000\nbound,1000\nnodes,1\ntrain,1,w,ann,1000\n";
+    let mut text = String::from_str(alloc, head)?;
+    for turn in 0..1439u32 {
+        let first = 2 * turn;
+        let second = first + 1;
+        let third = first + 2;
+        let legs = format!(in alloc;
+            "leg,ab,A,{first},B,{second},pass,0\nleg,ba,B,{second},A,{third},pass,0\n"
+        )?;
+        text.push_str(legs.as_str())?;
+    }
+    text.push_str("leg,ab,A,2878,B,2879,finish,0\n")?;
+    Ok(text)
+}
+
+#[test]
+fn more_walks_than_could_be_listed(rt: HostRuntime) -> Result<(), Fail> {
+    let alloc = rt.alloc();
+    let words = words(alloc, 7)?;
+    let mut shelf = shelf(alloc, &WIDE)?;
+    let mut out = MemoryPen::new(alloc, 100_000, Vec::new(alloc), 0)?;
+    let mut err = pen(alloc, 0, 0)?;
+    let status = run(alloc, &words, &mut shelf, &mut out, &mut err);
+    let text = passing_text(alloc)?;
+    assert_eq!(rt; status, 0);
+    assert_eq!(rt; out.bytes(), text.as_bytes());
+    assert_eq!(rt; err.bytes().len(), 0);
     Ok(())
 }
 
