@@ -1,6 +1,6 @@
 //! The commands over shelves and pens in memory: worked cases, each with the tables that differ from a small network with
 //! one bid, and what must come.
-use crate::run;
+use crate::{run, run_without_faults};
 use optra_outside::{MemoryPen, MemoryShelf, NeverPen, NeverShelf};
 use std::alloc::{AllocError, Global};
 use std::process::Abort;
@@ -553,13 +553,7 @@ fn nothing_fails_over_the_never_shelf(rt: HostRuntime) -> Result<(), Fail> {
     let alloc = rt.alloc();
     let words = words(alloc, 7)?;
     let mut shelf = NeverShelf::new(alloc, 1000);
-    let absent = run(
-        alloc,
-        &words,
-        &mut shelf,
-        &mut NeverPen::new(),
-        &mut NeverPen::new(),
-    );
+    let absent = run_without_faults(alloc, &words, &mut shelf);
     assert_eq!(rt; absent, 6);
     for table in TABLES {
         let (name, header, rows) = table;
