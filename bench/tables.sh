@@ -1,6 +1,6 @@
 #!/bin/sh
 # Measures how a built optra reads tables: bench/tables.sh PROGRAM [FOLDER]
-# Makes the tables of bench/tables.py in FOLDER (1.4 GB, /tmp/optra-tables if none is given) where they aren't there yet,
+# Makes the tables of bench/tables.py in FOLDER (1.1 GB, /tmp/optra-tables if none is given) where they aren't there yet,
 # runs PROGRAM plan on each, and prints its refusal, seconds and peak memory. Run by hand; the gate does not run it.
 set -eu
 program=$(realpath "$1")
