@@ -1,12 +1,12 @@
 -- The list of all paths of a graph, in the lexicographic order of their arcs.
-use Rattle.std.proofs.Common.{◌≡◌, ◌≢◌, ℕ, zero, suc, ◌+◌, ◌≤◌, ◌<◌, ◌⊎◌, inl, inr, Bool, true, false, cond, nat_eq, List, [], ◌∷◌, ◌++◌, length, get_or, map, refl, sym, ap, ◌∙◌, subst, arith, All, Contains, Ordering, Less, Equal, nat_cmp, true≢false, length-append, eq-eqb, ◌-◌}
+use Rattle.std.proofs.Common.{◌≡◌, ℕ, zero, suc, ◌+◌, ◌≤◌, ◌<◌, ◌⊎◌, inl, inr, Bool, true, false, cond, nat_eq, List, [], ◌∷◌, ◌++◌, length, get_or, map, refl, sym, ap, ◌∙◌, subst, arith, All, Contains, Ordering, Less, nat_cmp, length-append, eq-eqb, ◌-◌}
 use Rattle.std.specs.List.{AllPairs}
 use Rattle.std.specs.Ordering.{ordering_then}
 use Rattle.std.specs.Cmp.Lexicographic.{slice_cmp}
 use Rattle.std.proofs.lemmas.Bool.{cases_lt, cases_eq}
 use Rattle.std.proofs.lemmas.List.{get_or-map, length-map, get_or_append_left, get_or-append_right}
 use Rattle.std.proofs.lemmas.List.Elements.{All-append, All-map, All-nil, All-cons, Contains-append_left, Contains-append_right, Contains-get_or, All-contains}
-use Rattle.optra_dag.specs.Paths.{Graph, IsForward, IsEnd, IsPath, LeadsToEnd, from_of, to_of}
+use Rattle.optra_dag.specs.Paths.{Graph, IsForward, LeadsToEnd, from_of, to_of}
 use Rattle.optra_graph.specs.Timed.{Timed, IsRoute, AreAllRoutes}
 use Rattle.optra_graph.proofs.OrderLemmas.{nat_same, nat_less}
 

@@ -1,12 +1,10 @@
 -- What the arcs are when those of one more state are added.
-use Rattle.std.proofs.Common.{◌≡◌, ℕ, zero, suc, ◌+◌, ◌-◌, ◌*◌, ◌≤◌, ◌<◌, ◌⊎◌, inl, inr, Bool, true, false, List, [], ◌∷◌, ◌++◌, length, map, filter, get_or, refl, sym, ap, ◌∙◌, subst, arith, All, Contains, Ordering, Less, Equal, nat_cmp, length-append, true≢false}
-use Rattle.std.specs.List.{AllPairs}
+use Rattle.std.proofs.Common.{◌≡◌, ℕ, ◌+◌, ◌-◌, ◌*◌, ◌≤◌, ◌<◌, ◌⊎◌, inl, inr, Bool, false, List, [], ◌++◌, length, map, filter, get_or, refl, sym, ap, ◌∙◌, subst, arith, Ordering, Less, Equal, nat_cmp, length-append, true≢false}
 use Rattle.std.specs.Ordering.{ordering_then}
 use Rattle.std.proofs.lemmas.List.{get_or-map, get_or-append_right, get_or_append_left, length-map}
-use Rattle.std.proofs.lemmas.List.Elements.{All-filter, filter_passes, Contains-get_or, All-contains}
+use Rattle.std.proofs.lemmas.List.Elements.{All-filter, filter_passes}
 use Rattle.std.proofs.lemmas.List.Kept.{AllPairs-filter}
-use Rattle.std.proofs.lemmas.Bool.{cases_lt, cases_eq}
-use Rattle.std.proofs.Math.Nat.{eq-or-lt_of_le}
+use Rattle.std.proofs.lemmas.Bool.{cases_lt}
 use Rattle.optra_dag.specs.declared.Arc.{Arc}
 use Rattle.optra_dag.specs.Paths.{no_arc}
 use Rattle.optra_network.specs.Net.{Net}
@@ -23,7 +21,7 @@ use Rattle.optra_graph.specs.Flags.{is_set, IsSet}
 use Rattle.optra_graph.specs.Nodes.{node_of}
 use Rattle.optra_graph.specs.Places.{places_of, state_of}
 use Rattle.optra_graph.specs.Settings.{IsSetting}
-use Rattle.optra_graph.specs.Steps.{IsStep, AreSteps, bound_of, key_of, no_step}
+use Rattle.optra_graph.specs.Steps.{IsStep, AreSteps, key_of, no_step}
 use Rattle.optra_graph.specs.Timed.{no_leg}
 use Rattle.optra_graph.proofs.NodeLemmas.{kept_less}
 use Rattle.optra_graph.proofs.OrderLemmas.{nat_less, nat_same}

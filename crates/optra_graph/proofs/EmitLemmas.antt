@@ -1,14 +1,13 @@
 -- The start arcs.
-use Rattle.std.proofs.Common.{◌≡◌, ℕ, zero, suc, ◌+◌, ◌-◌, ◌≤◌, ◌<◌, ◌⊎◌, inl, inr, Bool, true, false, List, [], ◌∷◌, ◌++◌, length, map, get_or, refl, sym, ap, ◌∙◌, subst, arith, All, length-append, true≢false}
+use Rattle.std.proofs.Common.{◌≡◌, ℕ, zero, suc, ◌+◌, ◌-◌, ◌≤◌, ◌<◌, ◌⊎◌, inl, inr, Bool, false, List, [], ◌∷◌, ◌++◌, length, get_or, refl, sym, ap, ◌∙◌, subst, arith, length-append, true≢false}
 use Rattle.std.proofs.lemmas.List.{get_or_append_left, get_or-map, length-map, map-append}
 use Rattle.std.proofs.Math.Seq.{get_or-append_seam}
 use Rattle.std.proofs.lemmas.Bool.{cases_lt}
 use Rattle.optra_dag.specs.declared.Arc.{Arc}
-use Rattle.optra_dag.specs.Paths.{no_arc}
 use Rattle.optra_bid.specs.Specs.{Path}
 use Rattle.optra_graph.specs.declared.states.Layout.{Layout}
 use Rattle.optra_graph.specs.Arcs.{start_arc, IsKeptStart, Starts}
-use Rattle.optra_graph.specs.Flags.{is_set, IsSet}
+use Rattle.optra_graph.specs.Flags.{is_set}
 use Rattle.optra_graph.specs.Moves.{start_state}
 use Rattle.optra_graph.specs.Places.{place_of}
 

@@ -1,5 +1,5 @@
 -- A graph that stands for the states has the walks as its paths.
-use Rattle.std.proofs.Common.{◌≡◌, ◌≢◌, ℕ, ◌+◌, ◌≤◌, ◌<◌, ◌⊎◌, inl, inr, ⊎_elim, true, List, [], ◌∷◌, length, map, get_or, Option, Some, refl, sym, ap, ◌∙◌, subst, arith, nat_cmp, Ordering, Less, Equal, Greater, true≢false, All, Contains, is_some, cond, None, nat_lt, slice_get, false, zero, suc}
+use Rattle.std.proofs.Common.{◌≡◌, ◌≢◌, ℕ, ◌+◌, ◌≤◌, ◌<◌, ◌⊎◌, inl, inr, ⊎_elim, true, List, [], ◌∷◌, length, map, get_or, Some, refl, sym, ap, ◌∙◌, subst, arith, nat_cmp, Ordering, Less, Equal, Greater, true≢false, All, Contains, is_some, cond, None, nat_lt, slice_get, false, zero, suc}
 use Rattle.std.specs.Ordering.{ordering_then, ordering_reverse}
 use Rattle.std.specs.Cmp.Lexicographic.{slice_cmp}
 use Rattle.std.specs.List.{AllPairs}
@@ -17,7 +17,7 @@ use Rattle.optra_walk.specs.Legs.{is_finish}
 use Rattle.optra_walk.specs.Values.{first_departure}
 use Rattle.optra_walk.specs.Walks.{IsWalk}
 use Rattle.optra_walk.specs.Orders.{leg_cmp, walk_cmp}
-use Rattle.optra_graph.specs.Timed.{Timed, AreAllWalks, IsLaidOut, leg_at, leg_of, start_of, walk_of, IsRoute, AreAllRoutes, IsLegArc, IsStartArc, BeginsOnce, IsGraphOf}
+use Rattle.optra_graph.specs.Timed.{Timed, AreAllWalks, leg_at, walk_of, IsRoute, AreAllRoutes, IsLegArc, IsStartArc, BeginsOnce, IsGraphOf}
 use Rattle.optra_graph.specs.declared.states.State.{State}
 use Rattle.optra_graph.specs.Moves.{start_state, IsMove, IsAfter, Runs}
 use Rattle.optra_graph.specs.Graphs.{state_at, IsStateNode, LeadsOn, IsTimed}

@@ -1,5 +1,5 @@
 -- A run departs before the end of the arrival window, and each state comes later than the one before.
-use Rattle.std.proofs.Common.{◌≡◌, ℕ, ◌+◌, ◌≤◌, ◌<◌, List, [], ◌∷◌, Option, None, Some, IsSomeAnd, inl, inr, refl, sym, ap, ◌∙◌, subst, arith}
+use Rattle.std.proofs.Common.{◌≡◌, ℕ, ◌≤◌, ◌<◌, List, [], ◌∷◌, Option, None, Some, IsSomeAnd, inl, inr, refl, subst, arith}
 use Rattle.optra_network.specs.Net.{Net, IsProper, IsFromTo}
 use Rattle.optra_bid.specs.Specs.{Path}
 use Rattle.optra_walk.specs.declared.Leg.{Leg}

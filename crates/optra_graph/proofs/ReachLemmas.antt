@@ -1,12 +1,11 @@
 -- Which places are reached, and which are kept.
-use Rattle.std.proofs.Common.{◌≡◌, ℕ, zero, suc, ◌+◌, ◌-◌, ◌*◌, ◌≤◌, ◌<◌, ◌⊎◌, inl, inr, Bool, true, false, List, [], ◌∷◌, ◌++◌, length, get_or, set, Some, IsSomeAnd, Option, None, slice_get, refl, sym, ap, ◌∙◌, subst, arith, All, Contains, true≢false, length-set, replicate, cond, nat_eq}
+use Rattle.std.proofs.Common.{◌≡◌, ℕ, zero, suc, ◌+◌, ◌≤◌, ◌<◌, ◌⊎◌, inl, inr, Bool, true, false, List, [], ◌∷◌, length, get_or, set, slice_get, refl, sym, ap, ◌∙◌, subst, arith, All, Contains, true≢false, length-set, replicate, cond, nat_eq}
 use Rattle.std.specs.List.{count_by}
 use Rattle.std.proofs.lemmas.Bool.{cases_eq, cases_lt}
 use Rattle.std.proofs.lemmas.List.Elements.{All-contains}
 use Rattle.std.proofs.lemmas.Option.{slice_get_within}
 use Rattle.optra_network.specs.Net.{Net, IsFromTo}
 use Rattle.optra_bid.specs.Specs.{Path}
-use Rattle.optra_bid.specs.declared.Stop.{Stop}
 use Rattle.optra_walk.specs.declared.Action.{Action}
 use Rattle.optra_walk.specs.declared.Action.TheVariants.{Pass, Halt, Wait, Finish}
 use Rattle.optra_walk.specs.declared.Leg.{Leg}
@@ -19,7 +18,7 @@ use Rattle.optra_graph.specs.Moves.{start_state, FitsAction, IsMove, IsAfter, Ru
 use Rattle.optra_graph.specs.Places.{IsPlaced, mode_of, place_of, places_of, state_of}
 use Rattle.optra_graph.specs.Settings.{IsSetting}
 use Rattle.optra_graph.specs.Steps.{IsStep, AreSteps}
-use Rattle.optra_graph.proofs.FlagLemmas.{set_within, set_here, set_there, none_set, count_none, count_some}
+use Rattle.optra_graph.proofs.FlagLemmas.{set_here, set_there, none_set, count_none, count_some}
 use Rattle.optra_graph.proofs.HorizonLemmas.{after_later, runs_before}
 use Rattle.optra_graph.proofs.PlaceLemmas.{placed_at, place_below, place_back, state_back}
 use Rattle.optra_graph.proofs.StepLemmas.{step_forward, stop_there}

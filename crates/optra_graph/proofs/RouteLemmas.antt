@@ -1,9 +1,8 @@
 -- The arcs of a path: first a start arc, and then those of the legs of its walk.
-use Rattle.std.proofs.Common.{◌≡◌, ℕ, zero, suc, ◌+◌, ◌-◌, ◌≤◌, ◌<◌, ◌⊎◌, inl, inr, true, List, [], ◌∷◌, ◌++◌, length, map, take, get_or, refl, sym, ap, ◌∙◌, subst, arith, add-one}
+use Rattle.std.proofs.Common.{◌≡◌, ℕ, zero, suc, ◌+◌, ◌≤◌, ◌<◌, ◌⊎◌, inl, inr, true, List, [], ◌∷◌, ◌++◌, length, map, take, get_or, refl, ap, ◌∙◌, arith}
 use Rattle.std.proofs.lemmas.Bool.{cases_lt}
 use Rattle.std.proofs.lemmas.List.{take_more, map-append}
 use Rattle.optra_dag.specs.Paths.{LeadsToEnd, from_of, to_of}
-use Rattle.optra_walk.specs.declared.Leg.{Leg}
 use Rattle.optra_graph.specs.Timed.{Timed, IsLaidOut, leg_at, walk_of, IsRoute}
 
 module _ (t : Timed) (laid : IsLaidOut t) where

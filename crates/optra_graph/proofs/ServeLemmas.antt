@@ -1,14 +1,10 @@
 -- What is held for bids.
-use Rattle.std.proofs.Common.{◌≡◌, ℕ, zero, suc, ◌+◌, ◌≤◌, ◌<◌, ◌⊎◌, inl, inr, List, [], ◌∷◌, ◌++◌, length, map, take, get_or, refl, sym, ap, ◌∙◌, subst, arith, All, Contains}
+use Rattle.std.proofs.Common.{◌≡◌, ℕ, ◌+◌, ◌<◌, ◌⊎◌, inr, List, [], ◌∷◌, ◌++◌, length, map, take, get_or, sym, ap, ◌∙◌, subst, arith, All, Contains}
 use Rattle.std.proofs.lemmas.List.{take_more, map-append, get_or-map, length-map}
 use Rattle.std.proofs.lemmas.List.Elements.{Contains-get_or}
 use Rattle.optra_bid.specs.Specs.{Path}
 use Rattle.optra_bid.specs.declared.bids.Bid.{Bid}
-use Rattle.std.proofs.lemmas.Bool.{cases_lt}
-use Rattle.optra_graph.proofs.FlagLemmas.{default_same}
-use Rattle.optra_network.specs.Net.{Net}
-use Rattle.optra_graph.specs.Served.{Kept, path_of, IsServed}
-use Rattle.optra_graph.specs.Timed.{IsGraphOf}
+use Rattle.optra_graph.specs.Served.{Kept, path_of}
 
 -- one more bid
 pub paths_more : (served : List Kept) (bids : List Bid) (i : ℕ) (x : Kept) (c b : Bid) → i < length bids → b ≡ get_or bids i b → c ≡ b → x.path ≡ c.path

@@ -1,8 +1,8 @@
 -- The steps of a state by one way: which there are, and that a list that grows by the next one stays exact.
-use Rattle.std.proofs.Common.{◌≡◌, ◌≢◌, ℕ, zero, suc, ◌+◌, ◌-◌, ◌*◌, ◌≤◌, ◌<◌, ◌⊎◌, inl, inr, Bool, true, false, not, List, [], ◌∷◌, ◌++◌, length, get_or, Option, None, Some, IsSomeAnd, slice_get, refl, sym, ap, ◌∙◌, subst, arith, All, Contains, true≢false, min}
+use Rattle.std.proofs.Common.{◌≡◌, ℕ, ◌+◌, ◌-◌, ◌*◌, ◌≤◌, ◌<◌, ◌⊎◌, inl, inr, true, false, List, [], ◌∷◌, ◌++◌, length, Option, None, Some, IsSomeAnd, slice_get, refl, sym, ap, ◌∙◌, subst, arith, Contains, true≢false, min}
 use Rattle.std.specs.Option.{option_map}
 use Rattle.std.proofs.lemmas.Bool.{cases_lt}
-use Rattle.std.proofs.lemmas.List.Elements.{All-push, All-contains, Contains-append_left, Contains-push}
+use Rattle.std.proofs.lemmas.List.Elements.{All-push, Contains-append_left, Contains-push}
 use Rattle.std.proofs.lemmas.List.Quantifiers.{all_pairs_push}
 use Rattle.std.proofs.lemmas.Option.{get_or_from_slice_get, slice_get_within}
 use Rattle.optra_network.specs.Net.{Net, IsFromTo}
@@ -12,7 +12,7 @@ use Rattle.optra_bid.specs.declared.Stop.{Stop}
 use Rattle.optra_walk.specs.declared.Action.{Action}
 use Rattle.optra_walk.specs.declared.Action.TheVariants.{Pass, Halt, Wait, Finish}
 use Rattle.optra_walk.specs.declared.Leg.{Leg}
-use Rattle.optra_walk.specs.Legs.{arrival_of, next_depart_of, is_finish, dwell_of}
+use Rattle.optra_walk.specs.Legs.{next_depart_of, is_finish, dwell_of}
 use Rattle.optra_walk.specs.Walks.{MeetsStop}
 use Rattle.optra_walk.specs.Orders.{action_rank}
 use Rattle.optra_graph.specs.declared.states.State.{State}
@@ -22,7 +22,7 @@ use Rattle.optra_graph.specs.declared.stepping.Way.{Way}
 use Rattle.optra_graph.specs.Moves.{FitsAction, IsMove, IsAfter}
 use Rattle.optra_graph.specs.Places.{IsPlaced, place_of, places_of}
 use Rattle.optra_graph.specs.Settings.{IsSetting}
-use Rattle.optra_graph.specs.Steps.{LeadsTo, IsStep, bound_of, key_of, AreSteps, AreStepsBelow, leg_by, IsWay}
+use Rattle.optra_graph.specs.Steps.{LeadsTo, IsStep, bound_of, key_of, AreStepsBelow, leg_by, IsWay}
 use Rattle.optra_graph.proofs.RunLemmas.{not_finish}
 use Rattle.optra_graph.proofs.HorizonLemmas.{after_later}
 use Rattle.optra_graph.proofs.PlaceLemmas.{place_below, place_later}

@@ -1,27 +1,26 @@
 -- The arcs of the starts and of the kept places make a graph whose nodes stand for states.
-use Rattle.std.proofs.Common.{◌≡◌, ℕ, ◌+◌, ◌-◌, ◌≤◌, ◌<◌, ◌⊎◌, inl, inr, Bool, true, false, List, [], ◌∷◌, length, map, get_or, set, replicate, refl, sym, ap, ◌∙◌, subst, arith, Less, true≢false, length-set}
+use Rattle.std.proofs.Common.{◌≡◌, ℕ, ◌+◌, ◌-◌, ◌≤◌, ◌<◌, ◌⊎◌, inl, inr, Bool, true, false, List, ◌∷◌, length, get_or, set, replicate, sym, ap, ◌∙◌, subst, arith, Less, length-set}
 use Rattle.std.proofs.lemmas.Bool.{cases_lt}
 use Rattle.std.proofs.lemmas.List.{get_or-map, length-map}
 use Rattle.std.proofs.lemmas.List.{length-replicate}
 use Rattle.optra_dag.specs.declared.Arc.{Arc}
-use Rattle.optra_dag.specs.Paths.{Graph, IsForward, IsEnd, no_arc, from_of, to_of}
+use Rattle.optra_dag.specs.Paths.{IsForward, no_arc}
 use Rattle.optra_network.specs.Net.{Net, IsFromTo}
 use Rattle.optra_bid.specs.Specs.{Path}
-use Rattle.optra_walk.specs.declared.Action.TheVariants.{Finish}
 use Rattle.optra_walk.specs.declared.Leg.{Leg}
 use Rattle.optra_walk.specs.Orders.{leg_cmp}
 use Rattle.optra_graph.specs.declared.states.State.{State}
 use Rattle.optra_graph.specs.declared.states.Layout.{Layout}
 use Rattle.optra_graph.specs.declared.stepping.Step.{Step}
-use Rattle.optra_graph.specs.Arcs.{arc_of, start_arc, IsKeptStart, Starts, IsKeptStep, IsArcOf, Emits}
-use Rattle.optra_graph.specs.Flags.{is_set, IsSet, IsStartPlace, IsSteppedTo, IsKept}
+use Rattle.optra_graph.specs.Arcs.{start_arc, Starts, IsKeptStep, Emits}
+use Rattle.optra_graph.specs.Flags.{IsSet, IsStartPlace, IsSteppedTo, IsKept}
 use Rattle.optra_graph.specs.Graphs.{state_at, IsStateNode, LeadsOn, IsTimed}
 use Rattle.optra_graph.specs.Moves.{start_state, IsMove, IsAfter, Runs}
 use Rattle.optra_graph.specs.Nodes.{node_of, kept_before, states_of}
-use Rattle.optra_graph.specs.Places.{IsPlaced, place_of, places_of, state_of}
+use Rattle.optra_graph.specs.Places.{place_of, places_of, state_of}
 use Rattle.optra_graph.specs.Settings.{IsSetting}
-use Rattle.optra_graph.specs.Steps.{IsStep, LeadsTo}
-use Rattle.optra_graph.specs.Timed.{Timed, leg_at, no_leg}
+use Rattle.optra_graph.specs.Steps.{LeadsTo}
+use Rattle.optra_graph.specs.Timed.{Timed, no_leg}
 use Rattle.optra_graph.proofs.FlagLemmas.{set_here, set_cases, none_set}
 use Rattle.optra_graph.proofs.NodeLemmas.{count_states, node_is, node_state, node_place}
 use Rattle.optra_graph.proofs.PlaceLemmas.{place_below, state_back}

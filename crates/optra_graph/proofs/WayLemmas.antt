@@ -1,10 +1,10 @@
 -- What a network tells of the ways that leave a station.
-use Rattle.std.proofs.Common.{◌≡◌, ℕ, zero, suc, ◌+◌, ◌≤◌, ◌<◌, Bool, true, false, not, List, [], ◌∷◌, length, get_or, map, filter, Option, None, Some, IsSome, IfSome, slice_get, refl, sym, ap, ◌∙◌, subst, arith, All, Contains, nat_eq, eq-eqb, cond, zero-add}
+use Rattle.std.proofs.Common.{◌≡◌, ℕ, zero, suc, ◌+◌, ◌≤◌, ◌<◌, Bool, true, false, List, [], ◌∷◌, length, get_or, map, filter, Option, None, Some, IsSome, IfSome, slice_get, refl, sym, ap, ◌∙◌, subst, arith, All, Contains, nat_eq, eq-eqb, cond, zero-add}
 use Rattle.std.specs.List.{AllPairs, range_with_len}
 use Rattle.std.specs.Option.{option_map, option_map_or}
 use Rattle.std.proofs.lemmas.List.Kept.{AllPairs-filter}
 use Rattle.std.proofs.lemmas.Option.{slice_get_within, get_or_from_slice_get}
-use Rattle.optra_network.specs.Net.{Net, IsProper, IsRunningRow, AreTimes, MayUse, times_of, minutes_by, leaves, track_id, out_tracks_of}
+use Rattle.optra_network.specs.Net.{Net, IsProper, IsRunningRow, AreTimes, times_of, minutes_by, leaves, track_id, out_tracks_of}
 use Rattle.optra_network.specs.declared.StationId.{StationId}
 use Rattle.optra_network.specs.declared.TrackId.{TrackId}
 use Rattle.optra_network.specs.declared.TypeId.{TypeId}

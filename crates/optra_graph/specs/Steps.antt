@@ -1,12 +1,11 @@
 -- The steps of a state: its legs in order, each with the place that it leads to.
-use Rattle.std.specs.Prelude.{◌≡◌, ℕ, ◌+◌, ◌*◌, ◌<◌, ◌≤◌, ◌⊎◌, true, false, List, length, slice_index_or, All, Contains, Some, Option}
+use Rattle.std.specs.Prelude.{◌≡◌, ℕ, ◌+◌, ◌*◌, ◌<◌, ◌≤◌, ◌⊎◌, false, List, length, slice_index_or, All, Contains, Some}
 use Rattle.std.specs.List.{AllPairs}
 use Rattle.optra_network.specs.Net.{Net, MayUse}
 use Rattle.optra_network.specs.declared.TrackId.{TrackId}
-use Rattle.optra_network.specs.declared.StationId.{StationId}
 use Rattle.optra_bid.specs.Specs.{Path}
 use Rattle.optra_walk.specs.declared.Action.{Action}
-use Rattle.optra_walk.specs.declared.Action.TheVariants.{Pass, Halt, Wait, Finish}
+use Rattle.optra_walk.specs.declared.Action.TheVariants.{Pass, Finish}
 use Rattle.optra_walk.specs.declared.Leg.{Leg}
 use Rattle.optra_walk.specs.Legs.{dwell_of, arrival_of}
 use Rattle.optra_walk.specs.Orders.{action_rank}

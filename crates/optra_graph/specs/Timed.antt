@@ -1,5 +1,5 @@
 -- Time-expanded graphs of a bid, and what their paths mean.
-use Rattle.std.specs.Prelude.{◌≡◌, ℕ, ◌+◌, ◌-◌, ◌<◌, ◌↔◌, true, false, nat_lt, List, [], ◌∷◌, length, map, slice_get, slice_index_or, Option, None, Some, IsSome, All, Contains, if◌then◌else◌}
+use Rattle.std.specs.Prelude.{◌≡◌, ℕ, ◌+◌, ◌-◌, ◌<◌, true, false, nat_lt, List, [], ◌∷◌, length, map, slice_get, slice_index_or, Option, None, Some, IsSome, All, Contains, if◌then◌else◌}
 use Rattle.std.specs.List.{AllPairs}
 use Rattle.std.specs.Ordering.{nat_cmp}
 use Rattle.std.specs.declared.cmp.Ordering.TheVariants.{Less}

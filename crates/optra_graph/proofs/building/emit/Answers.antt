@@ -1,8 +1,7 @@
 -- The parts are those of a graph of the bid.
-use Rattle.std.proofs.Common.{rules, arith, refl, ◌≡◌, ◌∙◌, ◌+◌, ◌≤◌, ap, sym, subst, length, get_or, set, replicate, true, false, List, ℕ, Bool}
-use Rattle.optra_dag.specs.declared.Arc.{Arc}
+use Rattle.std.proofs.Common.{arith, refl, ◌≡◌, ◌∙◌, ◌+◌, ap, subst, get_or, set, replicate, true, false, List, ℕ, Bool}
 use Rattle.optra_dag.specs.Paths.{Graph}
-use Rattle.optra_graph.specs.Arcs.{Emits, Starts}
+use Rattle.optra_graph.specs.Arcs.{Emits}
 use Rattle.optra_graph.specs.Nodes.{node_of, states_of}
 use Rattle.optra_graph.specs.Places.{places_of}
 use Rattle.optra_graph.specs.Timed.{IsGraphOf}

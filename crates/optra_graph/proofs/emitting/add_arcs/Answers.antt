@@ -1,5 +1,5 @@
 -- The arc of one more step.
-use Rattle.std.proofs.Common.{arith, ◌≤◌, ◌≡◌, ◌∙◌, ap, get_or, length, le_refl, length-append, ◌++◌, ◌∷◌, []}
+use Rattle.std.proofs.Common.{arith, ◌≤◌, ◌∙◌, ap, get_or, length, le_refl, length-append, ◌++◌, ◌∷◌, []}
 use Rattle.std.proofs.lemmas.List.Elements.{All-push}
 use Rattle.optra_dag.specs.declared.Arc.{Arc}
 use Rattle.optra_graph.specs.Arcs.{arc_of, is_kept, leg_of_step}

@@ -1,9 +1,7 @@
 -- One more place.
-use Rattle.std.proofs.Common.{arith, refl, ◌≡◌, ◌∙◌, ◌+◌, ◌≤◌, ◌<◌, ◌++◌, ◌*◌, ap, sym, subst, length, List, ℕ, true, false, get_or, All}
-use Rattle.optra_dag.specs.declared.Arc.{Arc}
+use Rattle.std.proofs.Common.{arith, refl, ◌≡◌, ◌∙◌, ◌≤◌, ◌<◌, ◌*◌, ap, subst, length, ℕ, get_or}
 use Rattle.optra_dag.specs.Paths.{no_arc}
 use Rattle.optra_graph.specs.declared.states.State.{State}
-use Rattle.optra_graph.specs.declared.stepping.Step.{Step}
 use Rattle.optra_network.specs.Net.{out_tracks_of}
 use Rattle.optra_graph.specs.Arcs.{Emits}
 use Rattle.optra_graph.specs.Nodes.{node_of}

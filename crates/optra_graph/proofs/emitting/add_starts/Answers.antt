@@ -1,16 +1,14 @@
 -- One more minute.
-use Rattle.std.proofs.Common.{arith, refl, ◌≡◌, ◌∙◌, ◌+◌, ◌<◌, ◌++◌, ◌∷◌, [], ap, sym, subst, length, length-append, List, ℕ, true, false, get_or}
+use Rattle.std.proofs.Common.{arith, refl, ◌≡◌, ◌∙◌, ◌+◌, ◌∷◌, [], ap, sym, length, length-append}
 use Rattle.std.proofs.lemmas.List.{length-map}
-use Rattle.optra_dag.specs.declared.Arc.{Arc}
-use Rattle.optra_graph.specs.Arcs.{Starts, IsKeptStart, start_arc}
-use Rattle.optra_graph.specs.Flags.{is_set, IsSet}
+use Rattle.optra_graph.specs.Arcs.{IsKeptStart, start_arc}
+use Rattle.optra_graph.specs.Flags.{is_set}
 use Rattle.optra_graph.specs.Moves.{start_state}
 use Rattle.optra_graph.specs.Nodes.{node_of}
 use Rattle.optra_graph.specs.Places.{place_of, places_of}
 use Rattle.optra_graph.proofs.EmitLemmas.{starts_nil, starts_skip, starts_push, starts_end, starts_from}
 use Rattle.optra_graph.proofs.FlagLemmas.{far_start}
 use Rattle.optra_graph.proofs.NodeLemmas.{kept_up}
-use Rattle.optra_graph.proofs.PlaceLemmas.{place_below}
 use Rattle.optra_graph.proofs.ReachLemmas.{start_placed}
 use Rattle.optra_graph.proofs.emitting.add_starts.Goals as goal
 

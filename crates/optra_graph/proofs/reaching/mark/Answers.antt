@@ -1,6 +1,6 @@
 -- One more step.
 use Rattle.std.proofs.Common.{arith}
-use Rattle.optra_graph.proofs.FlagLemmas.{marks_none, marks_more}
+use Rattle.optra_graph.proofs.FlagLemmas.{marks_more}
 use Rattle.optra_graph.specs.Steps.{no_step}
 use Rattle.optra_graph.proofs.reaching.mark.Goals as goal
 

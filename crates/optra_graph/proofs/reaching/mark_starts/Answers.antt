@@ -1,9 +1,9 @@
 -- One more start.
-use Rattle.std.proofs.Common.{rules, arith, inl, inr, ◌≡◌, ◌+◌, ◌≤◌, ◌<◌, ◌⊎◌, ◌∙◌, ap, sym, subst, set, true, List, Bool, ℕ}
+use Rattle.std.proofs.Common.{arith, ◌≡◌, ◌+◌, ◌∙◌, ap, sym, subst, set, true, ℕ}
 use Rattle.optra_graph.specs.Flags.{AreStartsSet}
 use Rattle.optra_graph.specs.Moves.{start_state}
 use Rattle.optra_graph.specs.Places.{place_of}
-use Rattle.optra_graph.proofs.FlagLemmas.{starts_none, starts_more, starts_all, far_start}
+use Rattle.optra_graph.proofs.FlagLemmas.{starts_more, starts_all, far_start}
 use Rattle.optra_graph.proofs.ReachLemmas.{start_placed}
 use Rattle.optra_graph.proofs.PlaceLemmas.{place_below}
 use Rattle.optra_graph.proofs.reaching.mark_starts.Goals as goal

@@ -1,7 +1,6 @@
 -- One more place.
-use Rattle.std.proofs.Common.{rules, arith, ◌≡◌, ◌+◌, ◌-◌, ◌<◌, ◌∙◌, ap, sym, subst, replicate, true, false, length, List, Bool, ℕ}
+use Rattle.std.proofs.Common.{rules, arith, ◌<◌, subst, true, false, length}
 use Rattle.optra_graph.specs.declared.states.State.{State}
-use Rattle.optra_graph.specs.Flags.{IsTrimmedTo}
 use Rattle.optra_graph.specs.Places.{places_of, state_of}
 use Rattle.optra_graph.specs.Steps.{AreSteps}
 use Rattle.optra_graph.proofs.FlagLemmas.{read_flag}

@@ -1,5 +1,5 @@
 -- One more place.
-use Rattle.std.proofs.Common.{rules, arith, ◌≡◌, ◌+◌, ◌-◌, ◌<◌, ◌∙◌, ap, sym, subst, replicate, true, false, length, List, Bool, ℕ}
+use Rattle.std.proofs.Common.{arith, ◌≡◌, ◌+◌, ◌-◌, ◌<◌, ◌∙◌, subst, false, length, ℕ}
 use Rattle.optra_graph.specs.declared.states.State.{State}
 use Rattle.optra_graph.specs.Flags.{IsTrimmedTo}
 use Rattle.optra_graph.specs.Places.{places_of, state_of}

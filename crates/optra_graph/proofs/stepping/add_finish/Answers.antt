@@ -1,8 +1,5 @@
 -- One step that finishes, where the walk may end.
-use Rattle.std.proofs.Common.{rules, arith, subst, sym, ap, ◌∙◌, ◌+◌, ◌≤◌, ◌<◌, ◌⊎◌, inl, inr, ◌++◌, ◌∷◌, [], List, Option, Some, None, ◌≡◌, true, false}
-use Rattle.optra_graph.specs.Places.{IsPlaced}
-use Rattle.optra_graph.specs.Steps.{AreStepsBelow, bound_of}
-use Rattle.optra_graph.specs.declared.stepping.Step.{Step}
+use Rattle.std.proofs.Common.{rules}
 use Rattle.optra_graph.proofs.StepLemmas.{finish_none, finish_push}
 use Rattle.optra_graph.proofs.stepping.add_finish.Goals as goal
 

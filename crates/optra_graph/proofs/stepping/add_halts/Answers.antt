@@ -1,8 +1,5 @@
 -- A halt for each dwell in the range of the next stop, ascending.
-use Rattle.std.proofs.Common.{rules, arith, length, length-append, subst, sym, ap, ◌∙◌, ◌+◌, ◌≤◌, ◌<◌, ◌⊎◌, inl, inr, ◌++◌, ◌∷◌, [], List, Option, Some, None, ◌≡◌, true, false}
-use Rattle.optra_graph.specs.Places.{IsPlaced}
-use Rattle.optra_graph.specs.Steps.{AreStepsBelow, bound_of}
-use Rattle.optra_graph.specs.declared.stepping.Step.{Step}
+use Rattle.std.proofs.Common.{arith, length, length-append, sym, ap, ◌+◌, ◌∷◌, []}
 use Rattle.optra_graph.proofs.StepLemmas.{halt_no_stop, halt_none, halt_start, halt_push, halt_end, halted_at, stop_small, dwell_over}
 use Rattle.optra_graph.proofs.stepping.add_halts.Goals as goal
 

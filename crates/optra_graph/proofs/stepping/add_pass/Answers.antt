@@ -1,8 +1,5 @@
 -- One step that passes, where it departs within the layout.
-use Rattle.std.proofs.Common.{rules, arith, subst, sym, ap, ◌∙◌, ◌+◌, ◌≤◌, ◌<◌, ◌⊎◌, inl, inr, ◌++◌, ◌∷◌, [], List, Option, Some, None, ◌≡◌, true, false}
-use Rattle.optra_graph.specs.Places.{IsPlaced}
-use Rattle.optra_graph.specs.Steps.{AreStepsBelow, bound_of}
-use Rattle.optra_graph.specs.declared.stepping.Step.{Step}
+use Rattle.std.proofs.Common.{arith}
 use Rattle.optra_graph.proofs.StepLemmas.{pass_none, pass_push, passed_at}
 use Rattle.optra_graph.proofs.stepping.add_pass.Goals as goal
 

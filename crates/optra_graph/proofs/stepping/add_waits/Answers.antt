@@ -1,8 +1,5 @@
 -- A wait for each dwell, ascending.
-use Rattle.std.proofs.Common.{rules, arith, length, length-append, subst, sym, ap, ◌∙◌, ◌+◌, ◌≤◌, ◌<◌, ◌⊎◌, inl, inr, ◌++◌, ◌∷◌, [], List, Option, Some, None, ◌≡◌, true, false}
-use Rattle.optra_graph.specs.Places.{IsPlaced}
-use Rattle.optra_graph.specs.Steps.{AreStepsBelow, bound_of}
-use Rattle.optra_graph.specs.declared.stepping.Step.{Step}
+use Rattle.std.proofs.Common.{arith, length, length-append, ap, ◌+◌, ◌∷◌, []}
 use Rattle.optra_graph.proofs.StepLemmas.{wait_start, wait_push, wait_end, waited_at, dwell_over}
 use Rattle.optra_graph.proofs.stepping.add_waits.Goals as goal
 

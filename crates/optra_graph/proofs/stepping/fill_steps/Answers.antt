@@ -1,8 +1,8 @@
 -- The steps by one more track.
-use Rattle.std.proofs.Common.{◌≡◌, ◌+◌, subst, sym, ap, get_or, ◌∷◌, arith, length}
+use Rattle.std.proofs.Common.{◌+◌, subst, sym, ap, get_or, arith, length}
 use Rattle.optra_network.specs.declared.TrackId.{TrackId}
 use Rattle.optra_graph.specs.Steps.{AreStepsBelow, bound_of}
-use Rattle.optra_graph.proofs.TrackLemmas.{tail_in, skip_in, next_in, next_track, all_in, skip_track, split_start}
+use Rattle.optra_graph.proofs.TrackLemmas.{tail_in, skip_in, next_in, next_track, all_in, skip_track}
 use Rattle.optra_graph.proofs.stepping.fill_steps.Goals as goal
 use Rattle.optra_graph.proofs.stepping.fill_steps.Goals.{in-Some+in_ok-add_way, in_default}
 

@@ -1,8 +1,8 @@
 -- A way, by the running times of its track.
-use Rattle.std.proofs.Common.{rules, arith, refl, sym, ap, ◌∙◌, ◌≡◌, Option, Some, Bool, true, false}
+use Rattle.std.proofs.Common.{rules, arith, refl, ◌≡◌, Some, true, false}
 use Rattle.std.specs.Option.{option_map}
 use Rattle.optra_network.specs.Net.{times_of, minutes_by}
-use Rattle.optra_graph.proofs.WayLemmas.{run_within, run_some, run_none, run_arrival, head_within}
+use Rattle.optra_graph.proofs.WayLemmas.{run_within, run_some, run_arrival, head_within}
 use Rattle.optra_graph.proofs.stepping.find_way.Goals as goal
 
 pub overflow_add-result : goal.overflow_add-result

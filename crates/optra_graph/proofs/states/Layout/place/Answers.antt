@@ -1,5 +1,5 @@
 -- A place comes before the end.
-use Rattle.std.proofs.Common.{arith, ◌*◌, ◌+◌, ◌<◌, subst, sym}
+use Rattle.std.proofs.Common.{◌*◌}
 use Rattle.optra_graph.proofs.PlaceLemmas.{below_product}
 use Rattle.optra_graph.proofs.states.Layout.place.Goals as goal
 

@@ -1,6 +1,4 @@
 -- The state at a place has one.
-use Rattle.std.proofs.Common.{subst, ◌≡◌, sym, ◌∙◌}
-use Rattle.optra_graph.specs.Places.{IsPlaced, state_of}
 use Rattle.optra_graph.proofs.PlaceLemmas.{placed_at}
 use Rattle.optra_graph.proofs.states.Layout.state.Goals as goal
 

@@ -1,5 +1,5 @@
 -- The leg of one more arc.
-use Rattle.std.proofs.Common.{rules, arith, ◌≡◌, ◌<◌, ◌∙◌, ◌-◌, ◌+◌, ◌++◌, ◌∷◌, [], sym, ap, take, subst, length, get_or, List, ℕ, vec_len}
+use Rattle.std.proofs.Common.{arith, ◌≡◌, ◌<◌, ◌∙◌, ◌-◌, ◌+◌, ◌++◌, ◌∷◌, [], sym, ap, take, subst, length, get_or, List, ℕ, vec_len}
 use Rattle.std.proofs.lemmas.Grind.{common_steps}
 use Rattle.std.proofs.lemmas.List.{take_all}
 use Rattle.optra_walk.specs.declared.Leg.{Leg}
