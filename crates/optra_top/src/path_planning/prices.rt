@@ -62,7 +62,7 @@ pub(crate) fn price_arcs(
 {
     let count = graph.dag().arcs();
     prices.clear();
-    prices.reserve(count as usize)?;
+    prices.reserve_exact(count as usize)?;
     for arc in 0..count {
         prices.push(price_of(net, bid, graph, table, arc))?;
     }
