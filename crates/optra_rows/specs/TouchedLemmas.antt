@@ -1,5 +1,5 @@
 -- The rows that a leg uses, as a list: ascending, and exactly those.
-use Rattle.std.proofs.Common.{◌≡◌, ℕ, zero, suc, ◌+◌, ◌-◌, ◌*◌, ◌/◌, ◌%◌, ◌<◌, ◌≤◌, ◌&&◌, inl, inr, Bool, true, false, cond, nat_lt, nat_eq, Some, None, is_some, unwrap_or, List, [], ◌∷◌, ◌++◌, map, length, slice_get, get_or, filter, drop, refl, sym, ap, ◌∙◌, subst, arith, length-append}
+use Rattle.std.proofs.Common.{sum_by, ◌≡◌, ℕ, zero, suc, ◌+◌, ◌-◌, ◌*◌, ◌/◌, ◌%◌, ◌<◌, ◌≤◌, ◌&&◌, inl, inr, Bool, true, false, cond, nat_lt, nat_eq, Some, None, is_some, unwrap_or, List, [], ◌∷◌, ◌++◌, map, length, slice_get, get_or, filter, drop, refl, sym, ap, ◌∙◌, subst, arith, length-append}
 use Rattle.std.proofs.lemmas.Bool.{lt-leb, leb-false, ltb-false, ltb-true, leb-true, eqb-true, lt-ltb, le-leb, le-ltb, eq-eqb, and_parts, and_from, or_cases, or_left, or_right, cases_lt, false_from_ne_true}
 use Rattle.std.proofs.lemmas.List.{length-map}
 use Rattle.std.proofs.lemmas.List.Sums.{sum_by-le}
@@ -326,7 +326,7 @@ module _ (net : Net) (track : TrackId) (kind : TypeId) (time : ℕ) (proper : Is
       (subst (λ m. length (filter (is_place net track kind) (range_with_len 0 3840)) ≤ m) (length-range_with_len 0 3840) (length-filter-le (is_place net track kind) (range_with_len 0 3840))) in
       omega arith
 
-  use_one : (row : HRow) → use_in net kind track time row ≤ 1
+  pub use_one : (row : HRow) → use_in net kind track time row ≤ 1
   use_one row = go (uses_row net track kind time row)
     where
       go : (b : Bool) → cond b 1 0 ≤ 1
@@ -354,6 +354,15 @@ module _ (net : Net) (track : TrackId) (kind : TypeId) (time : ℕ) (proper : Is
 
   pub headway_rows_listed : ListsRows row_cmp (is_row_of net) (use_in net kind track time) (touched_rows net track kind time)
   headway_rows_listed = subst (ListsRows row_cmp (is_row_of net) (use_in net kind track time)) rows_are listed_by_places
+
+  -- at most 3,960 of them, each used once
+  pub few_rows : length (touched_rows net track kind time) ≤ 3960
+  few_rows = subst (λ rows. length rows ≤ 3960) rows_are few
+
+  pub little_use : sum_by (use_in net kind track time) (touched_rows net track kind time) ≤ 3960
+  little_use =
+      let f = few_rows in
+      let t = sum_by-le (use_in net kind track time) 1 (touched_rows net track kind time) (λ k d l. use_one (get_or (touched_rows net track kind time) k d)) in omega arith
 
   -- ---- the k-th
 

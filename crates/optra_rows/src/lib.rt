@@ -40,3 +40,6 @@ pub enum HRow {
         second: TypeId,
     },
 }
+
+#[cfg(test)]
+mod tests;

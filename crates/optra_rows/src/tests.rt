@@ -1,0 +1,319 @@
+//! Worked cases of rows and loads, from values worked by hand.
+ghost use Rattle.std.specs.Prelude.{◌≡◌, IfOk};
+ghost use Rattle.optra_rows.specs.declared.HRow.{HRow};
+ghost use Rattle.optra_rows.specs.Headways.{use_in};
+ghost use Rattle.optra_rows.specs.Loads.{total_of};
+ghost use Rattle.optra_rows.specs.TouchedLemmas.{row_cmp};
+
+use super::HRow::{Pair, Window};
+use super::*;
+use optra_network::{Builder, NetFault, Network, NoMemory, TrackUse, conflict, is_name};
+use optra_walk::{Action, Leg, RowFamily};
+use std::alloc::Global;
+use std::process::Abort;
+use std::test::Fail;
+
+const AB: TrackId = TrackId(0);
+
+const X: TypeId = TypeId(0);
+
+const Y: TypeId = TypeId(1);
+
+const Z: TypeId = TypeId(2);
+
+/// Headways of three types: x-y 4, y-z 4, x-z 7, and 1 for all others.
+static THREE: [(&str, &str, u64); 9] = [
+    ("x", "x", 1),
+    ("x", "y", 4),
+    ("x", "z", 7),
+    ("y", "x", 1),
+    ("y", "y", 1),
+    ("y", "z", 4),
+    ("z", "x", 1),
+    ("z", "y", 1),
+    ("z", "z", 1),
+];
+
+/// Headways of two types that differ both ways.
+static TWO: [(&str, &str, u64); 4] = [("x", "x", 2), ("x", "y", 7), ("y", "x", 3), ("y", "y", 5)];
+
+fn add_station(rt: &impl Abort, net: &mut Builder, name: &str) -> Result<(), NetFault> {
+    assert!(rt; is_name(name));
+    net.station(name)?;
+    Ok(())
+}
+
+fn add_type(rt: &impl Abort, net: &mut Builder, name: &str) -> Result<(), NetFault> {
+    assert!(rt; is_name(name));
+    net.train_type(name)?;
+    net.running("ab", name, [5, 5, 5, 5])
+}
+
+/// One track from a to b.
+fn track(rt: &impl Abort, alloc: Global) -> Result<Builder, NetFault> {
+    let mut net = Builder::new(alloc)?;
+    add_station(rt, &mut net, "a")?;
+    add_station(rt, &mut net, "b")?;
+    assert!(rt; is_name("ab"));
+    net.track("ab", "a", "b")?;
+    Ok(net)
+}
+
+/// One track with types and headways.
+fn network(
+    rt: &impl Abort,
+    alloc: Global,
+    types: &[&str],
+    headways: &[(&str, &str, u64)],
+) -> Result<Network, NetFault> {
+    let mut net = track(rt, alloc)?;
+    for name in types {
+        add_type(rt, &mut net, name)?;
+    }
+    for (first, second, minutes) in headways {
+        net.headway("ab", first, second, *minutes)?;
+    }
+    net.finish()
+}
+
+/// The last leg of a train, which departs on the track at a minute.
+fn leg(depart: u16) -> Leg
+    ensures track { result.track ≡ AB }
+    ensures depart { result.depart ≡ depart }
+    ensures finish { result.action ≡ Action.Finish }
+{
+    Leg {
+        track: AB,
+        depart,
+        from_halt: true,
+        action: Action::Finish,
+    }
+}
+
+/// The row at a place of those that a type uses which departs at a minute.
+fn touched(rt: &impl Abort, net: &Network, kind: TypeId, depart: u16, k: u32) -> Option<HRow> {
+    assert!(rt; depart <= 2879);
+    assert!(rt; net.run(AB, kind, false, false).is_some());
+    HeadwayRows::new().touched(net, kind, leg(depart), k)
+}
+
+fn used(rt: &impl Abort, net: &Network, kind: TypeId, depart: u16, row: HRow) -> u32 {
+    assert!(rt; depart <= 2879);
+    assert!(rt; net.run(AB, kind, false, false).is_some());
+    HeadwayRows::new().leg_use(net, kind, leg(depart), row)
+}
+
+/// A row of the track: a minute, or two uses by minute and type.
+#[derive(Clone, Copy, Debug)]
+enum Case {
+    At(u16),
+    Two(u16, TypeId, u16, TypeId),
+}
+
+use Case::{At, Two};
+
+fn row_of(case: Case) -> HRow {
+    match case {
+        At(minute) => Window { track: AB, minute },
+        Two(first_at, first, second_at, second) => Pair {
+            track: AB,
+            first_at,
+            first,
+            second_at,
+            second,
+        },
+    }
+}
+
+/// The uses of a row by x at 0, y at 3 and z at 6, of which every two are in conflict and none share a window minute.
+static USES: [(Case, [u32; 3]); 8] = [
+    (Two(0, X, 3, Y), [1, 1, 0]),
+    (Two(3, Y, 6, Z), [0, 1, 1]),
+    (Two(0, X, 6, Z), [1, 0, 1]),
+    (Two(3, Y, 0, X), [0, 0, 0]),
+    (At(0), [1, 0, 0]),
+    (At(1), [0, 0, 0]),
+    (At(3), [0, 1, 0]),
+    (At(6), [0, 0, 1]),
+];
+
+#[test]
+fn three_uses_have_three_pair_rows_and_no_common_window(rt: HostRuntime) -> Result<(), Fail> {
+    let net = network(&rt, rt.alloc(), &["x", "y", "z"], &THREE)?;
+    for (case, uses) in &USES {
+        let row = row_of(*case);
+        assert_eq!(rt; used(&rt, &net, X, 0, row), uses[0], "x at {case:?}");
+        assert_eq!(rt; used(&rt, &net, Y, 3, row), uses[1], "y at {case:?}");
+        assert_eq!(rt; used(&rt, &net, Z, 6, row), uses[2], "z at {case:?}");
+    }
+    Ok(())
+}
+
+/// The rows of a type's use by place: in the day, at its first minutes, and at its last one.
+static TOUCHED: [(TypeId, u16, u32, Option<Case>); 18] = [
+    (X, 0, 0, Some(At(0))),
+    (X, 0, 1, Some(Two(0, X, 1, Y))),
+    (X, 0, 2, Some(Two(0, X, 1, Z))),
+    (X, 0, 9, Some(Two(0, X, 6, Z))),
+    (X, 0, 10, None),
+    (Y, 3, 0, Some(At(3))),
+    (Y, 3, 1, Some(Two(0, X, 3, Y))),
+    (Y, 3, 3, Some(Two(2, X, 3, Y))),
+    (Y, 3, 4, Some(Two(3, Y, 4, Z))),
+    (Y, 3, 7, None),
+    (Y, 1, 1, Some(Two(0, X, 1, Y))),
+    (Y, 1, 2, Some(Two(1, Y, 2, Z))),
+    (Y, 1, 5, None),
+    (Y, 2879, 0, Some(At(2879))),
+    (Y, 2879, 1, Some(Two(2876, X, 2879, Y))),
+    (Y, 2879, 3, Some(Two(2878, X, 2879, Y))),
+    (Y, 2879, 4, None),
+    (Y, 2879, 8192, None),
+];
+
+#[test]
+fn rows_are_listed_in_their_order_and_end_with_the_day(rt: HostRuntime) -> Result<(), Fail> {
+    let net = network(&rt, rt.alloc(), &["x", "y", "z"], &THREE)?;
+    for (kind, depart, k, case) in &TOUCHED {
+        let row = case.map(row_of);
+        assert_eq!(rt; touched(&rt, &net, *kind, *depart, *k), row, "{depart} {k}");
+    }
+    Ok(())
+}
+
+/// Values that are rows, and values that are none.
+static ROWS: [(Case, bool); 7] = [
+    (At(0), true),
+    (At(2998), true),
+    (At(2999), false),
+    (Two(0, X, 3, Y), true),
+    (Two(0, X, 4, Y), false),
+    (Two(2876, X, 2879, Y), true),
+    (Two(2877, X, 2880, Y), false),
+];
+
+#[test]
+fn rows_are_minutes_and_pairs(rt: HostRuntime) -> Result<(), Fail> {
+    let net = network(&rt, rt.alloc(), &["x", "y", "z"], &THREE)?;
+    for (case, expected) in &ROWS {
+        let row = row_of(*case);
+        assert_eq!(rt; HeadwayRows::new().is_row(&net, row), *expected, "{case:?}");
+    }
+    let elsewhere = Window {
+        track: TrackId(1),
+        minute: 0,
+    };
+    assert!(rt; !HeadwayRows::new().is_row(&net, elsewhere));
+    Ok(())
+}
+
+/// Whether x at 100 and y at a minute share a row.
+fn share(rt: &impl Abort, net: &Network, depart: u16) -> bool {
+    for k in 0..8192 {
+        match touched(rt, net, X, 100, k) {
+            Some(row) => {
+                if used(rt, net, Y, depart, row) > 0 {
+                    return true;
+                }
+            }
+            None => return false,
+        }
+    }
+    false
+}
+
+/// Whether x at 100 and y at a minute are in conflict.
+fn meet(rt: &impl Abort, net: &Network, depart: u16) -> bool {
+    assert!(rt; net.run(AB, X, false, false).is_some());
+    assert!(rt; net.run(AB, Y, false, false).is_some());
+    let x = TrackUse {
+        track: AB,
+        kind: X,
+        time: 100,
+    };
+    let y = TrackUse {
+        track: AB,
+        kind: Y,
+        time: depart,
+    };
+    conflict(net, x, y)
+}
+
+#[test]
+fn uses_share_a_row_exactly_where_they_are_in_conflict(rt: HostRuntime) -> Result<(), Fail> {
+    let net = network(&rt, rt.alloc(), &["x", "y"], &TWO)?;
+    for depart in 92..=108 {
+        let expected = depart > 97 && depart < 107;
+        assert_eq!(rt; share(&rt, &net, depart), expected, "rows at {depart}");
+        assert_eq!(rt; meet(&rt, &net, depart), expected, "conflict at {depart}");
+    }
+    Ok(())
+}
+
+/// Whether a type that departs at a minute fits.
+fn fits(
+    rt: &impl Abort,
+    load: &Load<HeadwayRows>,
+    net: &Network,
+    kind: TypeId,
+    depart: u16,
+) -> bool {
+    assert!(rt; depart <= 2879);
+    assert!(rt; net.run(AB, kind, false, false).is_some());
+    load.fits(net, &HeadwayRows::new(), kind, leg(depart))
+}
+
+/// A load of x at 0 alone.
+fn loaded(rt: &impl Abort, alloc: Global, net: &Network) -> Result<Load<HeadwayRows>, NoMemory>
+    ensures { IfOk result (λ load. (row : HRow) → total_of row_cmp load.totals row ≡ use_in net.now X AB 0 row) }
+{
+    assert!(rt; net.run(AB, X, false, false).is_some());
+    let mut load = Load::new(alloc);
+    load.add(net, &HeadwayRows::new(), X, leg(0))?;
+    Ok(load)
+}
+
+/// Takes x at 0 away again.
+fn unload(rt: &impl Abort, net: &Network, load: &mut Load<HeadwayRows>)
+    requires { (row : HRow) → total_of row_cmp load.old.totals row ≡ use_in net.now X AB 0 row }
+{
+    assert!(rt; net.run(AB, X, false, false).is_some());
+    load.take(net, &HeadwayRows::new(), X, leg(0));
+}
+
+#[test]
+fn a_row_takes_one_use_and_no_more(rt: HostRuntime) -> Result<(), Fail> {
+    let net = network(&rt, rt.alloc(), &["x", "y", "z"], &THREE)?;
+    let mut load = loaded(&rt, rt.alloc(), &net)?;
+    assert!(rt; !fits(&rt, &load, &net, X, 0));
+    assert!(rt; !fits(&rt, &load, &net, Y, 3));
+    assert!(rt; fits(&rt, &load, &net, Y, 4));
+    unload(&rt, &net, &mut load);
+    assert!(rt; fits(&rt, &load, &net, X, 0));
+    assert!(rt; fits(&rt, &load, &net, Y, 3));
+    Ok(())
+}
+
+fn doubled() -> Both<HeadwayRows, HeadwayRows> {
+    Both::new(HeadwayRows::new(), HeadwayRows::new())
+}
+
+/// The row of both families at a place of those that x uses which departs at 0.
+fn touched_of_both(rt: &impl Abort, net: &Network, k: u32) -> Option<Either<HRow, HRow>> {
+    assert!(rt; net.run(AB, X, false, false).is_some());
+    doubled().touched(net, X, leg(0), k)
+}
+
+#[test]
+fn the_rows_of_the_second_family_come_after_the_first(rt: HostRuntime) -> Result<(), Fail> {
+    let net = network(&rt, rt.alloc(), &["x", "y", "z"], &THREE)?;
+    let first = Either::First(row_of(At(0)));
+    let second = Either::Second(row_of(Two(0, X, 6, Z)));
+    assert_eq!(rt; touched_of_both(&rt, &net, 0), Some(first));
+    assert_eq!(rt; touched_of_both(&rt, &net, 19), Some(second));
+    assert_eq!(rt; touched_of_both(&rt, &net, 20), None);
+    assert!(rt; first < second);
+    assert!(rt; doubled().is_row(&net, second));
+    assert_eq!(rt; doubled().cap(&net, second), 1);
+    Ok(())
+}
