@@ -18,7 +18,7 @@ struct NoRows;
 
 impl RowFamily for NoRows {
     ghost use Rattle.std.specs.Prelude.{ℕ, false, []};
-    ghost use Rattle.std.proofs.Common.{sym, arith, lit≤};
+    ghost use Rattle.std.proofs.Common.{sym, refl, arith, lit≤};
     ghost use Rattle.std.specs.declared.cmp.Ordering.TheVariants.{Equal};
     ghost use Rattle.std.proofs.lemmas.Cmp.{ranked};
 
@@ -36,7 +36,7 @@ impl RowFamily for NoRows {
 
     ghost capacity_fits = { λ _ _ _ _ _. lit≤ tt };
 
-    ghost unusable_uses_none = { λ _ _ _ _ _ _. Prim.search rules };
+    ghost unusable_uses_none = { λ _ _ _ _ _ _. refl };
 
     ghost rule_by_rows = { λ _ _ _ _ _. (λ _ row is. absurd (Prim.cc is), λ _. tt) };
 
