@@ -234,21 +234,43 @@ fn two_decisions(alloc: Global, inst: Instance<'_>) -> Result<Node, Fail>
     )
 }
 
+fn bids(alloc: Global) -> Result<Vec<Bid>, Fail> {
+    let mut bids = Vec::new(alloc);
+    for text in ["b1", "b2"] {
+        bids.push(bid(alloc, text)?)?;
+    }
+    Ok(bids)
+}
+
+fn check_rows(rt: &impl Abort, inst: Instance<'_>, node: &Node)
+    requires node { IsNode inst.net.now (length inst.bids.now) node.now }
+{
+    assert_eq!(rt; node.overfull(inst, &NoRows), None);
+}
+
+fn check_node(rt: &impl Abort, alloc: Global, inst: Instance<'_>) -> Result<(), Fail>
+    requires { 0 < length inst.bids.now }
+{
+    let node = two_decisions(alloc, inst)?;
+    check_legs(rt, inst, &node);
+    check_starts(rt, inst, &node);
+    check_rows(rt, inst, &node);
+    let summary = Summary::new(alloc, inst, &NoRows, &node)?;
+    check_legs_by_summary(rt, inst, &summary);
+    Ok(())
+}
+
 #[test]
 fn a_yes_leg_refuses_what_its_minute_is_in(rt: HostRuntime) -> Result<(), Fail> {
     let alloc = rt.alloc();
     let net = network(alloc)?;
-    let bids = vec![in alloc; bid(alloc, "b1")?, bid(alloc, "b2")?]?;
+    let bids = bids(alloc)?;
     let inst = Instance {
         net: &net,
-        bids: &bids,
+        bids: bids.as_slice(),
     };
-    assert_eq!(rt; inst.bids.len(), 2);
-    let node = two_decisions(alloc, inst)?;
-    check_legs(&rt, inst, &node);
-    check_starts(&rt, inst, &node);
-    assert_eq!(rt; node.overfull(inst, &NoRows), None);
-    let summary = Summary::new(alloc, inst, &NoRows, &node)?;
-    check_legs_by_summary(&rt, inst, &summary);
-    Ok(())
+    if inst.bids.is_empty() {
+        return Err(unnamed());
+    }
+    check_node(&rt, alloc, inst)
 }
