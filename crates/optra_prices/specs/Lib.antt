@@ -1,0 +1,6 @@
+-- What replies, price steps, price paths and dead nodes mean.
+pub mod Replies
+pub mod Steps
+pub mod Paths
+pub mod Deads
+pub mod Laws
