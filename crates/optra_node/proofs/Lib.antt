@@ -1,0 +1,11 @@
+pub mod SumLemmas
+pub mod LoadLemmas
+pub mod DualLemmas
+pub mod TreeLemmas
+pub mod PlaceLemmas
+pub mod SpanLemmas
+pub mod ChildLemmas
+pub mod BaseLemmas
+pub mod PriceLemmas
+pub mod UniqueLemmas
+pub mod RowLemmas
