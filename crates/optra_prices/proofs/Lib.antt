@@ -1,0 +1,3 @@
+pub mod ListLemmas
+pub mod PriceListLemmas
+pub mod OneLemmas
