@@ -1,3 +1,5 @@
 pub mod ListLemmas
 pub mod PriceListLemmas
 pub mod OneLemmas
+pub mod ValueLemmas
+pub mod ArcLemmas
