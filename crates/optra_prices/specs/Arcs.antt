@@ -1,7 +1,8 @@
 -- What the arcs of a bid's graph add to the reduced value of a walk, and what a search over them finds.
 use Rattle.std.specs.Prelude.{◌≡◌, ◌⊎◌, ◌↔◌, ℕ, ◌<◌, Bool, true, false, List, [], length, Option, Some, unwrap_or}
-use Rattle.std.specs.Prelude.{ℤ, pos, ◌+ℤ◌, ◌-ℤ◌, ◌*ℤ◌, ◌≤ℤ◌, ◌<ℤ◌}
+use Rattle.std.specs.Prelude.{ℤ, pos, negsuc, ◌+ℤ◌, ◌-ℤ◌, ◌*ℤ◌, ◌≤ℤ◌, ◌<ℤ◌}
 use Rattle.optra_network.specs.Net.{Net}
+use Rattle.optra_bid.specs.Specs.{IsBetween}
 use Rattle.optra_bid.specs.declared.bids.Bid.{Bid}
 use Rattle.optra_walk.specs.declared.Action.{Action}
 use Rattle.optra_walk.specs.declared.Action.TheVariants.{Pass, Halt, Wait, Finish}
@@ -73,3 +74,7 @@ pub record FindsPath (g : Graph) (allows : ℕ → Bool) (weight : ℕ → ℤ) 
 abbrev pub IsFound : Graph → (ℕ → Bool) → (ℕ → ℤ) → Bool → List ℕ → ℤ → Bool → Type 0
 IsFound g allows weight forced path term stuck =
     FindsNone g allows forced path term stuck ⊎ (FindsNothing g allows weight forced path term stuck ⊎ FindsPath g allows weight forced path term stuck)
+
+-- in thousandths of a cent, what an arc adds apart from the prices of rows
+abbrev pub IsArcValue : ℤ → Type 0
+IsArcValue z = IsBetween (negsuc 999999999999999) (pos 1000000000000000) z

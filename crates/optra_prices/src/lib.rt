@@ -9,6 +9,7 @@ use optra_walk::Walk;
 use std::marker::Model;
 
 mod laws;
+mod weighing;
 
 pub use laws::price_laws;
 
