@@ -3,3 +3,4 @@ pub mod PriceListLemmas
 pub mod OneLemmas
 pub mod ValueLemmas
 pub mod ArcLemmas
+pub mod NumberLemmas

@@ -9,6 +9,8 @@ use optra_walk::Walk;
 use std::marker::Model;
 
 mod laws;
+mod numbering;
+mod touching;
 mod weighing;
 
 pub use laws::price_laws;

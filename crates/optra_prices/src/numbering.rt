@@ -1,0 +1,16 @@
+//! Rows by number, in the order in which they were first met.
+use std::collections::BTreeMap;
+
+/// A row by its number, and how much of it is used.
+#[derive(Clone, Copy)]
+pub(crate) struct Touch {
+    pub(crate) row: u32,
+    pub(crate) uses: u32,
+}
+
+/// Rows by number, and the numbers of rows.
+#[derive(Drop)]
+pub(crate) struct Numbering<R: Copy + Ord> {
+    pub(crate) numbers: BTreeMap<R, u32>,
+    pub(crate) rows: Vec<R>,
+}
