@@ -4,3 +4,5 @@ pub mod OneLemmas
 pub mod ValueLemmas
 pub mod ArcLemmas
 pub mod NumberLemmas
+pub mod GroupLemmas
+pub mod PriceSumLemmas

@@ -31,3 +31,42 @@ pub record AddsTouches {R : Type 0} (numbered : List R) (uses : R → ℕ) (used
   pub more : List Touch
   pub is : new ≡ old ++ more
   pub are : AreTouches numbered uses more used
+
+-- the touches of group g, which stand from its start up to the next one
+abbrev pub group_at : List ℕ → List Touch → ℕ → List Touch
+group_at starts touches g = slice_range touches (slice_index starts g) (slice_index starts (g + 1))
+
+-- how much the touches use in all
+abbrev pub uses_in_all : List Touch → ℕ
+uses_in_all touches = sum_by (λ touch. touch.uses) touches
+
+-- groups stand one after the other; the first one is empty, and none uses more than a leg may
+pub record AreGroups (starts : List ℕ) (touches : List Touch) : Type 0 where
+  pub two : 1 < length starts
+  pub ordered : (g : ℕ) → g + 1 < length starts → slice_index starts g ≤ slice_index starts (g + 1)
+  pub within : (g : ℕ) → g < length starts → slice_index starts g ≤ length touches
+  pub last : slice_index starts (length starts - 1) ≡ length touches
+  pub few : (g : ℕ) → g + 1 < length starts → uses_in_all (group_at starts touches g) ≤ 8192
+  pub none : group_at starts touches 0 ≡ []
+
+-- groups stay as they are
+pub record KeepsGroups (starts : List ℕ) (touches : List Touch) (starts' : List ℕ) (touches' : List Touch) : Type 0 where
+  pub more : length starts ≤ length starts'
+  pub same : (g : ℕ) → g + 1 < length starts → group_at starts' touches' g ≡ group_at starts touches g
+
+-- a price of a row in the vector of prices
+abbrev pub IsRowPrice : ℤ → Type 0
+IsRowPrice price = IsBetween (pos 0) (pos 2000000000000) price
+
+-- a price of a group
+abbrev pub IsGroupPrice : ℤ → Type 0
+IsGroupPrice price = IsBetween (pos 0) (pos 16384000000000000) price
+
+-- the price of a group, by the prices of rows by number
+abbrev pub group_price : List ℤ → List Touch → ℤ
+group_price prices touches = sum_of (λ touch. slice_index_or prices touch.row (pos 0) *ℤ pos touch.uses) touches
+
+-- the price of each group
+pub record AreGroupPrices (prices : List ℤ) (starts : List ℕ) (touches : List Touch) (grouped : List ℤ) : Type 0 where
+  pub count : length grouped + 1 ≡ length starts
+  pub each : (g : ℕ) → g < length grouped → slice_index_or grouped g (pos 0) ≡ group_price prices (group_at starts touches g)

@@ -14,3 +14,10 @@ pub(crate) struct Numbering<R: Copy + Ord> {
     pub(crate) numbers: BTreeMap<R, u32>,
     pub(crate) rows: Vec<R>,
 }
+
+/// Groups of touches: those of group `g` stand from `starts[g]` up to `starts[g + 1]`.
+#[derive(Drop)]
+pub(crate) struct Groups {
+    pub(crate) starts: Vec<usize>,
+    pub(crate) touches: Vec<Touch>,
+}
