@@ -52,7 +52,7 @@ sum_of_less f g (x ∷ xs) =
     omega (arith, ints)
 
 -- the leg of a leg arc
-leg_there : (t : Timed) (k : ℕ) → IsSome (leg_of t k) → leg_of t k ≡ Some (leg_at t k)
+pub leg_there : (t : Timed) (k : ℕ) → IsSome (leg_of t k) → leg_of t k ≡ Some (leg_at t k)
 leg_there t k h = grind (arith, h)
 
 module _ {R : Type 0} (net : Net) (proper : IsProper net) (rows : Rows R) (bids : List Bid) (law : TestsTellAllowed net rows bids) (node : List Decision) (prices : PriceList R) (number : ℕ) (bid : Bid) (t : Timed) (is_graph : IsGraphOf net bid.path t)

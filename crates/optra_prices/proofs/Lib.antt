@@ -6,3 +6,5 @@ pub mod ArcLemmas
 pub mod NumberLemmas
 pub mod GroupLemmas
 pub mod PriceSumLemmas
+pub mod FoundLemmas
+pub mod TermLemmas

@@ -6,3 +6,4 @@ pub mod Deads
 pub mod Laws
 pub mod Arcs
 pub mod Tables
+pub mod Terms

@@ -7,6 +7,7 @@ use Rattle.std.specs.BTreeMap.{BTreeMap, get}
 use Rattle.optra_bid.specs.Specs.{IsBetween}
 use Rattle.optra_node.specs.Duals.{sum_of}
 use Rattle.optra_prices.specs.declared.numbering.Touch.{Touch}
+use Rattle.optra_prices.specs.declared.numbering.ArcTerm.{ArcTerm}
 
 -- each number leads to its row, and each row to its number
 pub record IsNumbering {R : Type 0} (cmp : R → R → Ordering) (numbers : BTreeMap R ℕ) (rows : List R) : Type 0 where
@@ -70,3 +71,15 @@ group_price prices touches = sum_of (λ touch. slice_index_or prices touch.row (
 pub record AreGroupPrices (prices : List ℤ) (starts : List ℕ) (touches : List Touch) (grouped : List ℤ) : Type 0 where
   pub count : length grouped + 1 ≡ length starts
   pub each : (g : ℕ) → g < length grouped → slice_index_or grouped g (pos 0) ≡ group_price prices (group_at starts touches g)
+
+-- past the last arc
+abbrev pub no_arc : ArcTerm
+no_arc = record { value = pos 0; group = 0; allowed = false }
+
+-- whether an arc may be taken
+abbrev pub allows_by : List ArcTerm → ℕ → Bool
+allows_by arcs k = (slice_index_or arcs k no_arc).allowed
+
+-- what an arc weighs at prices of groups
+abbrev pub weight_by : List ArcTerm → List ℤ → ℕ → ℤ
+weight_by arcs grouped k = (slice_index_or arcs k no_arc).value -ℤ slice_index_or grouped (slice_index_or arcs k no_arc).group (pos 0)

@@ -11,6 +11,7 @@ use std::marker::Model;
 mod grouping;
 mod laws;
 mod numbering;
+mod searching;
 mod touching;
 mod weighing;
 

@@ -21,3 +21,12 @@ pub(crate) struct Groups {
     pub(crate) starts: Vec<usize>,
     pub(crate) touches: Vec<Touch>,
 }
+
+/// What an arc adds apart from the prices of rows, in thousandths of a cent, the group of rows that it touches, and
+/// whether it may be taken.
+#[derive(Clone, Copy)]
+pub(crate) struct ArcTerm {
+    pub(crate) value: i64,
+    pub(crate) group: u32,
+    pub(crate) allowed: bool,
+}
