@@ -1,8 +1,10 @@
 -- Arcs that are added one after the other, while rows get numbers and groups are added.
-use Rattle.std.proofs.Common.{◌≡◌, ℕ, zero, suc, ◌+◌, ◌≤◌, ◌<◌, true, List, [], ◌∷◌, ◌++◌, map, length, Option, Some, None, IsSome, slice_get, refl, sym, ap, ◌∙◌, subst, arith, inl, inr}
-use Rattle.std.specs.Prelude.{◌⊎◌, All, Contains, IfSome}
+use Rattle.std.proofs.Common.{◌≡◌, ℕ, zero, suc, ◌+◌, ◌≤◌, ◌<◌, Bool, true, cond, unwrap_or, List, [], ◌∷◌, ◌++◌, map, length, Option, Some, None, IsSome, slice_get, refl, sym, ap, ◌∙◌, subst, arith, inl, inr}
+use Rattle.std.specs.Prelude.{◌⊎◌, ◌↔◌, All, Contains, IfSome}
+use Rattle.std.specs.Option.{option_map_or}
+use Rattle.std.proofs.lemmas.Bool.{lt-ltb}
 use Rattle.std.proofs.lemmas.List.Elements.{All-contains, All-push, All-weaker, All-head, All-tail, All-nil}
-use Rattle.std.proofs.lemmas.Option.{none-some, same_Some}
+use Rattle.std.proofs.lemmas.Option.{none-some, same_Some, slice_get_within}
 use Rattle.optra_network.specs.Net.{Net, IsProper, MayUse, IsTrack, times_of, IsRunningRow}
 use Rattle.optra_network.specs.declared.TrackId.{TrackId}
 use Rattle.optra_network.specs.declared.TypeId.{TypeId}
@@ -12,11 +14,12 @@ use Rattle.optra_bid.specs.declared.bids.Bid.{Bid}
 use Rattle.optra_walk.specs.declared.Leg.{Leg}
 use Rattle.optra_walk.specs.Families.{Rows, IsUsable}
 use Rattle.optra_walk.proofs.UsableLemmas.{walk_usable}
-use Rattle.optra_graph.specs.Timed.{Timed, IsGraphOf, IsLegArc, leg_of, leg_at, start_of, walk_of}
-use Rattle.optra_node.specs.Nodes.{IsFormedLeg}
+use Rattle.optra_graph.specs.Timed.{Timed, IsGraphOf, IsRoute, IsLegArc, leg_of, leg_at, start_of, walk_of}
+use Rattle.optra_node.specs.Nodes.{IsFormedLeg, kind_at}
+use Rattle.optra_node.specs.Spans.{IsLegOk, IsStartOk}
 use Rattle.optra_node.proofs.LoadLemmas.{contains_cases, contains-map}
-use Rattle.optra_prices.specs.Arcs.{IsArcValue}
-use Rattle.optra_prices.specs.Tables.{Extends, AreTouches, group_at, KeepsGroups}
+use Rattle.optra_prices.specs.Arcs.{IsArcValue, start_value, leg_value}
+use Rattle.optra_prices.specs.Tables.{Extends, AreTouches, group_at, AreGroups, KeepsGroups}
 use Rattle.optra_prices.specs.Terms.{Setting, IsStartTerm, IsLegTerm, AreTerms, IsTerm}
 use Rattle.optra_prices.specs.declared.numbering.ArcTerm.{ArcTerm}
 use Rattle.optra_prices.specs.declared.numbering.Touch.{Touch}
@@ -28,7 +31,7 @@ use Rattle.optra_prices.proofs.ArcLemmas.{leg_there}
 pub arc_usable : (net : Net) → IsProper net → (bid : Bid) (t : Timed) → IsGraphOf net bid.path t → (k : ℕ) (leg : Leg) → k < length t.dag.arcs → leg_of t k ≡ Some leg → IsUsable net bid.path.kind leg
 arc_usable net proper bid t graph k leg l at = by (graph.trimmed k l).0 (graph.trimmed k l).1 (graph.trimmed k l).2
   where
-    by : (arcs : List ℕ) → _ → Contains arcs k → IsUsable net bid.path.kind leg
+    by : (arcs : List ℕ) → IsRoute t arcs → Contains arcs k → IsUsable net bid.path.kind leg
     by [] route (j, m, e) = absurd (omega arith)
     by (first ∷ arcs) route has =
         let begins = graph.begins (first ∷ arcs) route in
@@ -45,7 +48,7 @@ pub usable_formed : (net : Net) → IsProper net → (kind : TypeId) (leg : Leg)
 usable_formed net proper kind leg usable = record { track = by (times_of net leg.track kind) usable.may_use (times_built net leg.track kind proper.built); depart = usable.depart; dwell = usable.dwell }
   where
     by : (o : Option Times) → IsSome o → IfSome o (λ times. IsRunningRow (length net.tracks) (length net.types) ((leg.track.0, kind.0), times)) → IsTrack net leg.track
-    by None some row = absurd some
+    by None some row = cc
     by (Some times) some row = row.0
 
 module _ {R : Type 0} (s : Setting R) (number : ℕ) (bid : Bid) (t : Timed) where
@@ -95,3 +98,52 @@ module _ {R : Type 0} (s : Setting R) (number : ℕ) (bid : Bid) (t : Timed) whe
     within = All-nil (λ (a : ArcTerm). a.group + 1 < length starts);
     values = All-nil (λ (a : ArcTerm). IsArcValue a.value);
   }
+
+pub groups_stay : (starts : List ℕ) (touches : List Touch) → KeepsGroups starts touches starts touches
+groups_stay starts touches = record { more = omega arith; same = λ g l. refl }
+
+pub rows_stay : {R : Type 0} (numbered : List R) → Extends numbered numbered
+rows_stay numbered n row at = at
+
+-- a start arc has no leg
+no_start : (t : Timed) (k m : ℕ) (leg : Leg) → leg_of t k ≡ Some leg → start_of t k ≡ Some m → ⊥
+no_start t k m leg e start =
+    let l = slice_get_within t.minutes k m start in
+    let none : leg_of t k ≡ None = ap (λ (b : Bool). cond b None (Some (leg_at t k))) (lt-ltb k (length t.minutes) l) in
+    none-some leg (sym none ∙ e)
+
+module _ {R : Type 0} (s : Setting R) (number : ℕ) (bid : Bid) (t : Timed) (numbered : List R) (starts : List ℕ) (touches : List Touch) where
+  pub start_is_term : (k minute : ℕ) (arc : ArcTerm) → AreGroups starts touches → leg_of t k ≡ None → minute ≡ unwrap_or (start_of t k) 0 → (arc.allowed ≡ true) ↔ IsStartOk s.node number minute
+      → arc.value ≡ start_value bid minute → IsArcValue arc.value → arc.group ≡ 0 → IsTerm s number bid t numbered starts touches k arc
+  start_is_term k minute arc groups none at allowed value range zero_group = record {
+    start_is = λ m start.
+    let same : minute ≡ m = at ∙ ap (λ (o : Option ℕ). unwrap_or o 0) start in
+    record {
+      allowed = subst (λ (n : ℕ). (arc.allowed ≡ true) ↔ IsStartOk s.node number n) same allowed;
+      value_is = value ∙ ap (start_value bid) same;
+      group_is = ap (group_at starts touches) zero_group ∙ groups.none;
+    };
+    leg_is = λ leg there. absurd (none-some leg (sym none ∙ there));
+    within = let two = groups.two in omega arith;
+    value_in = range;
+  }
+
+  pub leg_is_term : (k : ℕ) (leg : Leg) (arc : ArcTerm) (kind : TypeId) (g : ℕ) → leg_of t k ≡ Some leg → kind ≡ bid.path.kind → (arc.allowed ≡ true) ↔ IsLegOk s.net s.rows s.bids s.node number kind leg
+      → arc.value ≡ leg_value s.net bid leg → IsArcValue arc.value → arc.group ≡ g → g + 1 < length starts
+      → AreTouches numbered (s.rows.uses bid.path.kind leg) (group_at starts touches g) (s.used bid.path.kind leg) → IsTerm s number bid t numbered starts touches k arc
+  leg_is_term k leg arc kind g at same allowed value range group l touched = record {
+    start_is = λ m start. absurd (no_start t k m leg at start);
+    leg_is = λ other there.
+    let one : leg ≡ other = same_Some leg other (sym at ∙ there) in
+    subst (λ x. IsLegTerm s number bid numbered starts touches x arc) one
+    (record {
+      allowed = subst (λ x. (arc.allowed ≡ true) ↔ IsLegOk s.net s.rows s.bids s.node number x leg) same allowed;
+      value_is = value;
+      group_is = subst (λ (x : ℕ). AreTouches numbered (s.rows.uses bid.path.kind leg) (group_at starts touches x) (s.used bid.path.kind leg)) (sym group) touched;
+    });
+    within = omega arith;
+    value_in = range;
+  }
+
+pub kind_is : (bids : List Bid) (number : ℕ) (bid : Bid) → slice_get bids number ≡ Some bid → kind_at bids number ≡ bid.path.kind
+kind_is bids number bid at = ap (λ (o : Option Bid). option_map_or (λ (b : Bid). b.path.kind) o (record { 0 = 0 })) at

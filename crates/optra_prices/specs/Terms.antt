@@ -1,5 +1,5 @@
 -- The arcs of a bid's graph, with what each adds, touches and allows at a node.
-use Rattle.std.specs.Prelude.{◌≡◌, ◌↔◌, ℕ, ◌+◌, ◌<◌, true, List, [], length, All, Option, Some, slice_get}
+use Rattle.std.specs.Prelude.{◌≡◌, ◌↔◌, ℕ, ◌+◌, ◌<◌, Bool, true, List, [], length, All, Some, slice_get}
 use Rattle.optra_network.specs.Net.{Net}
 use Rattle.optra_network.specs.declared.TypeId.{TypeId}
 use Rattle.optra_bid.specs.declared.bids.Bid.{Bid}
@@ -47,3 +47,15 @@ pub record IsTerm {R : Type 0} (s : Setting R) (number : ℕ) (bid : Bid) (t : T
   pub leg_is : (leg : Leg) → leg_of t k ≡ Some leg → IsLegTerm s number bid numbered starts touches leg arc
   pub within : arc.group + 1 < length starts
   pub value_in : IsArcValue arc.value
+
+-- the parts together
+abbrev pub setting : {R : Type 0} → Net → Rows R → (TypeId → Leg → List R) → List Bid → List Decision → Setting R
+setting net rows used bids node = record { net = net; rows = rows; used = used; bids = bids; node = node }
+
+-- all arcs of the bid's graph, by their groups, and whether the bid has a yes leg
+pub record AreBidArcs {R : Type 0} (s : Setting R) (number : ℕ) (bid : Bid) (t : Timed) (numbered : List R) (arcs : List ArcTerm) (starts : List ℕ) (touches : List Touch) (forced : Bool) : Type 0 where
+  pub graph : IsGraphOf s.net bid.path t
+  pub count : length arcs ≡ length t.dag.arcs
+  pub groups : AreGroups starts touches
+  pub terms : AreTerms s number bid t numbered starts touches arcs
+  pub forced_is : forced ≡ has_yes s.node number

@@ -1,4 +1,5 @@
 //! Rows by number, in the order in which they were first met.
+use optra_graph::TimeGraph;
 use std::collections::BTreeMap;
 
 /// A row by its number, and how much of it is used.
@@ -29,4 +30,13 @@ pub(crate) struct ArcTerm {
     pub(crate) value: i64,
     pub(crate) group: u32,
     pub(crate) allowed: bool,
+}
+
+/// The arcs of a bid's graph at a node, with the groups that they touch, and whether the bid has a yes leg.
+#[derive(Drop)]
+pub(crate) struct BidTable<'g> {
+    pub(crate) graph: &'g TimeGraph,
+    pub(crate) arcs: Vec<ArcTerm>,
+    pub(crate) groups: Groups,
+    pub(crate) forced: bool,
 }
