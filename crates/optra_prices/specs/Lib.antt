@@ -7,3 +7,4 @@ pub mod Laws
 pub mod Arcs
 pub mod Tables
 pub mod Terms
+pub mod Standings

@@ -1,5 +1,5 @@
 //! Groups of touches, one after the other, and their prices.
-ghost use Rattle.std.specs.Prelude.{◌≡◌, ◌≢◌, ℕ, ◌+◌, ◌-◌, ◌*◌, ◌≤◌, ◌<◌, true, false, All, Some, IfOk, OnOk, length, slice_index_or, pos, ◌*ℤ◌};
+ghost use Rattle.std.specs.Prelude.{◌≡◌, ◌≢◌, ◌||◌, ℕ, ◌+◌, ◌-◌, ◌*◌, ◌≤◌, ◌<◌, true, false, All, Some, IfOk, OnOk, length, slice_index_or, pos, ◌*ℤ◌};
 ghost use Rattle.optra_bid.specs.Specs.{IsBetween};
 ghost use Rattle.optra_walk.specs.Families.{IsUsable};
 ghost use Rattle.optra_prices.specs.Tables.{IsNumbering, Extends, AreTouches, group_at, uses_in_all, AreGroups, KeepsGroups, IsRowPrice, IsGroupPrice, group_price, AreGroupPrices};
@@ -94,14 +94,15 @@ fn group_price(prices: &[i64], group: &[Touch]) -> i64
 }
 
 /// Sets a price, and tells whether it changed.
-fn put_price(grouped: &mut [i64], g: usize, price: i64) -> bool
-    requires within { g < length grouped.old }
-    requires range { All IsGroupPrice grouped.old }
+fn put_price(grouped: &mut Vec<i64>, g: usize, price: i64) -> bool
+    requires within { g < length grouped.old.items }
+    requires range { All IsGroupPrice grouped.old.items }
     requires price { IsGroupPrice price }
-    ensures here { slice_index_or grouped.new g (pos 0) ≡ price }
-    ensures others { (j : ℕ) → j ≢ g → slice_index_or grouped.new j (pos 0) ≡ slice_index_or grouped.old j (pos 0) }
-    ensures range { All IsGroupPrice grouped.new }
-    ensures same { result ≡ false → grouped.new ≡ grouped.old }
+    ensures len { length grouped.new.items ≡ length grouped.old.items }
+    ensures here { slice_index_or grouped.new.items g (pos 0) ≡ price }
+    ensures others { (j : ℕ) → j ≢ g → slice_index_or grouped.new.items j (pos 0) ≡ slice_index_or grouped.old.items j (pos 0) }
+    ensures range { All IsGroupPrice grouped.new.items }
+    ensures same { result ≡ false → grouped.new.items ≡ grouped.old.items }
 {
     if grouped[g] == price {
         return false;
@@ -111,22 +112,29 @@ fn put_price(grouped: &mut [i64], g: usize, price: i64) -> bool
 }
 
 /// Brings the prices of groups up to date, and tells whether one changed.
-pub(crate) fn refresh(prices: &[i64], groups: &Groups, grouped: &mut [i64]) -> bool
+pub(crate) fn refresh(prices: &[i64], groups: &Groups, grouped: &mut Vec<i64>) -> bool
     requires prices { All IsRowPrice prices.now }
     requires groups { AreGroups groups.now.starts.items groups.now.touches.items }
-    requires count { length grouped.old + 1 ≡ length groups.now.starts.items }
-    requires grouped { All IsGroupPrice grouped.old }
-    ensures prices { AreGroupPrices prices.now groups.now.starts.items groups.now.touches.items grouped.new }
-    ensures range { All IsGroupPrice grouped.new }
-    ensures same { result ≡ false → grouped.new ≡ grouped.old }
+    requires count { length grouped.old.items + 1 ≡ length groups.now.starts.items }
+    requires grouped { All IsGroupPrice grouped.old.items }
+    ensures prices { AreGroupPrices prices.now groups.now.starts.items groups.now.touches.items grouped.new.items }
+    ensures range { All IsGroupPrice grouped.new.items }
+    ensures same { result ≡ false → grouped.new.items ≡ grouped.old.items }
 {
     let mut changed = false;
     for g in 0..grouped.len() {
         let price = price_at(prices, groups, g);
         let other = put_price(grouped, g, price);
-        changed = changed || other;
+        changed = either(changed, other);
     }
     changed
+}
+
+/// Whether one of two holds.
+fn either(a: bool, b: bool) -> bool
+    ensures { result ≡ (a || b) }
+{
+    a || b
 }
 
 /// The price of a group by its number.

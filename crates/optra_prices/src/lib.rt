@@ -12,6 +12,7 @@ mod grouping;
 mod laws;
 mod numbering;
 mod searching;
+mod settling;
 mod tables;
 mod touching;
 mod weighing;

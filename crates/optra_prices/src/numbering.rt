@@ -40,3 +40,13 @@ pub(crate) struct BidTable<'g> {
     pub(crate) groups: Groups,
     pub(crate) forced: bool,
 }
+
+/// What is known of a bid at prices: the prices of its groups, the path of its reply, which is empty where it has none,
+/// its term, and whether it has a yes leg and no allowed walk.
+#[derive(Drop)]
+pub(crate) struct Standing {
+    pub(crate) grouped: Vec<i64>,
+    pub(crate) path: Vec<u32>,
+    pub(crate) term: i128,
+    pub(crate) stuck: bool,
+}
