@@ -20,7 +20,7 @@ use Rattle.optra_node.specs.Nodes.{has_yes, IsAllowed}
 use Rattle.optra_node.specs.Spans.{IsLegOk, IsStartOk}
 use Rattle.optra_node.specs.Duals.{PriceList, sum_of, leg_price, walk_price, reduced_value, IsOffer, IsTerm, IsStuck}
 use Rattle.optra_node.proofs.SumLemmas.{sum_of-cons}
-use Rattle.optra_prices.specs.Arcs.{start_value, leg_value, AreWeighed, FindsNone, FindsNothing, FindsPath, IsFound}
+use Rattle.optra_prices.specs.Arcs.{start_value, leg_value, AreWeighed, FindsNone, FindsNothing, FindsPath, IsFound, path_reply}
 use Rattle.optra_prices.specs.Replies.{IsFirstGreatest, IsReply}
 use Rattle.optra_prices.proofs.ValueLemmas.{walk_sum}
 
@@ -163,19 +163,14 @@ module _ {R : Type 0} (net : Net) (proper : IsProper net) (rows : Rows R) (bids 
       let same = route_weight p.0 p.2 ∙ ap (reduced_value net rows prices bid) p.3 in
       omega (arith, ints)
 
-  -- what a path that was found means: none where it is empty
-  abbrev pub reply_of : List ℕ → Option (List Leg)
-  reply_of [] = None
-  reply_of (k ∷ arcs) = Some (walk_of t (k ∷ arcs))
-
   forced_yes : (forced : Bool) → forced ≡ has_yes node number → (forced ≡ true) → has_yes node number ≡ true
   forced_yes forced e h = sym e ∙ h
 
-  pub found_reply : (forced stuck : Bool) (path : List ℕ) (term : ℤ) → forced ≡ has_yes node number → IsFound t.dag allows weight forced path term stuck → IsReply net rows bids node prices number bid (reply_of path)
+  pub found_reply : (forced stuck : Bool) (path : List ℕ) (term : ℤ) → forced ≡ has_yes node number → IsFound t.dag allows weight forced path term stuck → IsReply net rows bids node prices number bid (path_reply t path)
   found_reply forced stuck path term e (inl none) =
-      subst (λ p. IsReply net rows bids node prices number bid (reply_of p)) (sym none.path_is) (inl (none_allowed none.none))
+      subst (λ p. IsReply net rows bids node prices number bid (path_reply t p)) (sym none.path_is) (inl (none_allowed none.none))
   found_reply forced stuck path term e (inr (inl nothing)) =
-      subst (λ p. IsReply net rows bids node prices number bid (reply_of p)) (sym nothing.path_is) (inr (record { free = sym e ∙ nothing.free; most = gains_little nothing.most }))
+      subst (λ p. IsReply net rows bids node prices number bid (path_reply t p)) (sym nothing.path_is) (inr (record { free = sym e ∙ nothing.free; most = gains_little nothing.most }))
   found_reply forced stuck [] term e (inr (inr found)) = absurd (found.best.path.some refl)
   found_reply forced stuck (k ∷ arcs) term e (inr (inr found)) =
       let best = best_walk (k ∷ arcs) term found.best in

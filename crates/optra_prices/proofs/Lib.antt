@@ -8,3 +8,6 @@ pub mod GroupLemmas
 pub mod PriceSumLemmas
 pub mod FoundLemmas
 pub mod TermLemmas
+pub mod SettledLemmas
+pub mod SizeLemmas
+pub mod TableLemmas

@@ -1,5 +1,5 @@
 -- What the arcs of a bid's graph add to the reduced value of a walk, and what a search over them finds.
-use Rattle.std.specs.Prelude.{◌≡◌, ◌⊎◌, ◌↔◌, ℕ, ◌<◌, Bool, true, false, List, [], length, Option, Some, unwrap_or}
+use Rattle.std.specs.Prelude.{◌≡◌, ◌⊎◌, ◌↔◌, ℕ, ◌<◌, Bool, true, false, List, [], ◌∷◌, length, Option, None, Some, unwrap_or}
 use Rattle.std.specs.Prelude.{ℤ, pos, negsuc, ◌+ℤ◌, ◌-ℤ◌, ◌*ℤ◌, ◌≤ℤ◌, ◌<ℤ◌}
 use Rattle.optra_network.specs.Net.{Net}
 use Rattle.optra_bid.specs.Specs.{IsBetween}
@@ -11,7 +11,7 @@ use Rattle.optra_walk.specs.Families.{Rows}
 use Rattle.optra_walk.specs.Legs.{arrival_of}
 use Rattle.optra_walk.specs.Values.{price_off}
 use Rattle.optra_dag.specs.Paths.{Graph, IsPath, IsFirstBest, weight_of}
-use Rattle.optra_graph.specs.Timed.{Timed, leg_of, start_of}
+use Rattle.optra_graph.specs.Timed.{Timed, leg_of, start_of, walk_of}
 use Rattle.optra_node.specs.declared.Decision.{Decision}
 use Rattle.optra_node.specs.Duals.{PriceList, leg_price}
 use Rattle.optra_node.specs.Spans.{IsLegOk, IsStartOk}
@@ -78,3 +78,8 @@ IsFound g allows weight forced path term stuck =
 -- in thousandths of a cent, what an arc adds apart from the prices of rows
 abbrev pub IsArcValue : ℤ → Type 0
 IsArcValue z = IsBetween (negsuc 999999999999999) (pos 1000000000000000) z
+
+-- the reply of a path that was found: none where it is empty
+abbrev pub path_reply : Timed → List ℕ → Option (List Leg)
+path_reply t [] = None
+path_reply t (k ∷ arcs) = Some (walk_of t (k ∷ arcs))

@@ -12,6 +12,7 @@ mod grouping;
 mod laws;
 mod numbering;
 mod searching;
+mod sessions;
 mod settling;
 mod tables;
 mod touching;
