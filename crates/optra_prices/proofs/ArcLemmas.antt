@@ -25,7 +25,7 @@ use Rattle.optra_prices.specs.Replies.{IsFirstGreatest, IsReply}
 use Rattle.optra_prices.proofs.ValueLemmas.{walk_sum}
 
 -- a path of allowed arcs is a path, and each of its arcs is allowed
-leads_on : (g : Graph) (allows : ℕ → Bool) (node : ℕ) (arcs : List ℕ) → LeadsToEnd g allows node arcs
+pub leads_on : (g : Graph) (allows : ℕ → Bool) (node : ℕ) (arcs : List ℕ) → LeadsToEnd g allows node arcs
     → LeadsToEnd g (λ _. true) node arcs × All (λ k. (k < length g.arcs) × (allows k ≡ true)) arcs
 leads_on g allows node [] h = (h, All-nil (λ k. (k < length g.arcs) × (allows k ≡ true)))
 leads_on g allows node (k ∷ arcs) h =

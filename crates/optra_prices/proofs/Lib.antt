@@ -11,3 +11,5 @@ pub mod TermLemmas
 pub mod SettledLemmas
 pub mod SizeLemmas
 pub mod TableLemmas
+pub mod ValueOfLemmas
+pub mod HoldLemmas

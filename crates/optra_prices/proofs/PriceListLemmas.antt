@@ -12,7 +12,7 @@ use Rattle.optra_node.specs.Duals.{PriceList, IsPrice, ArePrices, price_of}
 use Rattle.optra_node.specs.Certificates.{AreAscending}
 use Rattle.optra_node.proofs.SumLemmas.{sum_of-cons}
 use Rattle.optra_node.proofs.LoadLemmas.{all_head, all_tail, pairs_head, pairs_tail}
-use Rattle.optra_prices.specs.Steps.{AreProper}
+use Rattle.optra_prices.specs.Tables.{IsRowPrice}
 
 module _ {R : Type 0} (cmp : R → R → Ordering) where
   pub price_of-cons : (e : R × ℤ) (xs : PriceList R) (row : R)
@@ -110,3 +110,11 @@ module _ {R : Type 0} (cmp : R → R → Ordering) where
               let g = h e.0 first'.is_row in
               let l = first'.least in
               absurd (omega (arith, ints))
+
+-- proper prices are prices of rows
+pub prices_in : {R : Type 0} (rows : Rows R) (prices : PriceList R) → ArePrices rows prices → All (λ (e : R × ℤ). IsRowPrice e.1) prices
+prices_in rows prices h k d l =
+    let p = h k d l in
+    let a = p.least in
+    let b = p.most in
+    (omega (arith, ints), b)

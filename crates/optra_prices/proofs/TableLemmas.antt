@@ -3,15 +3,16 @@ use Rattle.std.proofs.Common.{◌≡◌, ◌≢◌, ℕ, zero, suc, ◌+◌, ◌
 use Rattle.std.specs.Prelude.{◌⊎◌, All, ℤ}
 use Rattle.std.proofs.lemmas.List.{length-append}
 use Rattle.std.proofs.lemmas.Bool.{cases_eq}
-use Rattle.std.proofs.lemmas.Option.{none-some, same_Some, slice_get_within}
+use Rattle.std.proofs.lemmas.Option.{none-some, same_Some, slice_get_within, get_or_from_slice_get}
 use Rattle.optra_bid.specs.declared.bids.Bid.{Bid}
 use Rattle.optra_graph.specs.Timed.{Timed}
 use Rattle.optra_prices.specs.Tables.{Extends}
 use Rattle.optra_prices.specs.Terms.{Setting, AreBidArcs}
-use Rattle.optra_prices.specs.Standings.{Stands, IsSound, AreTables, AllStand}
+use Rattle.optra_prices.specs.Standings.{Stands, IsSound, AreTables, AllStand, IsTermSize}
 use Rattle.optra_prices.specs.declared.numbering.BidTable.{BidTable}
 use Rattle.optra_prices.specs.declared.numbering.Standing.{Standing}
 use Rattle.optra_prices.proofs.ListLemmas.{some_at, all_at}
+use Rattle.optra_prices.proofs.SizeLemmas.{term_size}
 use Rattle.optra_prices.proofs.NumberLemmas.{push_cases}
 use Rattle.optra_prices.proofs.TermLemmas.{terms_kept, groups_stay}
 
@@ -135,3 +136,12 @@ mixed_all tables old prices n standings mixed l = record {
   count_is = mixed.count_is;
   each = λ number table standing t s. mixed.done number table standing (let w = slice_get_within tables number table t in omega arith) t s;
 }
+
+-- the terms are small
+pub terms_small : (tables : List BidTable) (prices : List ℤ) (standings : List Standing) → All IsSound tables → AllStand tables prices standings → All (λ (standing : Standing). IsTermSize standing.term) standings
+terms_small tables prices standings sound stand k d l =
+    let c = stand.count_is in
+    let t = some_at tables k (omega arith) in
+    let s = some_at standings k l in
+    let here = term_size t.0 prices s.0 (all_at IsSound tables k t.0 sound t.1) (stand.each k t.0 s.0 t.1 s.1) in
+    subst (λ (x : Standing). IsTermSize x.term) (sym (get_or_from_slice_get standings k s.0 d s.1)) here

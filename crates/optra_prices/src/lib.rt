@@ -8,14 +8,19 @@ use optra_node::Prices;
 use optra_walk::Walk;
 use std::marker::Model;
 
+pub mod duals;
 mod grouping;
+mod holding;
 mod laws;
 mod numbering;
 mod searching;
 mod sessions;
 mod settling;
+mod stepping;
 mod tables;
 mod touching;
+mod using;
+mod valuing;
 mod weighing;
 
 pub use laws::price_laws;

@@ -116,30 +116,34 @@ pub(crate) fn replies(
 }
 
 /// The prices of the rows with numbers, by number. A row that is not listed has price 0.
-pub(crate) fn row_prices<R: Copy + Ord>(
+pub(crate) fn row_prices<F: RowFamily>(
     alloc: Global,
-    numbering: &Numbering<R>,
-    entries: &[(R, i64)],
+    numbering: &Numbering<F::Row>,
+    entries: &[(F::Row, i64)],
 ) -> Result<Vec<i64>, NoMemory>
-    requires numbering { IsNumbering R.cmp numbering.now.numbers numbering.now.rows.items }
-    requires ascending { AreAscending R.cmp entries.now }
+    requires numbering { IsNumbering F.Row.cmp numbering.now.numbers numbering.now.rows.items }
+    requires ascending { AreAscending F.Row.cmp entries.now }
     requires range { All (λ entry. IsRowPrice entry.1) entries.now }
-    ensures agrees { IfOk result (λ prices. Agrees R.cmp numbering.now.rows.items prices.items entries.now) }
+    ensures agrees { IfOk result (λ prices. Agrees F.Row.cmp numbering.now.rows.items prices.items entries.now) }
     ensures range { IfOk result (λ prices. All IsRowPrice prices.items) }
     ensures count { IfOk result (λ prices. length prices.items ≡ length numbering.now.rows.items) }
 {
     let mut prices = vec![in alloc; 0; numbering.rows.len()]?;
     for entry in entries {
-        put_row_price(numbering, &mut prices, *entry);
+        put_row_price::<F>(numbering, &mut prices, *entry);
     }
     Ok(prices)
 }
 
 /// Sets the price of a row, where the row has a number.
-fn put_row_price<R: Copy + Ord>(numbering: &Numbering<R>, prices: &mut Vec<i64>, entry: (R, i64))
-    requires numbering { IsNumbering R.cmp numbering.now.numbers numbering.now.rows.items }
+fn put_row_price<F: RowFamily>(
+    numbering: &Numbering<F::Row>,
+    prices: &mut Vec<i64>,
+    entry: (F::Row, i64),
+)
+    requires numbering { IsNumbering F.Row.cmp numbering.now.numbers numbering.now.rows.items }
     requires count { length prices.old.items ≡ length numbering.now.rows.items }
-    ensures { SetsPrice R.cmp numbering.now.rows.items entry prices.old.items prices.new.items }
+    ensures { SetsPrice F.Row.cmp numbering.now.rows.items entry prices.old.items prices.new.items }
 {
     if let Some(number) = numbering.numbers.get(&entry.0) {
         prices[*number as usize] = entry.1;
