@@ -12,4 +12,3 @@ pub mod SettledLemmas
 pub mod SizeLemmas
 pub mod TableLemmas
 pub mod ValueOfLemmas
-pub mod HoldLemmas

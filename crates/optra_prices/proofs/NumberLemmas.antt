@@ -104,7 +104,7 @@ adds_touch {R} numbered after uses used k n u row old mid new adds extends at nu
       more = adds.more ++ touch ∷ [];
       is = is ∙ ap (λ (xs : List Touch). xs ++ touch ∷ []) adds.is ∙ append_assoc old adds.more (touch ∷ []);
       are = subst (AreTouches after uses (adds.more ++ touch ∷ [])) (sym taken)
-      (zip_push (IsTouch after uses) adds.more (take k used) touch row (touches_kept numbered after uses extends adds.more (take k used) adds.are) (record { number = number; use_is = use_is }));
+          (zip_push (IsTouch after uses) adds.more (take k used) touch row (touches_kept numbered after uses extends adds.more (take k used) adds.are) (record { number = number; use_is = use_is }));
     }
 
 -- all touches, past the last row that is used

@@ -56,20 +56,20 @@ module _ {R : Type 0} (cmp : R → R → Ordering) (s : Setting R) (proper : IsP
     weighed = record {
       start_allowed = λ k minute l at. (are.terms.starts_are k minute (get_or table.arcs.items k no_arc) (arc_there k l) at).allowed;
       start_weight = λ k minute l at.
-      let is = are.terms.starts_are k minute (get_or table.arcs.items k no_arc) (arc_there k l) at in
-      let g = group_is k l in
-      let none = ap (group_price prices) is.group_is in
-      let v = is.value_is in
-      omega (arith, ints);
+          let is = are.terms.starts_are k minute (get_or table.arcs.items k no_arc) (arc_there k l) at in
+          let g = group_is k l in
+          let none = ap (group_price prices) is.group_is in
+          let v = is.value_is in
+          omega (arith, ints);
       leg_allowed = λ k leg l at. (are.terms.legs_are k leg (get_or table.arcs.items k no_arc) (arc_there k l) at).allowed;
       leg_weight = λ k leg l at.
-      let is = are.terms.legs_are k leg (get_or table.arcs.items k no_arc) (arc_there k l) at in
-      let g = group_is k l in
-      let usable = arc_usable s.net proper bid table.graph.now are.graph k leg l at in
-      let used = group_used cmp numbered prices listed (s.rows.uses bid.path.kind leg) agrees (group_at table.groups.starts.items table.groups.touches.items (get_or table.arcs.items k no_arc).group) (s.used bid.path.kind leg) is.group_is in
-      let price = by_used listed bid.path.kind leg usable in
-      let v = is.value_is in
-      omega (arith, ints);
+          let is = are.terms.legs_are k leg (get_or table.arcs.items k no_arc) (arc_there k l) at in
+          let g = group_is k l in
+          let usable = arc_usable s.net proper bid table.graph.now are.graph k leg l at in
+          let used = group_used cmp numbered prices listed (s.rows.uses bid.path.kind leg) agrees (group_at table.groups.starts.items table.groups.touches.items (get_or table.arcs.items k no_arc).group) (s.used bid.path.kind leg) is.group_is in
+          let price = by_used listed bid.path.kind leg usable in
+          let v = is.value_is in
+          omega (arith, ints);
     }
 
     pub reply_is : IsReply s.net s.rows s.bids s.node listed number bid (path_reply table.graph.now standing.path.items)
@@ -180,14 +180,16 @@ module _ {R : Type 0} (cmp : R → R → Ordering) (s : Setting R) (proper : IsP
           let m = stand.count_is in
           let p = place d.number (omega arith) in
           let same : d.standing ≡ p.standing = same_Some d.standing p.standing (sym d.at ∙ p.standing_at) in
-          inr ((d.number, p.bid, p.bid_at, (stuck_at d.number p.bid p.table p.standing p.bid_at p.table_at p.standing_at).0 (sym (ap (λ (x : Standing). x.stuck) same) ∙ d.is)),
-          ap (λ (b : Bool). cond b (pos 0) (capacity +ℤ sum_of (λ term. term) (terms_of standings))) e)
+          inr (
+            (d.number, p.bid, p.bid_at, (stuck_at d.number p.bid p.table p.standing p.bid_at p.table_at p.standing_at).0 (sym (ap (λ (x : Standing). x.stuck) same) ∙ d.is)),
+            ap (λ (b : Bool). cond b (pos 0) (capacity +ℤ sum_of (λ term. term) (terms_of standings))) e,
+          )
       by false e =
           inl (
             (λ (number, bid, at, stuck).
-            let p = place number (slice_get_within s.bids number bid at) in
-            let same : p.bid ≡ bid = same_Some p.bid bid (sym p.bid_at ∙ at) in
-            none_stuck standings e number p.standing p.standing_at ((stuck_at number p.bid p.table p.standing p.bid_at p.table_at p.standing_at).1 (subst (IsStuck s.net s.rows s.bids s.node number) (sym same) stuck))),
+                let p = place number (slice_get_within s.bids number bid at) in
+                let same : p.bid ≡ bid = same_Some p.bid bid (sym p.bid_at ∙ at) in
+                none_stuck standings e number p.standing p.standing_at ((stuck_at number p.bid p.table p.standing p.bid_at p.table_at p.standing_at).1 (subst (IsStuck s.net s.rows s.bids s.node number) (sym same) stuck))),
             ap (λ (b : Bool). cond b (pos 0) (capacity +ℤ sum_of (λ term. term) (terms_of standings))) e ∙ ap (λ (z : ℤ). z +ℤ sum_of (λ t. t) (terms_of standings)) is,
           )
 
@@ -196,19 +198,19 @@ module _ {R : Type 0} (cmp : R → R → Ordering) (s : Setting R) (proper : IsP
     dual = record {
       count = terms_count standings ∙ stand.count_is ∙ are.count_is;
       each = λ number bid term at at_term.
-      let w = terms_at standings number term at_term in
-      let p = place number (slice_get_within s.bids number bid at) in
-      let same : p.bid ≡ bid = same_Some p.bid bid (sym p.bid_at ∙ at) in
-      let same_standing : p.standing ≡ w.0 = same_Some p.standing w.0 (sym p.standing_at ∙ w.1) in
-      let here = term_is cmp s proper law by_used numbered prices listed agrees number p.bid p.table p.standing (are.each number p.bid p.table p.bid_at p.table_at) (stand.each number p.table p.standing p.table_at p.standing_at) in
-      subst (λ b. IsTerm s.net s.rows s.bids s.node listed number b term) same (subst (IsTerm s.net s.rows s.bids s.node listed number p.bid) (ap (λ (x : Standing). x.term) same_standing ∙ w.2) here);
+          let w = terms_at standings number term at_term in
+          let p = place number (slice_get_within s.bids number bid at) in
+          let same : p.bid ≡ bid = same_Some p.bid bid (sym p.bid_at ∙ at) in
+          let same_standing : p.standing ≡ w.0 = same_Some p.standing w.0 (sym p.standing_at ∙ w.1) in
+          let here = term_is cmp s proper law by_used numbered prices listed agrees number p.bid p.table p.standing (are.each number p.bid p.table p.bid_at p.table_at) (stand.each number p.table p.standing p.table_at p.standing_at) in
+          subst (λ b. IsTerm s.net s.rows s.bids s.node listed number b term) same (subst (IsTerm s.net s.rows s.bids s.node listed number p.bid) (ap (λ (x : Standing). x.term) same_standing ∙ w.2) here);
       total = total capacity is;
     };
     replies = record {
       count = replies_count tables standings stand.count_is ∙ are.count_is;
       each = λ number bid reply at at_reply.
-      let w = replies_at tables standings number reply at_reply in
-      let here = reply_is cmp s proper law by_used numbered prices listed agrees number bid w.0 w.1 (are.each number bid w.0 at w.2) (stand.each number w.0 w.1 w.2 w.3) in
-      subst (IsReply s.net s.rows s.bids s.node listed number bid) w.4 here;
+          let w = replies_at tables standings number reply at_reply in
+          let here = reply_is cmp s proper law by_used numbered prices listed agrees number bid w.0 w.1 (are.each number bid w.0 at w.2) (stand.each number w.0 w.1 w.2 w.3) in
+          subst (IsReply s.net s.rows s.bids s.node listed number bid) w.4 here;
     };
   }

@@ -127,8 +127,8 @@ mixed_more tables old prices n standings table standing mixed at is = record {
     | inr apart ↦ mixed.done number x y (omega arith) x_at (sym (set_other standings n number standing apart) ∙ y_at)
   ];
   left = λ number x y l x_at y_at.
-  let apart : number ≢ n = omega arith in
-  mixed.left number x y (omega arith) x_at (sym (set_other standings n number standing apart) ∙ y_at);
+      let apart : number ≢ n = omega arith in
+      mixed.left number x y (omega arith) x_at (sym (set_other standings n number standing apart) ∙ y_at);
 }
 
 pub mixed_all : (tables : List BidTable) (old prices : List ℤ) (n : ℕ) (standings : List Standing) → StandMixed tables old prices n standings → length tables ≤ n → AllStand tables prices standings

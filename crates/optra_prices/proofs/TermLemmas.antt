@@ -58,7 +58,7 @@ module _ {R : Type 0} (s : Setting R) (number : ℕ) (bid : Bid) (t : Timed) whe
     allowed = is.allowed;
     value_is = is.value_is;
     group_is = subst (λ group. AreTouches after (s.rows.uses bid.path.kind leg) group (s.used bid.path.kind leg)) (sym (keeps.same arc.group l))
-    (touches_kept numbered after (s.rows.uses bid.path.kind leg) extends (group_at starts touches arc.group) (s.used bid.path.kind leg) is.group_is);
+        (touches_kept numbered after (s.rows.uses bid.path.kind leg) extends (group_at starts touches arc.group) (s.used bid.path.kind leg) is.group_is);
   }
 
   -- arcs stay those of the graph while rows get numbers and groups are added
@@ -66,11 +66,11 @@ module _ {R : Type 0} (s : Setting R) (number : ℕ) (bid : Bid) (t : Timed) whe
       → AreTerms s number bid t numbered starts touches arcs → AreTerms s number bid t after starts' touches' arcs
   terms_kept numbered after starts starts' touches touches' arcs extends keeps are = record {
     starts_are = λ k minute arc at start.
-    let l = all_at (λ (a : ArcTerm). a.group + 1 < length starts) arcs k arc are.within at in
-    let is = are.starts_are k minute arc at start in
-    record { allowed = is.allowed; value_is = is.value_is; group_is = keeps.same arc.group l ∙ is.group_is };
+        let l = all_at (λ (a : ArcTerm). a.group + 1 < length starts) arcs k arc are.within at in
+        let is = are.starts_are k minute arc at start in
+        record { allowed = is.allowed; value_is = is.value_is; group_is = keeps.same arc.group l ∙ is.group_is };
     legs_are = λ k leg arc at is.
-    leg_kept numbered after starts starts' touches touches' leg arc extends keeps (all_at (λ (a : ArcTerm). a.group + 1 < length starts) arcs k arc are.within at) (are.legs_are k leg arc at is);
+        leg_kept numbered after starts starts' touches touches' leg arc extends keeps (all_at (λ (a : ArcTerm). a.group + 1 < length starts) arcs k arc are.within at) (are.legs_are k leg arc at is);
     within = λ k d l. let w = are.within k d l in let m = keeps.more in omega arith;
     values = are.values;
   }
@@ -117,12 +117,12 @@ module _ {R : Type 0} (s : Setting R) (number : ℕ) (bid : Bid) (t : Timed) (nu
       → arc.value ≡ start_value bid minute → IsArcValue arc.value → arc.group ≡ 0 → IsTerm s number bid t numbered starts touches k arc
   start_is_term k minute arc groups none at allowed value range zero_group = record {
     start_is = λ m start.
-    let same : minute ≡ m = at ∙ ap (λ (o : Option ℕ). unwrap_or o 0) start in
-    record {
-      allowed = subst (λ (n : ℕ). (arc.allowed ≡ true) ↔ IsStartOk s.node number n) same allowed;
-      value_is = value ∙ ap (start_value bid) same;
-      group_is = ap (group_at starts touches) zero_group ∙ groups.none;
-    };
+        let same : minute ≡ m = at ∙ ap (λ (o : Option ℕ). unwrap_or o 0) start in
+        record {
+          allowed = subst (λ (n : ℕ). (arc.allowed ≡ true) ↔ IsStartOk s.node number n) same allowed;
+          value_is = value ∙ ap (start_value bid) same;
+          group_is = ap (group_at starts touches) zero_group ∙ groups.none;
+        };
     leg_is = λ leg there. absurd (none-some leg (sym none ∙ there));
     within = let two = groups.two in omega arith;
     value_in = range;
@@ -134,13 +134,13 @@ module _ {R : Type 0} (s : Setting R) (number : ℕ) (bid : Bid) (t : Timed) (nu
   leg_is_term k leg arc kind g at same allowed value range group l touched = record {
     start_is = λ m start. absurd (no_start t k m leg at start);
     leg_is = λ other there.
-    let one : leg ≡ other = same_Some leg other (sym at ∙ there) in
-    subst (λ x. IsLegTerm s number bid numbered starts touches x arc) one
-    (record {
-      allowed = subst (λ x. (arc.allowed ≡ true) ↔ IsLegOk s.net s.rows s.bids s.node number x leg) same allowed;
-      value_is = value;
-      group_is = subst (λ (x : ℕ). AreTouches numbered (s.rows.uses bid.path.kind leg) (group_at starts touches x) (s.used bid.path.kind leg)) (sym group) touched;
-    });
+        let one : leg ≡ other = same_Some leg other (sym at ∙ there) in
+        subst (λ x. IsLegTerm s number bid numbered starts touches x arc) one
+        (record {
+          allowed = subst (λ x. (arc.allowed ≡ true) ↔ IsLegOk s.net s.rows s.bids s.node number x leg) same allowed;
+          value_is = value;
+          group_is = subst (λ (x : ℕ). AreTouches numbered (s.rows.uses bid.path.kind leg) (group_at starts touches x) (s.used bid.path.kind leg)) (sym group) touched;
+        });
     within = omega arith;
     value_in = range;
   }

@@ -8,4 +8,3 @@ pub mod Arcs
 pub mod Tables
 pub mod Terms
 pub mod Standings
-pub mod Holdings

@@ -7,10 +7,10 @@ ghost use Rattle.optra_prices.specs.Steps.{AreProper};
 ghost use Rattle.optra_prices.specs.Tables.{IsNumbering};
 ghost use Rattle.optra_prices.specs.Standings.{IsTermSize, AllStand, valuation_of};
 
+use crate::Dual;
 use crate::numbering::{BidTable, Numbering, Standing};
 use crate::sessions::{first_standings, make_tables};
 use crate::valuing::{capacity_price, dual_value, replies, row_prices, terms};
-use crate::Dual;
 use optra_dag::Buffers;
 use optra_graph::Graphs;
 use optra_network::NoMemory;

@@ -10,16 +10,13 @@ use std::marker::Model;
 
 pub mod duals;
 mod grouping;
-mod holding;
 mod laws;
 mod numbering;
 mod searching;
 mod sessions;
 mod settling;
-mod stepping;
 mod tables;
 mod touching;
-mod using;
 mod valuing;
 mod weighing;
 

@@ -40,7 +40,16 @@ pub(crate) fn make_tables<'g, F: RowFamily, G: Graphs>(
     for number in 0..bids.len() {
         let bid = &bids[number];
         let graph = graphs.graph(bid);
-        let table = bid_table(alloc, inst, rows, node, number as u32, bid, graph, numbering)?;
+        let table = bid_table(
+            alloc,
+            inst,
+            rows,
+            node,
+            number as u32,
+            bid,
+            graph,
+            numbering,
+        )?;
         tables.push(table)?;
     }
     Ok(tables)

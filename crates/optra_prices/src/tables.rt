@@ -33,13 +33,7 @@ pub(crate) fn kind_of(bid: &Bid) -> TypeId
 }
 
 /// The arc of a start, which touches nothing.
-fn start_term(
-    inst: Instance<'_>,
-    node: &Node,
-    number: u32,
-    bid: &Bid,
-    minute: Minute,
-) -> ArcTerm
+fn start_term(inst: Instance<'_>, node: &Node, number: u32, bid: &Bid, minute: Minute) -> ArcTerm
     requires node { IsNode inst.net.now (length inst.bids.now) node.now }
     requires number { number < length inst.bids.now }
     ensures allowed { IsTrue result.allowed ↔ IsStartOk node.now number minute }
@@ -140,7 +134,17 @@ pub(crate) fn bid_table<'g, F: RowFamily>(
     let mut arcs = Vec::new(alloc);
     arcs.reserve_exact(count as usize)?;
     for k in 0..count {
-        let term = term_at(inst, rows, node, number, bid, graph, numbering, &mut groups, k)?;
+        let term = term_at(
+            inst,
+            rows,
+            node,
+            number,
+            bid,
+            graph,
+            numbering,
+            &mut groups,
+            k,
+        )?;
         arcs.push(term)?;
     }
     Ok(BidTable {

@@ -82,7 +82,10 @@ pub(crate) fn dual_value(capacity: i128, standings: &[Standing]) -> i128
 pub(crate) fn terms(alloc: Global, standings: &[Standing]) -> Result<Vec<i128>, NoMemory>
     ensures { IfOk result (λ terms. terms.items ≡ terms_of standings.now) }
 {
-    standings.iter().map(|standing| standing.term).collect(alloc)
+    standings
+        .iter()
+        .map(|standing| standing.term)
+        .collect(alloc)
 }
 
 /// The walk of a path; none where the path is empty.

@@ -48,7 +48,7 @@ assemble-requires g c =
     let are = c.in_ok-tables.ensures.tables in
     let sound = tables_sound s c.make_tables.new.numbering.rows.items tables are in
     let stand : AllStand tables vector standings =
-        subst (λ (ts : List BidTable). AllStand ts vector standings) c.deref.ensures.value (subst (λ (ps : List ℤ). AllStand c.deref.result.now ps standings) c.deref-2.ensures.value c.in_ok-standings.ensures)
+    subst (λ (ts : List BidTable). AllStand ts vector standings) c.deref.ensures.value (subst (λ (ps : List ℤ). AllStand c.deref.result.now ps standings) c.deref-2.ensures.value c.in_ok-standings.ensures)
     in
     let fits : FitsSigned w128 c.capacity_price-capacity.result = search rules in
     let range = c.capacity_price-capacity.ensures.range in
@@ -74,14 +74,14 @@ returns g c =
     let standings = c.in_ok-standings.standings.items in
     let numbered = c.make_tables.new.numbering.rows.items in
     let stand : AllStand tables vector standings =
-        subst (λ (ts : List BidTable). AllStand ts vector standings) c.deref.ensures.value (subst (λ (ps : List ℤ). AllStand c.deref.result.now ps standings) c.deref-2.ensures.value c.in_ok-standings.ensures)
+    subst (λ (ts : List BidTable). AllStand ts vector standings) c.deref.ensures.value (subst (λ (ps : List ℤ). AllStand c.deref.result.now ps standings) c.deref-2.ensures.value c.in_ok-standings.ensures)
     in
     let agrees : Agrees cmp numbered vector listed = subst (Agrees cmp numbered vector) c.entries-entries.ensures.value c.in_ok-vector.ensures.agrees in
     let fits : FitsSigned w128 c.capacity_price-capacity.result = search rules in
     let capacity = to_z w128 (of_z w128 c.capacity_price-capacity.result) in
     let priced : capacity ≡ capacity_price rows listed = to_z-of_z w128 c.capacity_price-capacity.result fits ∙ c.capacity_price-capacity.ensures.value ∙ ap (capacity_price rows) c.entries-entries.ensures.value in
     let settled = settled_valuation cmp s c.track_count.ensures.proper c.tests_tell_allowed.ensures c.prices_by_used_rows.ensures numbered vector listed agrees tables standings c.in_ok-tables.ensures.tables stand capacity priced in
-    IfOk-weaker (λ (v : Valuation) is.
+    IfOk-weaker c.assemble.result (λ (v : Valuation). v ≡ valuation_of capacity c.deref-3.result.now c.deref-4.result.now) (IsValuation net rows bids c.args.node.now listed) (λ v is.
     subst (IsValuation net rows bids c.args.node.now listed)
     (sym (is ∙ ap (λ (ts : List BidTable). valuation_of capacity ts c.deref-4.result.now) c.deref-3.ensures.value ∙ ap (λ (ss : List Standing). valuation_of capacity tables ss) c.deref-4.ensures.value)) settled)
     c.assemble.ensures

@@ -21,8 +21,8 @@ loop-g-preserved c =
     record {
       count = put.len ∙ c.loop-g.invariant.count;
       each = below_more (λ j. slice_index_or new j (pos 0) ≡ priced j) c.loop-g.g
-      (λ j l. let apart : j ≢ c.loop-g.g = omega arith in put.others j apart ∙ c.loop-g.invariant.each j l)
-      (put.here ∙ to_z-of_z w64 c.price_at-price.result fits ∙ c.price_at-price.ensures.value);
+          (λ j l. let apart : j ≢ c.loop-g.g = omega arith in put.others j apart ∙ c.loop-g.invariant.each j l)
+          (put.here ∙ to_z-of_z w64 c.price_at-price.result fits ∙ c.price_at-price.ensures.value);
       range = put.range;
       same = λ e. put.same (right c.loop-g.changed c.put_price-other.result (sym c.either-changed.ensures ∙ e)) ∙ c.loop-g.invariant.same (left c.loop-g.changed c.put_price-other.result (sym c.either-changed.ensures ∙ e));
     }

@@ -26,10 +26,10 @@ loop-k-preserved g c =
     record {
       numbering = number.numbering;
       rows = all_grows (λ row. rows.is_row row ≡ true) old new c.in-Some.row number.grows c.loop-k.invariant.rows
-      (lists.are_rows c.in-Some.row ((lists.used c.in-Some.row).1 (at_contains (g.F.RowFamily.rows_used f net c.args.kind c.args.leg) c.loop-k.k c.in-Some.row at)));
+          (lists.are_rows c.in-Some.row ((lists.used c.in-Some.row).1 (at_contains (g.F.RowFamily.rows_used f net c.args.kind c.args.leg) c.loop-k.k c.in-Some.row at)));
       extends = extends_more _ old new c.loop-k.invariant.extends grown;
       touches = adds_touch old new (rows.uses c.args.kind c.args.leg) (g.F.RowFamily.rows_used f net c.args.kind c.args.leg) c.loop-k.k c.in_ok-row_number.row_number c.leg_use-uses.result c.in-Some.row _ _ _
-      c.loop-k.invariant.touches grown at number.number c.leg_use-uses.ensures c.in_ok-push.ensures.items;
+          c.loop-k.invariant.touches grown at number.number c.leg_use-uses.ensures c.in_ok-push.ensures.items;
     }
 
 pub returns-in_default : goal.returns-in_default

@@ -36,7 +36,7 @@ loop-number-preserved c =
     let table_at : slice_get tables n ≡ Some table = slice_get_read tables (length tables) n table refl l c.index-tables-number.is in
     let standing_at : slice_get standings n ≡ Some standing = slice_get_read standings (length standings) n standing refl m c.index-standings-number.is in
     let walk_is : c.in_ok-walk.walk ≡ path_reply table.graph.now standing.path.items =
-        c.in_ok-walk.ensures ∙ ap (λ (t : BidTable). path_reply t.graph.now c.deref.result.now) (sym c.index-tables-number.is) ∙ ap (path_reply table.graph.now) c.deref.ensures.value
+    c.in_ok-walk.ensures ∙ ap (λ (t : BidTable). path_reply t.graph.now c.deref.result.now) (sym c.index-tables-number.is) ∙ ap (path_reply table.graph.now) c.deref.ensures.value
     in
     let before = replies_of (take n tables) (take n standings) in
     let one : n + 1 ≡ suc n = omega arith in

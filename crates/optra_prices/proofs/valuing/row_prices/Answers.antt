@@ -38,8 +38,8 @@ loop-entry-preserved g c =
       count = sets_count cmp rows e old new sets ∙ inv.count;
       range = sets_range cmp rows e old new sets (all_at (λ (x : g.row.F-Row.Denot × ℤ). IsRowPrice x.1) entries i e c.requires.range at) inv.range;
       agrees = agrees_more cmp g.met.F.Row.Ord.total rows old new entries i e
-      (λ j k row j_at k_at. same_Some j k (sym (c.requires.numbering.known j row j_at) ∙ c.requires.numbering.known k row k_at))
-      g.met.F.RowFamily.tells_apart inv.count inv.agrees c.requires.ascending at sets;
+          (λ j k row j_at k_at. same_Some j k (sym (c.requires.numbering.known j row j_at) ∙ c.requires.numbering.known k row k_at))
+          g.met.F.RowFamily.tells_apart inv.count inv.agrees c.requires.ascending at sets;
     }
 
 pub returns : goal.returns

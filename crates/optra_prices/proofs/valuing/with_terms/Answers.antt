@@ -35,6 +35,6 @@ loop-standing-preserved c =
     let fits : FitsSigned w128 standing.term = search rules in
     let whole : FitsSigned w128 (total +ℤ standing.term) = search rules in
     let same : to_z w128 (of_z w128 (total +ℤ to_z w128 (of_z w128 standing.term))) ≡ total +ℤ standing.term =
-        ap (λ (z : ℤ). to_z w128 (of_z w128 (total +ℤ z))) (to_z-of_z w128 standing.term fits) ∙ to_z-of_z w128 (total +ℤ standing.term) whole
+    ap (λ (z : ℤ). to_z w128 (of_z w128 (total +ℤ z))) (to_z-of_z w128 standing.term fits) ∙ to_z-of_z w128 (total +ℤ standing.term) whole
     in
     subst (λ (z : ℤ). IsTermSum (to_z w128 (of_z w128 c.args.capacity)) standings (i + 1) z) (sym same) more
