@@ -1,0 +1,14 @@
+pub mod ListLemmas
+pub mod PriceListLemmas
+pub mod OneLemmas
+pub mod ValueLemmas
+pub mod ArcLemmas
+pub mod NumberLemmas
+pub mod GroupLemmas
+pub mod PriceSumLemmas
+pub mod FoundLemmas
+pub mod TermLemmas
+pub mod SettledLemmas
+pub mod SizeLemmas
+pub mod TableLemmas
+pub mod ValueOfLemmas

@@ -1,0 +1,147 @@
+-- Tables that are made one after the other, and what stands of them.
+use Rattle.std.proofs.Common.{◌≡◌, ◌≢◌, ℕ, zero, suc, ◌+◌, ◌≤◌, ◌<◌, List, [], ◌∷◌, ◌++◌, length, set, get_or, Option, Some, None, slice_get, refl, sym, ap, ◌∙◌, subst, arith, inl, inr}
+use Rattle.std.specs.Prelude.{◌⊎◌, All, ℤ}
+use Rattle.std.proofs.lemmas.List.{length-append}
+use Rattle.std.proofs.lemmas.Bool.{cases_eq}
+use Rattle.std.proofs.lemmas.Option.{none-some, same_Some, slice_get_within, get_or_from_slice_get}
+use Rattle.optra_bid.specs.declared.bids.Bid.{Bid}
+use Rattle.optra_graph.specs.Timed.{Timed}
+use Rattle.optra_prices.specs.Tables.{Extends}
+use Rattle.optra_prices.specs.Terms.{Setting, AreBidArcs}
+use Rattle.optra_prices.specs.Standings.{Stands, IsSound, AreTables, AllStand, IsTermSize}
+use Rattle.optra_prices.specs.declared.numbering.BidTable.{BidTable}
+use Rattle.optra_prices.specs.declared.numbering.Standing.{Standing}
+use Rattle.optra_prices.proofs.ListLemmas.{some_at, all_at}
+use Rattle.optra_prices.proofs.SizeLemmas.{term_size}
+use Rattle.optra_prices.proofs.NumberLemmas.{push_cases}
+use Rattle.optra_prices.proofs.TermLemmas.{terms_kept, groups_stay}
+
+abbrev pub IsTableOf : {R : Type 0} → Setting R → List R → ℕ → Bid → BidTable → Type 0
+IsTableOf s numbered number bid table = AreBidArcs s number bid table.graph.now numbered table.arcs.items table.groups.starts.items table.groups.touches.items table.forced
+
+module _ {R : Type 0} (s : Setting R) where
+  table_kept : (numbered after : List R) → Extends numbered after → (number : ℕ) (bid : Bid) (table : BidTable) → IsTableOf s numbered number bid table → IsTableOf s after number bid table
+  table_kept numbered after extends number bid table is = record {
+    graph = is.graph;
+    count = is.count;
+    groups = is.groups;
+    terms = terms_kept s number bid table.graph.now numbered after table.groups.starts.items table.groups.starts.items table.groups.touches.items table.groups.touches.items table.arcs.items extends (groups_stay table.groups.starts.items table.groups.touches.items) is.terms;
+    forced_is = is.forced_is;
+  }
+
+  pub no_tables : (numbered : List R) → AreTables s 0 numbered []
+  no_tables numbered = record { count_is = refl; each = λ number bid table b t. absurd (none-some table t) }
+
+  pub tables_push : (n : ℕ) (numbered after : List R) (tables : List BidTable) (bid : Bid) (table : BidTable) → AreTables s n numbered tables → Extends numbered after → slice_get s.bids n ≡ Some bid → IsTableOf s after n bid table
+      → AreTables s (n + 1) after (tables ++ table ∷ [])
+  tables_push n numbered after tables bid table are extends at is = record {
+    count_is = let c = are.count_is in let l = length-append tables (table ∷ []) in omega arith;
+    each = λ number b x b_at x_at. elim (push_cases tables table number x x_at) as (λ _. IsTableOf s after number b x) [
+      | inl old ↦ table_kept numbered after extends number b x (are.each number b x b_at old)
+      | inr new ↦
+          let c = are.count_is in
+          let place : n ≡ number = sym (new.0 ∙ c) in
+          let same_bid : bid ≡ b = same_Some bid b (sym at ∙ ap (slice_get s.bids) place ∙ b_at) in
+          subst (λ (y : BidTable). IsTableOf s after number b y) new.1
+          (subst (λ (c : Bid). IsTableOf s after number c table) same_bid (subst (λ (m : ℕ). IsTableOf s after m bid table) place is))
+    ];
+  }
+
+  -- each table is sound
+  pub tables_sound : (numbered : List R) (tables : List BidTable) → AreTables s (length s.bids) numbered tables → All IsSound tables
+  tables_sound numbered tables are k d l =
+      let c = are.count_is in
+      let b = some_at s.bids k (omega arith) in
+      let t = some_at tables k l in
+      let is = are.each k b.0 t.0 b.1 t.1 in
+      let here : IsSound t.0 = record { count = sym is.count; forward = is.graph.laid_out.forward; values = is.terms.values; groups = is.groups } in
+      subst IsSound (sym (at tables k d t.0 t.1)) here
+    where
+      at : (xs : List BidTable) (k : ℕ) (d x : BidTable) → slice_get xs k ≡ Some x → get_or xs k d ≡ x
+      at [] k d x e = absurd (none-some x e)
+      at (y ∷ xs) zero d x e = same_Some y x e
+      at (y ∷ xs) (suc k) d x e = at xs k d x e
+
+-- what stands of the first tables
+pub record StandBelow (tables : List BidTable) (prices : List ℤ) (n : ℕ) (standings : List Standing) : Type 0 where
+  pub count_is : length standings ≡ n
+  pub each : (number : ℕ) (table : BidTable) (standing : Standing) → slice_get tables number ≡ Some table → slice_get standings number ≡ Some standing → Stands table prices standing
+
+pub none_stand : (tables : List BidTable) (prices : List ℤ) → StandBelow tables prices 0 []
+none_stand tables prices = record { count_is = refl; each = λ number table standing t s. absurd (none-some standing s) }
+
+pub stand_push : (tables : List BidTable) (prices : List ℤ) (n : ℕ) (standings : List Standing) (table : BidTable) (standing : Standing) → StandBelow tables prices n standings → slice_get tables n ≡ Some table → Stands table prices standing
+    → StandBelow tables prices (n + 1) (standings ++ standing ∷ [])
+stand_push tables prices n standings table standing below at is = record {
+  count_is = let c = below.count_is in let l = length-append standings (standing ∷ []) in omega arith;
+  each = λ number x y x_at y_at. elim (push_cases standings standing number y y_at) as (λ _. Stands x prices y) [
+    | inl old ↦ below.each number x y x_at old
+    | inr new ↦
+        let place : n ≡ number = sym (new.0 ∙ below.count_is) in
+        let same : table ≡ x = same_Some table x (sym at ∙ ap (slice_get tables) place ∙ x_at) in
+        subst (λ z. Stands x prices z) new.1 (subst (λ z. Stands z prices standing) same is)
+  ];
+}
+
+pub all_stand : (tables : List BidTable) (prices : List ℤ) (n : ℕ) (standings : List Standing) → StandBelow tables prices n standings → n ≡ length tables → AllStand tables prices standings
+all_stand tables prices n standings below e = record { count_is = below.count_is ∙ e; each = below.each }
+
+-- the first ones stand at new prices, and the others at old ones
+pub record StandMixed (tables : List BidTable) (old prices : List ℤ) (n : ℕ) (standings : List Standing) : Type 0 where
+  pub count_is : length standings ≡ length tables
+  pub done : (number : ℕ) (table : BidTable) (standing : Standing) → number < n → slice_get tables number ≡ Some table → slice_get standings number ≡ Some standing → Stands table prices standing
+  pub left : (number : ℕ) (table : BidTable) (standing : Standing) → n ≤ number → slice_get tables number ≡ Some table → slice_get standings number ≡ Some standing → Stands table old standing
+
+pub mixed_first : (tables : List BidTable) (old prices : List ℤ) (standings : List Standing) → AllStand tables old standings → StandMixed tables old prices 0 standings
+mixed_first tables old prices standings stand = record { count_is = stand.count_is; done = λ number table standing l t s. absurd (omega arith); left = λ number table standing l t s. stand.each number table standing t s }
+
+set_same : {X : Type 0} (xs : List X) (k : ℕ) (x y : X) → k < length xs → slice_get (set xs k x) k ≡ Some y → x ≡ y
+set_same [] k x y l e = absurd (omega arith)
+set_same (z ∷ xs) zero x y l e = same_Some x y e
+set_same (z ∷ xs) (suc k) x y l e = set_same xs k x y (omega arith) e
+
+set_other : {X : Type 0} (xs : List X) (k j : ℕ) (x : X) → j ≢ k → slice_get (set xs k x) j ≡ slice_get xs j
+set_other [] k j x apart = refl
+set_other (z ∷ xs) zero zero x apart = absurd (apart refl)
+set_other (z ∷ xs) zero (suc j) x apart = refl
+set_other (z ∷ xs) (suc k) zero x apart = refl
+set_other (z ∷ xs) (suc k) (suc j) x apart = set_other xs k j x (λ e. apart (ap suc e))
+
+set_length : {X : Type 0} (xs : List X) (k : ℕ) (x : X) → length (set xs k x) ≡ length xs
+set_length [] k x = refl
+set_length (z ∷ xs) zero x = refl
+set_length (z ∷ xs) (suc k) x = ap suc (set_length xs k x)
+
+pub mixed_more : (tables : List BidTable) (old prices : List ℤ) (n : ℕ) (standings : List Standing) (table : BidTable) (standing : Standing) → StandMixed tables old prices n standings → slice_get tables n ≡ Some table → Stands table prices standing
+    → StandMixed tables old prices (n + 1) (set standings n standing)
+mixed_more tables old prices n standings table standing mixed at is = record {
+  count_is = set_length standings n standing ∙ mixed.count_is;
+  done = λ number x y l x_at y_at. elim (cases_eq number n) as (λ _. Stands x prices y) [
+    | inl e ↦
+        let here : slice_get (set standings n standing) n ≡ Some y = ap (slice_get (set standings n standing)) (sym e) ∙ y_at in
+        let w = slice_get_within tables n table at in
+        let c = mixed.count_is in
+        let same_standing : standing ≡ y = set_same standings n standing y (omega arith) here in
+        let same_table : table ≡ x = same_Some table x (sym at ∙ ap (slice_get tables) (sym e) ∙ x_at) in
+        subst (λ z. Stands x prices z) same_standing (subst (λ z. Stands z prices standing) same_table is)
+    | inr apart ↦ mixed.done number x y (omega arith) x_at (sym (set_other standings n number standing apart) ∙ y_at)
+  ];
+  left = λ number x y l x_at y_at.
+      let apart : number ≢ n = omega arith in
+      mixed.left number x y (omega arith) x_at (sym (set_other standings n number standing apart) ∙ y_at);
+}
+
+pub mixed_all : (tables : List BidTable) (old prices : List ℤ) (n : ℕ) (standings : List Standing) → StandMixed tables old prices n standings → length tables ≤ n → AllStand tables prices standings
+mixed_all tables old prices n standings mixed l = record {
+  count_is = mixed.count_is;
+  each = λ number table standing t s. mixed.done number table standing (let w = slice_get_within tables number table t in omega arith) t s;
+}
+
+-- the terms are small
+pub terms_small : (tables : List BidTable) (prices : List ℤ) (standings : List Standing) → All IsSound tables → AllStand tables prices standings → All (λ (standing : Standing). IsTermSize standing.term) standings
+terms_small tables prices standings sound stand k d l =
+    let c = stand.count_is in
+    let t = some_at tables k (omega arith) in
+    let s = some_at standings k l in
+    let here = term_size t.0 prices s.0 (all_at IsSound tables k t.0 sound t.1) (stand.each k t.0 s.0 t.1 s.1) in
+    subst (λ (x : Standing). IsTermSize x.term) (sym (get_or_from_slice_get standings k s.0 d s.1)) here

@@ -1,0 +1,28 @@
+use Rattle.std.proofs.Common.{◌≡◌, true, false, pos, ap, ◌∙◌, subst, rules}
+use Rattle.std.specs.Prelude.{FitsSigned, ◌⊎◌, ◌<ℤ◌, ◌≤ℤ◌, ◌++◌, List, ℕ}
+use Rattle.std.specs.Int.{w128}
+use Rattle.std.proofs.lemmas.Int.{to_z-of_z}
+use Rattle.std.proofs.lemmas.Option.{MatchOption-at_some}
+use Rattle.optra_dag.specs.Paths.{IsFirstBest}
+use Rattle.optra_prices.specs.Tables.{allows_by, weight_by}
+use Rattle.optra_prices.proofs.FoundLemmas.{found_path, found_nothing}
+use Rattle.optra_prices.proofs.searching.search_bid.Goals as goal
+
+pub returns : goal.returns
+returns c =
+    let allows = allows_by c.args.arcs.now in
+    let weight = weight_by c.args.arcs.now c.args.grouped.now in
+    let best : IsFirstBest c.args.dag.now allows weight c.in-Some.sum c.first_best_in.new.buffers = MatchOption-at_some _ (λ sum. IsFirstBest c.args.dag.now allows weight sum c.first_best_in.new.buffers) c.in-Some.sum c.in-Some.is c.in_ok-sum.ensures.best in
+    let fits : FitsSigned w128 c.in-Some.sum = search rules in
+    let whole = to_z-of_z w128 c.in-Some.sum fits in
+    let same : c.extend_from_slice.new.self.items ≡ c.first_best_in.new.buffers = c.in_ok-extend_from_slice.ensures.items ∙ ap (λ (xs : List ℕ). xs ++ c.path.result.now) c.clear.ensures.items ∙ c.path.ensures in
+    found_path c.args.dag.now allows weight c.args.forced c.first_best_in.new.buffers c.extend_from_slice.new.self.items c.in-Some.sum _ best (subst (λ z. (c.args.forced ≡ true) ⊎ (pos 0 <ℤ z)) whole c.if-not-is_worth.ensures) same whole
+
+pub returns-then-not-is_worth : goal.returns-then-not-is_worth
+returns-then-not-is_worth c =
+    let allows = allows_by c.args.arcs.now in
+    let weight = weight_by c.args.arcs.now c.args.grouped.now in
+    let best : IsFirstBest c.args.dag.now allows weight c.in-Some.sum c.first_best_in.new.buffers = MatchOption-at_some _ (λ sum. IsFirstBest c.args.dag.now allows weight sum c.first_best_in.new.buffers) c.in-Some.sum c.in-Some.is c.in_ok-sum.ensures.best in
+    let fits : FitsSigned w128 c.in-Some.sum = search rules in
+    let whole = to_z-of_z w128 c.in-Some.sum fits in
+    found_nothing c.args.dag.now allows weight c.args.forced c.first_best_in.new.buffers c.clear.new.self.items c.in-Some.sum best (subst (λ z. (c.args.forced ≡ false) × (z ≤ℤ pos 0)) whole c.if-not-is_worth.ensures) c.clear.ensures.items

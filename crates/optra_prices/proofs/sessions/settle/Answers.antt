@@ -1,0 +1,30 @@
+use Rattle.std.proofs.Common.{◌≡◌, ◌+◌, ◌≤◌, ◌<◌, length, Some, slice_get, refl, sym, subst, arith}
+use Rattle.std.proofs.lemmas.Option.{slice_get_read}
+use Rattle.optra_prices.proofs.TableLemmas.{StandMixed, mixed_more, mixed_all}
+use Rattle.optra_prices.proofs.sessions.settle.Goals as goal
+
+pub update-requires-clause-before : goal.update-requires-clause-before
+update-requires-clause-before c =
+    let tables = c.args.tables.now in
+    let standings = c.loop-number.standings.items in
+    let n = c.loop-number.number in
+    let l : n < length tables = omega arith in
+    let table = c.index-tables-number.result in
+    let at : slice_get tables n ≡ Some table = slice_get_read tables (length tables) n table refl l c.index-tables-number.is in
+    let m : n < length standings = let count = c.loop-number.invariant.1.count_is in omega arith in
+    let standing_at : slice_get standings n ≡ Some c.index_mut.result.now = slice_get_read standings (length standings) n c.index_mut.result.now refl m c.index_mut.ensures.value in
+    (c.loop-number.invariant.0, c.loop-number.invariant.1.left n table c.index_mut.result.now (omega arith) at standing_at)
+
+pub loop-number-preserved : goal.loop-number-preserved
+loop-number-preserved c =
+    let tables = c.args.tables.now in
+    let n = c.loop-number.number in
+    let l : n < length tables = omega arith in
+    let table = c.index-tables-number.result in
+    let at : slice_get tables n ≡ Some table = slice_get_read tables (length tables) n table refl l c.index-tables-number.is in
+    (c.loop-number.invariant.0, mixed_more tables c.loop-number.invariant.0 c.args.prices.now n c.loop-number.standings.items table c.update.new.standing c.loop-number.invariant.1 at c.in_ok-update.ensures)
+
+pub returns : goal.returns
+returns c =
+    let l : length c.args.tables.now ≤ c.loop-number.number = omega arith in
+    mixed_all c.args.tables.now c.loop-number.invariant.0 c.args.prices.now c.loop-number.number c.loop-number.standings.items c.loop-number.invariant.1 l

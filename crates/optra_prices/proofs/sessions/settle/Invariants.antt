@@ -1,0 +1,7 @@
+use Rattle.std.proofs.Common.{List}
+use Rattle.std.specs.Prelude.{ℤ}
+use Rattle.optra_prices.proofs.TableLemmas.{StandMixed}
+use Rattle.optra_prices.proofs.sessions.settle.Given as goal
+
+abbrev pub invariant-loop-number : goal.invariant-loop-number
+invariant-loop-number l = (old : List ℤ) × StandMixed l.tables old l.prices l.number l.standings.items

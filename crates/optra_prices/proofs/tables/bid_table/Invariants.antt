@@ -1,0 +1,15 @@
+use Rattle.std.proofs.Common.{◌≡◌, true, length}
+use Rattle.std.specs.Prelude.{All}
+use Rattle.optra_prices.specs.Tables.{IsNumbering, Extends, AreGroups}
+use Rattle.optra_prices.specs.Terms.{setting, AreTerms}
+use Rattle.optra_prices.proofs.tables.bid_table.Given as goal
+
+abbrev pub invariant-loop-k : goal.invariant-loop-k
+invariant-loop-k g l = record {
+  numbering : IsNumbering g.F.Row.Ord.cmp l.numbering.numbers l.numbering.rows.items;
+  rows : All (λ row. (g.F.RowFamily.rows_of l.rows l.inst.net.now).is_row row ≡ true) l.numbering.rows.items;
+  extends : Extends l.initial.numbering.rows.items l.numbering.rows.items;
+  groups : AreGroups l.groups.starts.items l.groups.touches.items;
+  count : length l.arcs.items ≡ l.k;
+  terms : AreTerms (setting l.inst.net.now (g.F.RowFamily.rows_of l.rows l.inst.net.now) (g.F.RowFamily.rows_used l.rows l.inst.net.now) l.inst.bids.now l.node) l.number l.bid l.graph l.numbering.rows.items l.groups.starts.items l.groups.touches.items l.arcs.items;
+}

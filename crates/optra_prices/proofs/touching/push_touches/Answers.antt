@@ -1,0 +1,60 @@
+use Rattle.std.proofs.Common.{◌≡◌, ◌≤◌, ℕ, true, List, [], take, length, refl, sym, ◌∙◌, arith}
+use Rattle.optra_prices.specs.Tables.{IsNumbering, Extends, AddsTouches}
+use Rattle.optra_node.proofs.LeastLemmas.{at_contains, none_past}
+use Rattle.optra_prices.proofs.NumberLemmas.{grows_extends, extends_more, adds_touch, all_touches, all_grows, adds_none}
+use Rattle.optra_prices.proofs.touching.push_touches.Goals as goal
+
+pub loop-k-init : goal.loop-k-init
+loop-k-init g c = record {
+  numbering = c.requires.numbering;
+  rows = c.requires.rows;
+  extends = λ n row at. at;
+  touches = adds_none _ _ (g.F.RowFamily.rows_used c.args.rows.now c.args.net.now c.args.kind c.args.leg) _;
+}
+
+pub loop-k-preserved : goal.loop-k-preserved
+loop-k-preserved g c =
+    let net = c.args.net.now in
+    let f = c.args.rows.now in
+    let rows = g.F.RowFamily.rows_of f net in
+    let lists = g.met.F.RowFamily.lists_rows f net c.args.kind c.args.leg c.track_count.ensures.proper c.requires.usable in
+    let at = sym c.touched.ensures ∙ c.in-Some.is in
+    let number = c.in_ok-row_number.ensures in
+    let old = c.loop-k.numbering.rows.items in
+    let new = c.number.new.numbering.rows.items in
+    let grown = grows_extends old new c.in-Some.row number.grows in
+    record {
+      numbering = number.numbering;
+      rows = all_grows (λ row. rows.is_row row ≡ true) old new c.in-Some.row number.grows c.loop-k.invariant.rows
+          (lists.are_rows c.in-Some.row ((lists.used c.in-Some.row).1 (at_contains (g.F.RowFamily.rows_used f net c.args.kind c.args.leg) c.loop-k.k c.in-Some.row at)));
+      extends = extends_more _ old new c.loop-k.invariant.extends grown;
+      touches = adds_touch old new (rows.uses c.args.kind c.args.leg) (g.F.RowFamily.rows_used f net c.args.kind c.args.leg) c.loop-k.k c.in_ok-row_number.row_number c.leg_use-uses.result c.in-Some.row _ _ _
+          c.loop-k.invariant.touches grown at number.number c.leg_use-uses.ensures c.in_ok-push.ensures.items;
+    }
+
+pub returns-in_default : goal.returns-in_default
+returns-in_default g c =
+    let f = c.args.rows.now in
+    let net = c.args.net.now in
+    let used = g.F.RowFamily.rows_used f net c.args.kind c.args.leg in
+    let past : length used ≤ c.loop-k.k = none_past used c.loop-k.k (sym c.touched.ensures ∙ c.in_default.is) in
+    record {
+      numbering = c.loop-k.invariant.numbering;
+      rows = c.loop-k.invariant.rows;
+      extends = c.loop-k.invariant.extends;
+      touches = all_touches _ _ used c.loop-k.k _ _ c.loop-k.invariant.touches past;
+    }
+
+pub returns : goal.returns
+returns g c =
+    let f = c.args.rows.now in
+    let net = c.args.net.now in
+    let used = g.F.RowFamily.rows_used f net c.args.kind c.args.leg in
+    let lists = g.met.F.RowFamily.lists_rows f net c.args.kind c.args.leg c.track_count.ensures.proper c.requires.usable in
+    let past : length used ≤ c.loop-k.k = let few = lists.few in omega arith in
+    record {
+      numbering = c.loop-k.invariant.numbering;
+      rows = c.loop-k.invariant.rows;
+      extends = c.loop-k.invariant.extends;
+      touches = all_touches _ _ used c.loop-k.k _ _ c.loop-k.invariant.touches past;
+    }

@@ -1,0 +1,10 @@
+-- What replies, price steps, price paths and dead nodes mean.
+pub mod Replies
+pub mod Steps
+pub mod Paths
+pub mod Deads
+pub mod Laws
+pub mod Arcs
+pub mod Tables
+pub mod Terms
+pub mod Standings

@@ -1,0 +1,73 @@
+-- What is known of each bid at prices.
+use Rattle.std.specs.Prelude.{◌≡◌, ◌⊎◌, ℕ, Bool, cond, slice_set, List, [], ◌∷◌, map, length, All, Option, Some, slice_get, slice_index_or}
+use Rattle.std.specs.Prelude.{ℤ, pos, negsuc, ◌+ℤ◌}
+use Rattle.std.specs.List.{list_any}
+use Rattle.std.specs.declared.cmp.Ordering.{Ordering}
+use Rattle.std.specs.declared.cmp.Ordering.TheVariants.{Equal}
+use Rattle.std.specs.Ordering.{eq_by_cmp}
+use Rattle.optra_bid.specs.Specs.{IsBetween}
+use Rattle.optra_bid.specs.declared.bids.Bid.{Bid}
+use Rattle.optra_walk.specs.declared.Leg.{Leg}
+use Rattle.optra_dag.specs.Paths.{IsForward}
+use Rattle.optra_node.specs.Duals.{PriceList, price_of, sum_of}
+use Rattle.optra_prices.specs.Replies.{Valuation}
+use Rattle.optra_prices.specs.Arcs.{IsFound, IsArcValue, path_reply}
+use Rattle.optra_prices.specs.Tables.{allows_by, weight_by, AreGroups, IsGroupPrice, AreGroupPrices}
+use Rattle.optra_prices.specs.Terms.{Setting, AreBidArcs}
+use Rattle.optra_prices.specs.declared.numbering.BidTable.{BidTable}
+use Rattle.optra_prices.specs.declared.numbering.Standing.{Standing}
+
+-- the prices of the groups are those of the rows, and the search at these prices found what stands
+pub record Stands (table : BidTable) (prices : List ℤ) (standing : Standing) : Type 0 where
+  pub grouped : AreGroupPrices prices table.groups.starts.items table.groups.touches.items standing.grouped.items
+  pub range : All IsGroupPrice standing.grouped.items
+  pub found : IsFound table.graph.now.dag (allows_by table.arcs.items) (weight_by table.arcs.items standing.grouped.items) table.forced standing.path.items standing.term standing.stuck
+
+-- the arcs fit the graph and the groups
+pub record IsSound (table : BidTable) : Type 0 where
+  pub count : length table.graph.now.dag.arcs ≡ length table.arcs.items
+  pub forward : IsForward table.graph.now.dag
+  pub values : All (λ arc. IsArcValue arc.value) table.arcs.items
+  pub groups : AreGroups table.groups.starts.items table.groups.touches.items
+
+-- the prices of the rows with numbers are those of the list
+abbrev pub Agrees : {R : Type 0} → (R → R → Ordering) → List R → List ℤ → PriceList R → Type 0
+Agrees {R} cmp numbered prices listed = (n : ℕ) (row : R) → slice_get numbered n ≡ Some row → price_of (eq_by_cmp cmp) listed row ≡ slice_index_or prices n (pos 0)
+
+-- a table for each bid
+pub record AreTables {R : Type 0} (s : Setting R) (count : ℕ) (numbered : List R) (tables : List BidTable) : Type 0 where
+  pub count_is : length tables ≡ count
+  pub each : (number : ℕ) (bid : Bid) (table : BidTable) → slice_get s.bids number ≡ Some bid → slice_get tables number ≡ Some table
+      → AreBidArcs s number bid table.graph.now numbered table.arcs.items table.groups.starts.items table.groups.touches.items table.forced
+
+-- what is known of each bid
+pub record AllStand (tables : List BidTable) (prices : List ℤ) (standings : List Standing) : Type 0 where
+  pub count_is : length standings ≡ length tables
+  pub each : (number : ℕ) (table : BidTable) (standing : Standing) → slice_get tables number ≡ Some table → slice_get standings number ≡ Some standing → Stands table prices standing
+
+-- the replies that the paths mean
+abbrev pub replies_of : List BidTable → List Standing → List (Option (List Leg))
+replies_of [] standings = []
+replies_of (table ∷ tables) [] = []
+replies_of (table ∷ tables) (standing ∷ standings) = path_reply table.graph.now standing.path.items ∷ replies_of tables standings
+
+-- the terms
+abbrev pub terms_of : List Standing → List ℤ
+terms_of standings = map (λ standing. standing.term) standings
+
+-- the dual value by the price of all capacity
+abbrev pub value_of : ℤ → List Standing → ℤ
+value_of capacity standings = cond (list_any (λ standing. standing.stuck) standings) (pos 0) (capacity +ℤ sum_of (λ term. term) (terms_of standings))
+
+-- the valuation that the standings make
+abbrev pub valuation_of : ℤ → List BidTable → List Standing → Valuation
+valuation_of capacity tables standings = record { value = value_of capacity standings; replies = replies_of tables standings; terms = terms_of standings }
+
+-- terms are less than 2^92 in size
+abbrev pub IsTermSize : ℤ → Type 0
+IsTermSize z = IsBetween (negsuc 4951760157141521099596496895) (pos 4951760157141521099596496896) z
+
+-- the price of the row with this number is set, or the row has none
+abbrev pub SetsPrice : {R : Type 0} → (R → R → Ordering) → List R → R × ℤ → List ℤ → List ℤ → Type 0
+SetsPrice {R} cmp numbered entry old new =
+    ((n : ℕ) × (slice_get numbered n ≡ Some entry.0) × (new ≡ slice_set old n entry.1)) ⊎ (((n : ℕ) (row : R) → slice_get numbered n ≡ Some row → cmp row entry.0 ≡ Equal → ⊥) × (new ≡ old))

@@ -1,0 +1,101 @@
+//! The dual value of a node at prices, and whether a node is dead.
+ghost use Rattle.std.specs.Prelude.{◌≡◌, ◌≤◌, ◌<◌, ◌^◌, [], List, ℤ, pos, All, Contains, IfOk, length};
+ghost use Rattle.optra_bid.specs.Specs.{IsBetween};
+ghost use Rattle.optra_node.specs.Nodes.{IsNode};
+ghost use Rattle.optra_prices.specs.Replies.{IsValuation};
+ghost use Rattle.optra_prices.specs.Steps.{AreProper};
+ghost use Rattle.optra_prices.specs.Tables.{IsNumbering};
+ghost use Rattle.optra_prices.specs.Standings.{IsTermSize, AllStand, valuation_of};
+
+use crate::Dual;
+use crate::numbering::{BidTable, Numbering, Standing};
+use crate::sessions::{first_standings, make_tables};
+use crate::valuing::{capacity_price, dual_value, replies, row_prices, terms};
+use optra_dag::Buffers;
+use optra_graph::Graphs;
+use optra_network::NoMemory;
+use optra_node::{Node, Prices, prices_by_used_rows, tests_tell_allowed};
+use optra_walk::{Instance, RowFamily};
+use std::alloc::Global;
+use std::collections::BTreeMap;
+
+/// No row has a number yet.
+pub(crate) fn no_numbers<R: Copy + Ord>(alloc: Global) -> Numbering<R>
+    ensures numbering { IsNumbering R.cmp result.numbers result.rows.items }
+    ensures none { result.rows.items ≡ [] }
+{
+    Numbering {
+        numbers: BTreeMap::new(alloc),
+        rows: Vec::new(alloc),
+    }
+}
+
+/// The entries of prices.
+pub(crate) fn entries<R>(prices: &Prices<R>) -> &[(R, i64)]
+    ensures value { result.now ≡ prices.now }
+    ensures few { length result.now < 2 ^ 63 }
+{
+    &prices.entries
+}
+
+/// The dual value, the replies and the terms of what stands.
+pub(crate) fn assemble(
+    alloc: Global,
+    capacity: i128,
+    tables: &[BidTable<'_>],
+    standings: &[Standing],
+) -> Result<Dual, NoMemory>
+    requires capacity { IsBetween (pos 0) (pos 2417851639229258349412352000000000000) capacity }
+    requires few { length standings.now ≤ 1000 }
+    requires small { All (λ standing. IsTermSize standing.term) standings.now }
+    requires stand { (prices : List ℤ) × AllStand tables.now prices standings.now }
+    ensures { IfOk result (λ dual. dual ≡ valuation_of capacity tables.now standings.now) }
+{
+    let value = dual_value(capacity, standings);
+    let replies = replies(alloc, tables, standings)?;
+    let terms = terms(alloc, standings)?;
+    Ok(Dual {
+        value,
+        replies,
+        terms,
+    })
+}
+
+/// The dual value of the node at the prices, in thousandths of a cent, with the reply and the term of each bid.
+///
+/// The dual value is the sum of price times capacity, and for each bid its term: the greatest, over the bid's allowed
+/// walks, of 1,000 times the walk's value less the prices of the rows that its legs use. Zero takes part where the bid has
+/// no yes leg. Where a bid with a yes leg has no allowed walk, its term is 0 and so is the dual value.
+///
+/// A reply is the first walk, in walk order, of those that reach this greatest value; there is none where the bid has no
+/// yes leg and that value isn't above zero, or where no walk is allowed.
+///
+/// It needs at most 1,000 bids, proper prices, and the graphs of the bids on the instance's network. `NoMemory` is its
+/// only refusal.
+pub fn dual<F: RowFamily, G: Graphs>(
+    alloc: Global,
+    inst: Instance<'_>,
+    graphs: &G,
+    rows: &F,
+    node: &Node,
+    prices: &Prices<F::Row>,
+) -> Result<Dual, NoMemory>
+    requires few { length inst.bids.now ≤ 1000 }
+    requires node { IsNode inst.net.now (length inst.bids.now) node.now }
+    requires network { G.network graphs.now ≡ inst.net.now }
+    requires held { All (λ bid. Contains (G.held graphs.now) bid.path) inst.bids.now }
+    requires prices { AreProper F.Row.cmp (F.rows_of rows.now inst.net.now) prices.now }
+    ensures { IfOk result (λ dual. IsValuation inst.entry.net.now (F.rows_of rows.now inst.entry.net.now) inst.entry.bids.now node.now prices.now dual) }
+{
+    let _ = inst.net.track_count();
+    tests_tell_allowed(inst, rows);
+    prices_by_used_rows(inst, rows);
+    let entries = entries(prices);
+    let mut numbering = no_numbers(alloc);
+    let tables = make_tables(alloc, inst, graphs, rows, node, &mut numbering)?;
+    let vector = row_prices::<F>(alloc, &numbering, entries)?;
+    let mut buffers = Buffers::new(alloc);
+    let standings = first_standings(alloc, &mut buffers, &tables, &vector)?;
+    let capacity = capacity_price(inst.net, rows, entries);
+    assemble(alloc, capacity, &tables, &standings)
+}

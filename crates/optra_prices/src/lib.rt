@@ -1,0 +1,54 @@
+//! Prices of rows: the dual value that they give a node, the replies of the bids, and the path that prices take.
+//!
+//! Prices are whole thousandths of a cent. A bid's reply is the walk that is worth most to it when each use of a row
+//! costs the row's price; a price rises where replies use more of a row than there is, and falls where they use less.
+#![tactic(auto)]
+
+use optra_node::Prices;
+use optra_walk::Walk;
+use std::marker::Model;
+
+pub mod duals;
+mod grouping;
+mod laws;
+mod numbering;
+mod searching;
+mod sessions;
+mod settling;
+mod tables;
+mod touching;
+mod valuing;
+mod weighing;
+
+pub use laws::price_laws;
+
+/// The dual value of a node at prices, in thousandths of a cent, with the reply and the term of each bid.
+#[derive(Drop)]
+pub struct Dual {
+    pub value: i128,
+    pub replies: Vec<Option<Walk>>,
+    pub terms: Vec<i128>,
+}
+
+impl Model for Dual {
+    ghost use Rattle.optra_prices.specs.Replies.{Valuation};
+
+    ghost Value = { Valuation };
+
+    ghost view = { λ a. record { value = a.value; replies = a.replies.items; terms = a.terms.items } };
+}
+
+/// Prices, and the dual value at them.
+#[derive(Drop)]
+pub struct Priced<R> {
+    pub prices: Prices<R>,
+    pub dual: Dual,
+}
+
+/// Why no choice that keeps the rule is of a node: its yes legs overfill a row, or a bid with a yes leg has no allowed
+/// walk.
+#[derive(Clone, Copy, Debug, PartialEq, Eq)]
+pub enum Dead<R> {
+    Forced { row: R },
+    NoWalk { bid: u32 },
+}

@@ -1,0 +1,52 @@
+//! Rows by number, in the order in which they were first met.
+use optra_graph::TimeGraph;
+use std::collections::BTreeMap;
+
+/// A row by its number, and how much of it is used.
+#[derive(Clone, Copy)]
+pub(crate) struct Touch {
+    pub(crate) row: u32,
+    pub(crate) uses: u32,
+}
+
+/// Rows by number, and the numbers of rows.
+#[derive(Drop)]
+pub(crate) struct Numbering<R: Copy + Ord> {
+    pub(crate) numbers: BTreeMap<R, u32>,
+    pub(crate) rows: Vec<R>,
+}
+
+/// Groups of touches: those of group `g` stand from `starts[g]` up to `starts[g + 1]`.
+#[derive(Drop)]
+pub(crate) struct Groups {
+    pub(crate) starts: Vec<usize>,
+    pub(crate) touches: Vec<Touch>,
+}
+
+/// What an arc adds apart from the prices of rows, in thousandths of a cent, the group of rows that it touches, and
+/// whether it may be taken.
+#[derive(Clone, Copy)]
+pub(crate) struct ArcTerm {
+    pub(crate) value: i64,
+    pub(crate) group: u32,
+    pub(crate) allowed: bool,
+}
+
+/// The arcs of a bid's graph at a node, with the groups that they touch, and whether the bid has a yes leg.
+#[derive(Drop)]
+pub(crate) struct BidTable<'g> {
+    pub(crate) graph: &'g TimeGraph,
+    pub(crate) arcs: Vec<ArcTerm>,
+    pub(crate) groups: Groups,
+    pub(crate) forced: bool,
+}
+
+/// What is known of a bid at prices: the prices of its groups, the path of its reply, which is empty where it has none,
+/// its term, and whether it has a yes leg and no allowed walk.
+#[derive(Drop)]
+pub(crate) struct Standing {
+    pub(crate) grouped: Vec<i64>,
+    pub(crate) path: Vec<u32>,
+    pub(crate) term: i128,
+    pub(crate) stuck: bool,
+}

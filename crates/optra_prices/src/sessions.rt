@@ -1,0 +1,93 @@
+//! The tables of all bids, and what stands of them.
+ghost use Rattle.std.specs.Prelude.{◌≡◌, ◌≤◌, ℕ, true, List, ℤ, All, Contains, IfOk, OnOk, length};
+ghost use Rattle.optra_node.specs.Nodes.{IsNode};
+ghost use Rattle.optra_prices.specs.Tables.{IsNumbering, Extends, IsRowPrice};
+ghost use Rattle.optra_prices.specs.Terms.{setting};
+ghost use Rattle.optra_prices.specs.Standings.{IsSound, AreTables, AllStand};
+
+use crate::numbering::{BidTable, Numbering, Standing};
+use crate::settling::{first_standing, update};
+use crate::tables::bid_table;
+use optra_dag::Buffers;
+use optra_graph::Graphs;
+use optra_network::NoMemory;
+use optra_node::Node;
+use optra_walk::{Instance, RowFamily};
+use std::alloc::Global;
+
+/// A table for each bid.
+pub(crate) fn make_tables<'g, F: RowFamily, G: Graphs>(
+    alloc: Global,
+    inst: Instance<'_>,
+    graphs: &'g G,
+    rows: &F,
+    node: &Node,
+    numbering: &mut Numbering<F::Row>,
+) -> Result<Vec<BidTable<'g>>, NoMemory>
+    requires few { length inst.bids.now ≤ 1000 }
+    requires node { IsNode inst.net.now (length inst.bids.now) node.now }
+    requires network { G.network graphs.now ≡ inst.net.now }
+    requires held { All (λ bid. Contains (G.held graphs.now) bid.path) inst.bids.now }
+    requires numbering { IsNumbering F.Row.cmp numbering.old.numbers numbering.old.rows.items }
+    requires rows { All (λ row. (F.rows_of rows.now inst.net.now).is_row row ≡ true) numbering.old.rows.items }
+    ensures numbering { OnOk result (IsNumbering F.Row.cmp numbering.new.numbers numbering.new.rows.items) }
+    ensures rows { OnOk result (All (λ row. (F.rows_of rows.now inst.entry.net.now).is_row row ≡ true) numbering.new.rows.items) }
+    ensures extends { OnOk result (Extends numbering.old.rows.items numbering.new.rows.items) }
+    ensures tables { IfOk result (λ tables. AreTables (setting inst.entry.net.now (F.rows_of rows.now inst.entry.net.now) (F.rows_used rows.now inst.entry.net.now) inst.entry.bids.now node.now) (length inst.entry.bids.now) numbering.new.rows.items tables.items) }
+{
+    let mut tables = Vec::with_capacity(alloc, inst.bids.len())?;
+    let bids = inst.bids;
+    for number in 0..bids.len() {
+        let bid = &bids[number];
+        let graph = graphs.graph(bid);
+        let table = bid_table(
+            alloc,
+            inst,
+            rows,
+            node,
+            number as u32,
+            bid,
+            graph,
+            numbering,
+        )?;
+        tables.push(table)?;
+    }
+    Ok(tables)
+}
+
+/// What is known of each bid at first.
+pub(crate) fn first_standings(
+    alloc: Global,
+    buffers: &mut Buffers,
+    tables: &[BidTable<'_>],
+    prices: &[i64],
+) -> Result<Vec<Standing>, NoMemory>
+    requires prices { All IsRowPrice prices.now }
+    requires sound { All IsSound tables.now }
+    ensures { IfOk result (λ standings. AllStand tables.now prices.now standings.items) }
+{
+    let mut standings = Vec::with_capacity(alloc, tables.len())?;
+    for number in 0..tables.len() {
+        let standing = first_standing(alloc, buffers, &tables[number], prices)?;
+        standings.push(standing)?;
+    }
+    Ok(standings)
+}
+
+/// Brings what is known of each bid up to date.
+pub(crate) fn settle(
+    buffers: &mut Buffers,
+    tables: &[BidTable<'_>],
+    prices: &[i64],
+    standings: &mut Vec<Standing>,
+) -> Result<(), NoMemory>
+    requires prices { All IsRowPrice prices.now }
+    requires sound { All IsSound tables.now }
+    requires before { (old : List ℤ) × AllStand tables.now old standings.old.items }
+    ensures { OnOk result (AllStand tables.now prices.now standings.new.items) }
+{
+    for number in 0..tables.len() {
+        update(buffers, &tables[number], prices, &mut standings[number])?;
+    }
+    Ok(())
+}

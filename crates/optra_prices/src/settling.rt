@@ -1,0 +1,70 @@
+//! What is known of the bids, brought up to date after prices changed.
+ghost use Rattle.std.specs.Prelude.{◌≡◌, All, IfOk, OnOk, List, ℤ};
+ghost use Rattle.optra_prices.specs.Tables.{IsRowPrice};
+ghost use Rattle.optra_prices.specs.Standings.{Stands, IsSound};
+
+use crate::grouping::refresh;
+use crate::numbering::{BidTable, Standing};
+use crate::searching::search_bid;
+use optra_dag::Buffers;
+use optra_network::NoMemory;
+use std::alloc::Global;
+
+/// What is known of a bid at first.
+pub(crate) fn first_standing(
+    alloc: Global,
+    buffers: &mut Buffers,
+    table: &BidTable<'_>,
+    prices: &[i64],
+) -> Result<Standing, NoMemory>
+    requires prices { All IsRowPrice prices.now }
+    requires sound { IsSound table.now }
+    ensures { IfOk result (λ standing. Stands table.now prices.now standing) }
+{
+    let mut grouped = vec![in alloc; 0; table.groups.starts.len() - 1]?;
+    let mut path = Vec::new(alloc);
+    let _ = refresh(prices, &table.groups, &mut grouped);
+    let outcome = search_bid(
+        buffers,
+        table.graph.dag(),
+        &table.arcs,
+        &grouped,
+        table.forced,
+        &mut path,
+    )?;
+    Ok(Standing {
+        grouped,
+        path,
+        term: outcome.term,
+        stuck: outcome.stuck,
+    })
+}
+
+/// Searches the bid's graph again where a price of a row that one of its arcs touches has changed a leg's price; else
+/// what is known of it stands.
+pub(crate) fn update(
+    buffers: &mut Buffers,
+    table: &BidTable<'_>,
+    prices: &[i64],
+    standing: &mut Standing,
+) -> Result<(), NoMemory>
+    requires prices { All IsRowPrice prices.now }
+    requires sound { IsSound table.now }
+    requires before { (old : List ℤ) × Stands table.now old standing.old }
+    ensures { OnOk result (Stands table.now prices.now standing.new) }
+{
+    if !refresh(prices, &table.groups, &mut standing.grouped) {
+        return Ok(());
+    }
+    let outcome = search_bid(
+        buffers,
+        table.graph.dag(),
+        &table.arcs,
+        &standing.grouped,
+        table.forced,
+        &mut standing.path,
+    )?;
+    standing.term = outcome.term;
+    standing.stuck = outcome.stuck;
+    Ok(())
+}

@@ -1,0 +1,154 @@
+//! Dual values and replies of what stands.
+ghost use Rattle.std.specs.Prelude.{◌≡◌, ◌≤◌, ◌<◌, ◌*◌, [], List, ℤ, All, IfOk, length, pos, ◌*ℤ◌, ◌+ℤ◌};
+ghost use Rattle.std.specs.List.{list_any};
+ghost use Rattle.optra_bid.specs.Specs.{IsBetween};
+ghost use Rattle.optra_node.specs.Duals.{ArePrices, capacity_price, sum_of};
+ghost use Rattle.optra_node.specs.Certificates.{AreAscending};
+ghost use Rattle.optra_graph.specs.Timed.{IsRoute};
+ghost use Rattle.optra_prices.specs.Arcs.{path_reply};
+ghost use Rattle.optra_prices.specs.Tables.{IsNumbering, IsRowPrice};
+ghost use Rattle.optra_prices.specs.Standings.{Agrees, IsTermSize, value_of, terms_of, replies_of, AllStand, SetsPrice};
+
+use crate::numbering::{BidTable, Numbering, Standing};
+use optra_graph::TimeGraph;
+use optra_network::{Network, NoMemory};
+use optra_walk::{RowFamily, Walk};
+use std::alloc::Global;
+
+/// A price times a capacity.
+fn capacity_product(price: i64, capacity: u32) -> i128
+    requires price { IsRowPrice price }
+    requires capacity { capacity ≤ 65535 }
+    ensures value { result ≡ price *ℤ pos capacity }
+    ensures range { IsBetween (pos 0) (pos 131070000000000000) result }
+{
+    i128::from(price) * i128::from(capacity)
+}
+
+/// The price of all capacity. A price list of fewer than 2^63 rows keeps it below 2^120.
+pub(crate) fn capacity_price<F: RowFamily>(
+    net: &Network,
+    rows: &F,
+    entries: &[(F::Row, i64)],
+) -> i128
+    requires { ArePrices (F.rows_of rows.now net.now) entries.now }
+    ensures value { result ≡ capacity_price (F.rows_of rows.now net.now) entries.now }
+    ensures range { IsBetween (pos 0) (pos (131070000000000000 * length entries.now)) result }
+{
+    let _proper = net.track_count();
+    let mut total: i128 = 0;
+    for entry in entries {
+        total += capacity_product(entry.1, rows.cap(net, entry.0));
+    }
+    total
+}
+
+/// Whether some bid is stuck.
+fn any_stuck(standings: &[Standing]) -> bool
+    ensures { result ≡ list_any (λ standing. standing.stuck) standings.now }
+{
+    standings.iter().any(|standing| standing.stuck)
+}
+
+/// The sum of the terms, and the price of all capacity.
+fn with_terms(capacity: i128, standings: &[Standing]) -> i128
+    requires capacity { IsBetween (pos 0) (pos 2417851639229258349412352000000000000) capacity }
+    requires few { length standings.now ≤ 1000 }
+    requires small { All (λ standing. IsTermSize standing.term) standings.now }
+    ensures { result ≡ capacity +ℤ sum_of (λ standing. standing.term) standings.now }
+{
+    let mut total = capacity;
+    for standing in standings {
+        total += standing.term;
+    }
+    total
+}
+
+/// The dual value: 0 where some bid is stuck.
+pub(crate) fn dual_value(capacity: i128, standings: &[Standing]) -> i128
+    requires capacity { IsBetween (pos 0) (pos 2417851639229258349412352000000000000) capacity }
+    requires few { length standings.now ≤ 1000 }
+    requires small { All (λ standing. IsTermSize standing.term) standings.now }
+    ensures { result ≡ value_of capacity standings.now }
+{
+    if any_stuck(standings) {
+        0
+    } else {
+        with_terms(capacity, standings)
+    }
+}
+
+/// The terms.
+pub(crate) fn terms(alloc: Global, standings: &[Standing]) -> Result<Vec<i128>, NoMemory>
+    ensures { IfOk result (λ terms. terms.items ≡ terms_of standings.now) }
+{
+    standings
+        .iter()
+        .map(|standing| standing.term)
+        .collect(alloc)
+}
+
+/// The walk of a path; none where the path is empty.
+fn reply(alloc: Global, graph: &TimeGraph, path: &[u32]) -> Result<Option<Walk>, NoMemory>
+    requires { (path.now ≡ [] → ⊥) → IsRoute graph.now path.now }
+    ensures { IfOk result (λ reply. reply ≡ path_reply graph.now path.now) }
+{
+    if path.is_empty() {
+        return Ok(None);
+    }
+    let walk = graph.walk_of(alloc, path)?;
+    Ok(Some(walk))
+}
+
+/// The walks of the replies.
+pub(crate) fn replies(
+    alloc: Global,
+    tables: &[BidTable<'_>],
+    standings: &[Standing],
+) -> Result<Vec<Option<Walk>>, NoMemory>
+    requires { (prices : List ℤ) × AllStand tables.now prices standings.now }
+    ensures { IfOk result (λ replies. replies.items ≡ replies_of tables.now standings.now) }
+{
+    let mut replies = Vec::with_capacity(alloc, tables.len())?;
+    for number in 0..tables.len() {
+        let standing = &standings[number];
+        let walk = reply(alloc, tables[number].graph, &standing.path)?;
+        replies.push(walk)?;
+    }
+    Ok(replies)
+}
+
+/// The prices of the rows with numbers, by number. A row that is not listed has price 0.
+pub(crate) fn row_prices<F: RowFamily>(
+    alloc: Global,
+    numbering: &Numbering<F::Row>,
+    entries: &[(F::Row, i64)],
+) -> Result<Vec<i64>, NoMemory>
+    requires numbering { IsNumbering F.Row.cmp numbering.now.numbers numbering.now.rows.items }
+    requires ascending { AreAscending F.Row.cmp entries.now }
+    requires range { All (λ entry. IsRowPrice entry.1) entries.now }
+    ensures agrees { IfOk result (λ prices. Agrees F.Row.cmp numbering.now.rows.items prices.items entries.now) }
+    ensures range { IfOk result (λ prices. All IsRowPrice prices.items) }
+    ensures count { IfOk result (λ prices. length prices.items ≡ length numbering.now.rows.items) }
+{
+    let mut prices = vec![in alloc; 0; numbering.rows.len()]?;
+    for entry in entries {
+        put_row_price::<F>(numbering, &mut prices, *entry);
+    }
+    Ok(prices)
+}
+
+/// Sets the price of a row, where the row has a number.
+fn put_row_price<F: RowFamily>(
+    numbering: &Numbering<F::Row>,
+    prices: &mut Vec<i64>,
+    entry: (F::Row, i64),
+)
+    requires numbering { IsNumbering F.Row.cmp numbering.now.numbers numbering.now.rows.items }
+    requires count { length prices.old.items ≡ length numbering.now.rows.items }
+    ensures { SetsPrice F.Row.cmp numbering.now.rows.items entry prices.old.items prices.new.items }
+{
+    if let Some(number) = numbering.numbers.get(&entry.0) {
+        prices[*number as usize] = entry.1;
+    }
+}
