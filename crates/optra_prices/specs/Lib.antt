@@ -4,3 +4,4 @@ pub mod Steps
 pub mod Paths
 pub mod Deads
 pub mod Laws
+pub mod Repairs

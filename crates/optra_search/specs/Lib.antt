@@ -1,0 +1,4 @@
+-- The leg on which a node is split, and the plain planner.
+pub mod Splits
+pub mod Planner
+pub mod Laws
