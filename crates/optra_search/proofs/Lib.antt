@@ -4,3 +4,4 @@ pub mod TurnLemmas
 pub mod PlacedLemmas
 pub mod ResultLemmas
 pub mod SoundLemmas
+pub mod PlanLemmas
