@@ -9,3 +9,4 @@ pub mod BaseLemmas
 pub mod PriceLemmas
 pub mod UniqueLemmas
 pub mod RowLemmas
+pub mod LeastLemmas

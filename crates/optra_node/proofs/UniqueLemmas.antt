@@ -44,7 +44,7 @@ module _ {R : Type 0} (net : Net) (rows : Rows R) (bids : List Bid) (node : List
   term_unique number bid m n (inr a) (inl b) = absurd (not_both number bid n a.0 b.reached)
   term_unique number bid m n (inr a) (inr b) = a.1 ∙ sym b.1
 
-  terms_unique : (terms terms' : List ℤ) (value value' : ℤ) → IsDual net rows bids node prices terms value → IsDual net rows bids node prices terms' value' → terms ≡ terms'
+  pub terms_unique : (terms terms' : List ℤ) (value value' : ℤ) → IsDual net rows bids node prices terms value → IsDual net rows bids node prices terms' value' → terms ≡ terms'
   terms_unique terms terms' value value' a b =
       same_list terms terms' (a.count ∙ sym b.count) (λ k x y at_x at_y.
       let w = within_at terms k x at_x in

@@ -1,5 +1,7 @@
 -- Nodes, which decide legs of bids, and the walks that a node allows.
-use Rattle.std.specs.Prelude.{◌≡◌, ℕ, ◌+◌, ◌≤◌, ◌<◌, length, Bool, true, false, not, ◌&&◌, nat_eq, cond, List, [], All, Contains, sum_by, Option, slice_get, unwrap_or}
+use Rattle.std.specs.Prelude.{◌≡◌, ℕ, ◌+◌, ◌≤◌, ◌<◌, length, Bool, true, false, not, ◌&&◌, nat_eq, cond, List, [], All, Contains, sum_by, Option, Some, None, slice_get, unwrap_or}
+use Rattle.std.specs.declared.cmp.Ordering.{Ordering}
+use Rattle.std.specs.Ordering.{is_gt}
 use Rattle.std.specs.List.{AllPairs, list_any}
 use Rattle.std.specs.Option.{option_map_or}
 use Rattle.optra_network.specs.Net.{Net, IsTrack}
@@ -72,6 +74,10 @@ uses_at rows bids row bid leg = option_map_or (λ b. rows.uses b.path.kind leg r
 abbrev pub yes_load : {R : Type 0} → Rows R → List Bid → List Decision → R → ℕ
 yes_load rows bids node row = sum_by (λ d. cond d.yes (uses_at rows bids row d.bid d.leg) 0) node
 
+-- how much of the row the decided leg uses, where it is yes
+abbrev pub yes_uses : {R : Type 0} → Rows R → List Bid → R → Decision → ℕ
+yes_uses rows bids row d = cond d.yes (uses_at rows bids row d.bid d.leg) 0
+
 -- how much of the row the yes legs of the other bids use
 abbrev pub others_load : {R : Type 0} → Rows R → List Bid → List Decision → ℕ → R → ℕ
 others_load rows bids node bid row = sum_by (λ d. cond (d.yes && not (nat_eq d.bid bid)) (uses_at rows bids row d.bid d.leg) 0) node
@@ -80,6 +86,16 @@ others_load rows bids node bid row = sum_by (λ d. cond (d.yes && not (nat_eq d.
 pub record IsOverfull {R : Type 0} (rows : Rows R) (bids : List Bid) (node : List Decision) (row : R) : Type 0 where
   pub is_row : rows.is_row row ≡ true
   pub above : rows.capacity row < yes_load rows bids node row
+
+-- one of the rows of a kind, below which there is none of that kind
+pub record IsLeast {R : Type 0} (cmp : R → R → Ordering) (P : R → Type 0) (row : R) : Type 0 where
+  pub is_one : P row
+  pub least : (other : R) → P other → is_gt (cmp row other) ≡ false
+
+-- the least row of a kind; none exactly where there is none of that kind
+abbrev pub IsLeastOrNone : {R : Type 0} → (R → R → Ordering) → (R → Type 0) → Option R → Type 0
+IsLeastOrNone {R} cmp P None = (row : R) → P row → ⊥
+IsLeastOrNone {R} cmp P (Some row) = IsLeast cmp P row
 
 -- the leg uses the row, and it and the yes legs of the other bids use more of it than its capacity
 pub record IsBlockedBy {R : Type 0} (rows : Rows R) (bids : List Bid) (node : List Decision) (bid : ℕ) (kind : TypeId) (leg : Leg) (row : R) : Type 0 where

@@ -19,9 +19,13 @@ pub record Lets (net : Net) (kind : TypeId) (d : Decision) (leg : Leg) : Type 0 
   pub yes : d.yes ≡ true → HoldsMinute net kind leg d.leg.depart → leg ≡ d.leg
   pub no : d.yes ≡ false → leg ≡ d.leg → ⊥
 
+-- each decision for the bid lets it have the leg
+abbrev pub IsLetBy : Net → List Decision → ℕ → TypeId → Leg → Type 0
+IsLetBy net node number kind leg = All (λ d. d.bid ≡ number → Lets net kind d leg) node
+
 -- each decision for the bid lets it have the leg, and the leg is not blocked
 pub record IsLegOk {R : Type 0} (net : Net) (rows : Rows R) (bids : List Bid) (node : List Decision) (number : ℕ) (kind : TypeId) (leg : Leg) : Type 0 where
-  pub let_by : All (λ d. d.bid ≡ number → Lets net kind d leg) node
+  pub let_by : IsLetBy net node number kind leg
   pub free : IsBlocked rows bids node number kind leg → ⊥
 
 -- the bid may start at the minute: no yes leg of it departs before

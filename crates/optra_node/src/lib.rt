@@ -9,7 +9,11 @@
 use optra_walk::Leg;
 use std::marker::Model;
 
+mod blocking;
 mod laws;
+mod loads;
+mod nodes;
+mod spans;
 
 pub use laws::{
     bound_holds, dual_laws, prices_by_used_rows, tests_tell_allowed, tree_cover, weak_duality,

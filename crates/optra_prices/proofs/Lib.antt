@@ -1,1 +1,6 @@
 pub mod RepairLemmas
+pub mod ListLemmas
+pub mod PriceListLemmas
+pub mod OneLemmas
+pub mod ValueLemmas
+pub mod ArcLemmas

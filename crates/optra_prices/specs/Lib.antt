@@ -5,3 +5,4 @@ pub mod Paths
 pub mod Deads
 pub mod Laws
 pub mod Repairs
+pub mod Arcs

@@ -1,8 +1,9 @@
 -- Price steps, row by row.
-use Rattle.std.specs.Prelude.{◌≡◌, ℕ, ◌+◌, ◌*◌, Bool, true, List, fold, Option}
+use Rattle.std.specs.Prelude.{◌≡◌, ℕ, ◌+◌, ◌*◌, true, List, fold, Option}
 use Rattle.std.specs.Prelude.{ℤ, pos, ◌+ℤ◌, ◌-ℤ◌, ◌*ℤ◌}
 use Rattle.std.specs.Int.{int_min, int_max, int_div_euclid}
 use Rattle.std.specs.declared.cmp.Ordering.{Ordering}
+use Rattle.std.specs.Ordering.{eq_by_cmp}
 use Rattle.optra_bid.specs.declared.bids.Bid.{Bid}
 use Rattle.optra_walk.specs.declared.Leg.{Leg}
 use Rattle.optra_walk.specs.Families.{Rows, load_of, entries_of}
@@ -35,7 +36,7 @@ abbrev pub reply_load : {R : Type 0} → Rows R → List Bid → List (Option (L
 reply_load rows bids replies row = load_of rows row (entries_of bids replies)
 
 -- proper prices, where each row has its next price by step k
-pub record IsStep {R : Type 0} (cmp : R → R → Ordering) (same : R → R → Bool) (rows : Rows R) (bids : List Bid) (replies : List (Option (List Leg))) (k : ℕ) (old new : PriceList R) : Type 0 where
+pub record IsStep {R : Type 0} (cmp : R → R → Ordering) (rows : Rows R) (bids : List Bid) (replies : List (Option (List Leg))) (k : ℕ) (old new : PriceList R) : Type 0 where
   pub proper : AreProper cmp rows new
   pub each : (row : R) → rows.is_row row ≡ true
-      → price_of same new row ≡ next_price (step_length bids k) (price_of same old row) (reply_load rows bids replies row) (rows.capacity row)
+      → price_of (eq_by_cmp cmp) new row ≡ next_price (step_length bids k) (price_of (eq_by_cmp cmp) old row) (reply_load rows bids replies row) (rows.capacity row)

@@ -8,6 +8,11 @@ use optra_node::Prices;
 use optra_walk::Walk;
 use std::marker::Model;
 
+mod laws;
+mod weighing;
+
+pub use laws::price_laws;
+
 /// The dual value of a node at prices, in thousandths of a cent, with the reply and the term of each bid.
 #[derive(Drop)]
 pub struct Dual {
