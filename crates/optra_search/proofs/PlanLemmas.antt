@@ -54,10 +54,10 @@ choice_formed net proper (bid ∷ bids) (walk ∷ choice) h =
     by None h = tt
     by (Some legs) h = walk_formed net proper bid legs h
 
-module _ {R : Type 0} (cmp : R → R → Ordering) (same : R → R → Bool) (net : Net) (proper : IsProper net) (rows : Rows R) (bids : List Bid) (steps budget : ℕ) (plan : Planned R)
-    (is : IsPlainPlan cmp same net rows bids steps budget plan) where
+module _ {R : Type 0} (cmp : R → R → Ordering) (net : Net) (proper : IsProper net) (rows : Rows R) (bids : List Bid) (steps budget : ℕ) (plan : Planned R)
+    (is : IsPlainPlan cmp net rows bids steps budget plan) where
   sound : IsSound cmp net rows bids budget is.last
-  sound = turns_sound cmp same net proper rows bids steps budget is.last.count (first_state bids) is.last is.turns (first_sound cmp net rows bids budget)
+  sound = turns_sound cmp net proper rows bids steps budget is.last.count (first_state bids) is.last is.turns (first_sound cmp net rows bids budget)
 
   -- what holds of each item at its node, and of each leaf of an open node, holds of the tree
   all_places : (P : List Decision × Item R → Type 0) → All P (places is.last.items) → All (λ w. P (leaf_of w)) is.last.open_nodes → All P (places plan.tree)
@@ -112,7 +112,7 @@ module _ {R : Type 0} (cmp : R → R → Ordering) (same : R → R → Bool) (ne
   revenue_is = is.revenue ∙ ap (revenue_of net bids) (sym is.choice)
 
   -- a plan makes a formed and valid certificate
-  pub certified : (Keeps : List Entry → Type 0) → (FitRows rows (entries_of bids plan.choice) → Keeps (entries_of bids plan.choice)) → IsCertified cmp net rows Keeps bids plan
+  pub certified : (Keeps : List Entry → Type 0) → (IsChoice net bids plan.choice → FitRows rows (entries_of bids plan.choice) → Keeps (entries_of bids plan.choice)) → IsCertified cmp net rows Keeps bids plan
   certified Keeps keep = record {
     formed = record {
       entries = sym (zip_length (λ (bid : Bid) (walk : Option (List Leg)). IfSome walk (IsWalk net bid.path)) bids plan.choice fit.is_choice);
@@ -122,7 +122,7 @@ module _ {R : Type 0} (cmp : R → R → Ordering) (same : R → R → Bool) (ne
     };
     valid = record {
       walks = fit.is_choice;
-      rule = keep fit.fits;
+      rule = keep fit.is_choice fit.fits;
       revenue_is = revenue_is;
       splits = splits;
       dead = dead;

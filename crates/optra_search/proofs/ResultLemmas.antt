@@ -40,8 +40,8 @@ whole_positive (negsuc v) cents p h = omega (arith, ints)
 if_some : {X : Type 0} (P : X → Type 0) (o : Option X) (x : X) → o ≡ Some x → IfSome o P → P x
 if_some P o x e h = subst (λ (p : Option _). IfSome p P) e h
 
-module _ {R : Type 0} (cmp : R → R → Ordering) (same : R → R → Bool) (net : Net) (rows : Rows R) (bids : List Bid) (node : List Decision) (start : PriceList R) (steps : ℕ) (incumbent : ℤ) (result : PathResult R)
-    (is : IsPathResult cmp same net rows bids node start steps incumbent result) where
+module _ {R : Type 0} (cmp : R → R → Ordering) (net : Net) (rows : Rows R) (bids : List Bid) (node : List Decision) (start : PriceList R) (steps : ℕ) (incumbent : ℤ) (result : PathResult R)
+    (is : IsPathResult cmp net rows bids node start steps incumbent result) where
   -- the result has its dual value
   pub result_valued : IsValuation net rows bids node result.prices result.dual
   result_valued =

@@ -181,7 +181,7 @@ more_node net bids node d is l formed fresh = record {
   once = all_pairs_push DecideApart node d is.once (λ k e m. fresh k e m);
 }
 
-module _ {R : Type 0} (cmp : R → R → Ordering) (same : R → R → Bool) (net : Net) (proper_net : IsProper net) (rows : Rows R) (bids : List Bid) (steps : ℕ) where
+module _ {R : Type 0} (cmp : R → R → Ordering) (net : Net) (proper_net : IsProper net) (rows : Rows R) (bids : List Bid) (steps : ℕ) where
   -- a better choice is a choice that fits, and earns no less
   better_fits : (old new best : List (Option (List Leg))) → IsBetter net bids old new best → FitChoice net rows bids old → FitChoice net rows bids new
       → FitChoice net rows bids best × (revenue_of net bids old ≤ℤ revenue_of net bids best)
@@ -189,14 +189,14 @@ module _ {R : Type 0} (cmp : R → R → Ordering) (same : R → R → Bool) (ne
   better_fits old new best (inr p) fit fit' = (subst (FitChoice net rows bids) (sym p.1) fit, (let e = ap (revenue_of net bids) p.1 in omega (arith, ints)))
 
   module _ (first : OpenNode R) (old new : List (Option (List Leg))) (waiting : IsSoundOpen cmp net rows bids first) (earns : pos 0 ≤ℤ revenue_of net bids old) (fit : FitChoice net rows bids old) where
-    priced_step : (item : Item R) (prices : PriceList R) → IsPricedTurn cmp same net rows bids steps first old new item prices → IsSoundStep cmp net rows bids first old new item prices
+    priced_step : (item : Item R) (prices : PriceList R) → IsPricedTurn cmp net rows bids steps first old new item prices → IsSoundStep cmp net rows bids first old new item prices
     priced_step (NoWalk bid) prices turn = absurd turn.item_is
     priced_step (Forced row) prices turn = absurd turn.item_is
     priced_step (Priced listed) prices turn =
         let r = turn.result in
-        let v = result_valued cmp same net rows bids first.node first.start steps (revenue_of net bids old) r turn.is_result in
-        let p = result_proper cmp same net rows bids first.node first.start steps (revenue_of net bids old) r turn.is_result waiting.proper in
-        let z = whole_below r.dual.value (all_bases bids) (result_bases cmp same net rows bids first.node first.start steps (revenue_of net bids old) r turn.is_result) in
+        let v = result_valued cmp net rows bids first.node first.start steps (revenue_of net bids old) r turn.is_result in
+        let p = result_proper cmp net rows bids first.node first.start steps (revenue_of net bids old) r turn.is_result waiting.proper in
+        let z = whole_below r.dual.value (all_bases bids) (result_bases cmp net rows bids first.node first.start steps (revenue_of net bids old) r turn.is_result) in
         let b = better_fits old turn.repaired new turn.better fit (repair_fits net rows bids first.node r.dual turn.repaired turn.is_repaired) in
         let e : listed ≡ r.prices = turn.item_is.1 in
         let own : IsBoundOf net rows bids first.node r.prices (whole_cents r.dual.value) = record { terms = r.dual.terms; value = r.dual.value; dual = v.dual; cents_is = refl } in
@@ -216,8 +216,8 @@ module _ {R : Type 0} (cmp : R → R → Ordering) (same : R → R → Bool) (ne
         }
     priced_step (Split bid leg) prices turn =
         let r = turn.result in
-        let v = result_valued cmp same net rows bids first.node first.start steps (revenue_of net bids old) r turn.is_result in
-        let p = result_proper cmp same net rows bids first.node first.start steps (revenue_of net bids old) r turn.is_result waiting.proper in
+        let v = result_valued cmp net rows bids first.node first.start steps (revenue_of net bids old) r turn.is_result in
+        let p = result_proper cmp net rows bids first.node first.start steps (revenue_of net bids old) r turn.is_result waiting.proper in
         let b = better_fits old turn.repaired new turn.better fit (repair_fits net rows bids first.node r.dual turn.repaired turn.is_repaired) in
         let here = split_allowed net rows bids first.node r.prices r.dual.replies v.replies bid leg turn.item_is.1 in
         let fresh = free_undecided net rows bids first.node bid leg (split_free net rows bids first.node r.dual.replies bid leg turn.item_is.1) here in
@@ -234,7 +234,7 @@ module _ {R : Type 0} (cmp : R → R → Ordering) (same : R → R → Bool) (ne
           bases = λ terms value dual.
               let dual' = subst (λ (ps : PriceList R). IsDual net rows bids (first.node ++ d ∷ []) ps terms value) turn.prices_are dual in
               let l = dual_below net rows bids first.node (d ∷ []) r.prices r.dual.terms terms r.dual.value value v.dual dual' turn.lives.1 positive in
-              let z = result_bases cmp same net rows bids first.node first.start steps (revenue_of net bids old) r turn.is_result in
+              let z = result_bases cmp net rows bids first.node first.start steps (revenue_of net bids old) r turn.is_result in
               omega (arith, ints);
         } in
         record {
@@ -249,7 +249,7 @@ module _ {R : Type 0} (cmp : R → R → Ordering) (same : R → R → Bool) (ne
         }
 
   -- a turn keeps a state sound
-  pub turn_sound : (budget : ℕ) (before after : State R) → IsTurn cmp same net rows bids steps budget before after → IsSound cmp net rows bids budget before → IsSound cmp net rows bids budget after
+  pub turn_sound : (budget : ℕ) (before after : State R) → IsTurn cmp net rows bids steps budget before after → IsSound cmp net rows bids budget before → IsSound cmp net rows bids budget after
   turn_sound budget before after turn s =
       sound_after cmp net rows bids budget before after turn.first turn.rest turn.item turn.prices turn.taken (step turn.becomes) turn.opens turn.items turn.count turn.below s
     where
@@ -257,12 +257,12 @@ module _ {R : Type 0} (cmp : R → R → Ordering) (same : R → R → Bool) (ne
       waiting = all_head (IsSoundOpen cmp net rows bids) turn.first turn.rest (subst (All (IsSoundOpen cmp net rows bids)) turn.taken s.waiting)
 
       step : IsDeadTurn cmp net rows bids turn.first.node before.incumbent after.incumbent turn.item
-          ⊎ IsPricedTurn cmp same net rows bids steps turn.first before.incumbent after.incumbent turn.item turn.prices
+          ⊎ IsPricedTurn cmp net rows bids steps turn.first before.incumbent after.incumbent turn.item turn.prices
           → IsSoundStep cmp net rows bids turn.first before.incumbent after.incumbent turn.item turn.prices
       step (inl d) = dead_step cmp net rows bids turn.first before.incumbent after.incumbent turn.item turn.prices s.choice d
       step (inr p) = priced_step turn.first before.incumbent after.incumbent waiting s.earns s.choice turn.item turn.prices p
 
   -- and so do any number of turns
-  pub turns_sound : (budget n : ℕ) (before after : State R) → Turns cmp same net rows bids steps budget n before after → IsSound cmp net rows bids budget before → IsSound cmp net rows bids budget after
+  pub turns_sound : (budget n : ℕ) (before after : State R) → Turns cmp net rows bids steps budget n before after → IsSound cmp net rows bids budget before → IsSound cmp net rows bids budget after
   turns_sound budget zero before after e s = subst (IsSound cmp net rows bids budget) (sym e) s
   turns_sound budget (suc n) before after (next, turn, rest) s = turns_sound budget n next after rest (turn_sound budget before next turn s)

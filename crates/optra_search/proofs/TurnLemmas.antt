@@ -79,11 +79,11 @@ pub dead_opens : {R : Type 0} (node : List Decision) (reason : Dead R) (item : I
 dead_opens node (DeadForced row) item prices e = ap (λ (i : Item _). opened node i prices) e
 dead_opens node (DeadNoWalk bid) item prices e = ap (λ (i : Item _). opened node i prices) e
 
-module _ {R : Type 0} (cmp : R → R → Ordering) (same : R → R → Bool) (total : IsTotalOrder cmp) (apart : TellsApart cmp) (net : Net) (rows : Rows R) (bids : List Bid) (one : OnePathResult cmp same net rows bids) (steps : ℕ) where
+module _ {R : Type 0} (cmp : R → R → Ordering) (total : IsTotalOrder cmp) (apart : TellsApart cmp) (net : Net) (rows : Rows R) (bids : List Bid) (one : OnePathResult cmp net rows bids) (steps : ℕ) where
   -- what a turn makes of a node
   abbrev Becomes : OpenNode R → List (Option (List Leg)) → List (Option (List Leg)) → Item R → PriceList R → Type 0
   Becomes first old new item prices =
-      IsDeadTurn cmp net rows bids first.node old new item ⊎ IsPricedTurn cmp same net rows bids steps first old new item prices
+      IsDeadTurn cmp net rows bids first.node old new item ⊎ IsPricedTurn cmp net rows bids steps first old new item prices
 
   becomes_unique : (first : OpenNode R) (old new new' : List (Option (List Leg))) (item item' : Item R) (prices prices' : PriceList R)
       → Becomes first old new item prices → Becomes first old new' item' prices'
@@ -116,7 +116,7 @@ module _ {R : Type 0} (cmp : R → R → Ordering) (same : R → R → Bool) (to
       (sym n, i, λ t. opened first.node (i t) (s t))
 
   -- a turn of a state leads to one state
-  pub turn_unique : (budget : ℕ) (before a b : State R) → IsTurn cmp same net rows bids steps budget before a → IsTurn cmp same net rows bids steps budget before b → a ≡ b
+  pub turn_unique : (budget : ℕ) (before a b : State R) → IsTurn cmp net rows bids steps budget before a → IsTurn cmp net rows bids steps budget before b → a ≡ b
   turn_unique budget before a b p q =
       let f : q.first ≡ p.first = heads (sym q.taken ∙ p.taken) in
       let r : q.rest ≡ p.rest = tails (sym q.taken ∙ p.taken) in
@@ -134,7 +134,7 @@ module _ {R : Type 0} (cmp : R → R → Ordering) (same : R → R → Bool) (to
       tails : {x y : OpenNode R} {xs ys : List (OpenNode R)} → x ∷ xs ≡ y ∷ ys → xs ≡ ys
       tails e = cc
 
-  not_over : (budget : ℕ) (before next : State R) → IsTurn cmp same net rows bids steps budget before next → IsOver budget before → ⊥
+  not_over : (budget : ℕ) (before next : State R) → IsTurn cmp net rows bids steps budget before next → IsOver budget before → ⊥
   not_over budget before next turn (inl e) = no (sym turn.taken ∙ e)
     where
       no : {x : OpenNode R} {xs : List (OpenNode R)} → x ∷ xs ≡ [] → ⊥
@@ -142,17 +142,17 @@ module _ {R : Type 0} (cmp : R → R → Ordering) (same : R → R → Bool) (to
   not_over budget before next turn (inr l) = let b = turn.below in omega arith
 
   -- turns lead to one state in which it is over
-  turns_unique : (budget m n : ℕ) (before a b : State R) → Turns cmp same net rows bids steps budget m before a → Turns cmp same net rows bids steps budget n before b
+  turns_unique : (budget m n : ℕ) (before a b : State R) → Turns cmp net rows bids steps budget m before a → Turns cmp net rows bids steps budget n before b
       → IsOver budget a → IsOver budget b → a ≡ b
   turns_unique budget zero zero before a b p q over over' = p ∙ sym q
   turns_unique budget zero (suc n) before a b p (next, turn, q) over over' = absurd (not_over budget before next turn (subst (IsOver budget) p over))
   turns_unique budget (suc m) zero before a b (next, turn, p) q over over' = absurd (not_over budget before next turn (subst (IsOver budget) q over'))
   turns_unique budget (suc m) (suc n) before a b (next, turn, p) (next', turn', q) over over' =
       let e : next' ≡ next = turn_unique budget before next' next turn' turn in
-      turns_unique budget m n next a b p (subst (λ (s : State R). Turns cmp same net rows bids steps budget n s b) e q) over over'
+      turns_unique budget m n next a b p (subst (λ (s : State R). Turns cmp net rows bids steps budget n s b) e q) over over'
 
   -- there is at most one plan
-  pub plan_unique : (budget : ℕ) (a b : Planned R) → IsPlainPlan cmp same net rows bids steps budget a → IsPlainPlan cmp same net rows bids steps budget b → a ≡ b
+  pub plan_unique : (budget : ℕ) (a b : Planned R) → IsPlainPlan cmp net rows bids steps budget a → IsPlainPlan cmp net rows bids steps budget b → a ≡ b
   plan_unique budget a b p q =
       let e : p.last ≡ q.last = turns_unique budget p.last.count q.last.count (first_state bids) p.last q.last p.turns q.turns p.over q.over in
       let c : a.choice ≡ b.choice = p.choice ∙ ap (λ (s : State R). s.incumbent) e ∙ sym q.choice in

@@ -10,23 +10,23 @@ use Rattle.optra_node.specs.Certificates.{IsFormed, IsValid}
 use Rattle.optra_search.specs.Planner.{State, IsTurn, Planned, IsPlainPlan}
 
 -- a turn of a state leads to one state
-abbrev pub OneTurn : {R : Type 0} → (R → R → Ordering) → (R → R → Bool) → Net → Rows R → List Bid → Type 0
-OneTurn {R} cmp same net rows bids =
-    (steps budget : ℕ) (before a b : State R) → IsTurn cmp same net rows bids steps budget before a → IsTurn cmp same net rows bids steps budget before b → a ≡ b
+abbrev pub OneTurn : {R : Type 0} → (R → R → Ordering) → Net → Rows R → List Bid → Type 0
+OneTurn {R} cmp net rows bids =
+    (steps budget : ℕ) (before a b : State R) → IsTurn cmp net rows bids steps budget before a → IsTurn cmp net rows bids steps budget before b → a ≡ b
 
 -- there is at most one plan
-abbrev pub OnePlan : {R : Type 0} → (R → R → Ordering) → (R → R → Bool) → Net → Rows R → List Bid → Type 0
-OnePlan {R} cmp same net rows bids =
-    (steps budget : ℕ) (a b : Planned R) → IsPlainPlan cmp same net rows bids steps budget a → IsPlainPlan cmp same net rows bids steps budget b → a ≡ b
+abbrev pub OnePlan : {R : Type 0} → (R → R → Ordering) → Net → Rows R → List Bid → Type 0
+OnePlan {R} cmp net rows bids =
+    (steps budget : ℕ) (a b : Planned R) → IsPlainPlan cmp net rows bids steps budget a → IsPlainPlan cmp net rows bids steps budget b → a ≡ b
 
 -- what holds of every plan: its choice, revenue, bound and tree make a formed and valid certificate
 pub record IsCertified {R : Type 0} (cmp : R → R → Ordering) (net : Net) (rows : Rows R) (Keeps : List Entry → Type 0) (bids : List Bid) (plan : Planned R) : Type 0 where
   pub formed : IsFormed cmp net (length bids) plan.choice plan.tree
   pub valid : IsValid net rows Keeps bids plan.revenue plan.bound plan.choice plan.tree
 
-abbrev pub PlansAreCertified : {R : Type 0} → (R → R → Ordering) → (R → R → Bool) → Net → Rows R → (List Entry → Type 0) → List Bid → Type 0
-PlansAreCertified {R} cmp same net rows Keeps bids =
-    (steps budget : ℕ) (plan : Planned R) → IsPlainPlan cmp same net rows bids steps budget plan → IsCertified cmp net rows Keeps bids plan
+abbrev pub PlansAreCertified : {R : Type 0} → (R → R → Ordering) → Net → Rows R → (List Entry → Type 0) → List Bid → Type 0
+PlansAreCertified {R} cmp net rows Keeps bids =
+    (steps budget : ℕ) (plan : Planned R) → IsPlainPlan cmp net rows bids steps budget plan → IsCertified cmp net rows Keeps bids plan
 
 -- the numbers of a plan: the revenue is 0 to the bound, which is at most the sum of the bases, and the bound is above
 -- the revenue only where the budget was spent
@@ -36,6 +36,6 @@ pub record HasNumbers {R : Type 0} (bids : List Bid) (budget : ℕ) (plan : Plan
   pub bases : plan.bound ≤ℤ sum_of (λ b. b.money.base) bids
   pub gap : plan.revenue <ℤ plan.bound → plan.nodes ≡ budget
 
-abbrev pub PlansHaveNumbers : {R : Type 0} → (R → R → Ordering) → (R → R → Bool) → Net → Rows R → List Bid → Type 0
-PlansHaveNumbers {R} cmp same net rows bids =
-    (steps budget : ℕ) (plan : Planned R) → IsPlainPlan cmp same net rows bids steps budget plan → HasNumbers bids budget plan
+abbrev pub PlansHaveNumbers : {R : Type 0} → (R → R → Ordering) → Net → Rows R → List Bid → Type 0
+PlansHaveNumbers {R} cmp net rows bids =
+    (steps budget : ℕ) (plan : Planned R) → IsPlainPlan cmp net rows bids steps budget plan → HasNumbers bids budget plan

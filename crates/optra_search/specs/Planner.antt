@@ -64,10 +64,10 @@ pub record IsDeadTurn {R : Type 0} (cmp : R → R → Ordering) (net : Net) (row
 
 -- else the price path runs from the start prices with the incumbent's revenue, repair may better the incumbent, and
 -- the node becomes an item at the result
-pub record IsPricedTurn {R : Type 0} (cmp : R → R → Ordering) (same : R → R → Bool) (net : Net) (rows : Rows R) (bids : List Bid) (steps : ℕ) (first : OpenNode R) (old new : List (Option (List Leg))) (item : Item R) (prices : PriceList R) : Type 0 where
+pub record IsPricedTurn {R : Type 0} (cmp : R → R → Ordering) (net : Net) (rows : Rows R) (bids : List Bid) (steps : ℕ) (first : OpenNode R) (old new : List (Option (List Leg))) (item : Item R) (prices : PriceList R) : Type 0 where
   pub lives : IsDeadAs cmp net rows bids first.node None
   pub result : PathResult R
-  pub is_result : IsPathResult cmp same net rows bids first.node first.start steps (revenue_of net bids old) result
+  pub is_result : IsPathResult cmp net rows bids first.node first.start steps (revenue_of net bids old) result
   pub repaired : List (Option (List Leg))
   pub is_repaired : IsRepair net rows bids first.node result.dual repaired
   pub better : IsBetter net bids old repaired new
@@ -80,7 +80,7 @@ opened node item prices = map (λ child. record { node = child; start = prices }
 
 -- one turn, while a node is open and the count is below the budget: the first open node is taken and counted, it
 -- becomes an item, and the nodes that the item opens are put at the front, the yes child first
-pub record IsTurn {R : Type 0} (cmp : R → R → Ordering) (same : R → R → Bool) (net : Net) (rows : Rows R) (bids : List Bid) (steps budget : ℕ) (before after : State R) : Type 0 where
+pub record IsTurn {R : Type 0} (cmp : R → R → Ordering) (net : Net) (rows : Rows R) (bids : List Bid) (steps budget : ℕ) (before after : State R) : Type 0 where
   pub below : before.count < budget
   pub first : OpenNode R
   pub rest : List (OpenNode R)
@@ -88,16 +88,16 @@ pub record IsTurn {R : Type 0} (cmp : R → R → Ordering) (same : R → R → 
   pub item : Item R
   pub prices : PriceList R
   pub becomes : IsDeadTurn cmp net rows bids first.node before.incumbent after.incumbent item
-      ⊎ IsPricedTurn cmp same net rows bids steps first before.incumbent after.incumbent item prices
+      ⊎ IsPricedTurn cmp net rows bids steps first before.incumbent after.incumbent item prices
   pub opens : after.open_nodes ≡ opened first.node item prices ++ rest
   pub items : after.items ≡ before.items ++ item ∷ []
   pub count : after.count ≡ before.count + 1
 
 -- so many turns lead from one state to another
-abbrev pub Turns : {R : Type 0} → (R → R → Ordering) → (R → R → Bool) → Net → Rows R → List Bid → ℕ → ℕ → ℕ → State R → State R → Type 0
-Turns cmp same net rows bids steps budget zero before after = after ≡ before
-Turns {R} cmp same net rows bids steps budget (suc n) before after =
-    (next : State R) × IsTurn cmp same net rows bids steps budget before next × Turns cmp same net rows bids steps budget n next after
+abbrev pub Turns : {R : Type 0} → (R → R → Ordering) → Net → Rows R → List Bid → ℕ → ℕ → ℕ → State R → State R → Type 0
+Turns cmp net rows bids steps budget zero before after = after ≡ before
+Turns {R} cmp net rows bids steps budget (suc n) before after =
+    (next : State R) × IsTurn cmp net rows bids steps budget before next × Turns cmp net rows bids steps budget n next after
 
 -- no node is open, or the budget is spent
 abbrev pub IsOver : {R : Type 0} → ℕ → State R → Type 0
@@ -117,9 +117,9 @@ pub record Planned (R : Type 0) : Type 0 where
 
 -- the plan of the plain planner: the turns from the first state until it is over; then each open node becomes a priced
 -- leaf with its start prices, and the bound is the greatest of the priced leaves' dual values in whole cents, rounded down
-pub record IsPlainPlan {R : Type 0} (cmp : R → R → Ordering) (same : R → R → Bool) (net : Net) (rows : Rows R) (bids : List Bid) (steps budget : ℕ) (plan : Planned R) : Type 0 where
+pub record IsPlainPlan {R : Type 0} (cmp : R → R → Ordering) (net : Net) (rows : Rows R) (bids : List Bid) (steps budget : ℕ) (plan : Planned R) : Type 0 where
   pub last : State R
-  pub turns : Turns cmp same net rows bids steps budget last.count (first_state bids) last
+  pub turns : Turns cmp net rows bids steps budget last.count (first_state bids) last
   pub over : IsOver budget last
   pub choice : plan.choice ≡ last.incumbent
   pub revenue : plan.revenue ≡ revenue_of net bids last.incumbent
