@@ -60,7 +60,7 @@ same_order {X} Before apart (x ∷ xs) (y ∷ ys) p q f g =
       | inr c' ↦ c'
     ]
 
-taken_apart : (v : Valuation) (a b : ℕ) → IsTakenBefore v a b → IsTakenBefore v b a → ⊥
+pub taken_apart : (v : Valuation) (a b : ℕ) → IsTakenBefore v a b → IsTakenBefore v b a → ⊥
 taken_apart v a b (inl p) (inl q) = omega (arith, ints)
 taken_apart v a b (inl p) (inr (e, l)) = omega (arith, ints)
 taken_apart v a b (inr (e, l)) (inl q) = omega (arith, ints)
@@ -145,12 +145,12 @@ pub empty_fits : {R : Type 0} (rows : Rows R) (bids : List Bid) → FitRows rows
 empty_fits rows bids = subst (FitRows rows) (sym (empty_has_none bids)) (nothing_fits rows)
 
 -- how much of a row a walk uses
-abbrev walk_load : {R : Type 0} → Rows R → R → TypeId → Option (List Leg) → ℕ
+abbrev pub walk_load : {R : Type 0} → Rows R → R → TypeId → Option (List Leg) → ℕ
 walk_load rows row kind None = 0
 walk_load rows row kind (Some legs) = load_of rows row (map (λ leg. (kind, leg)) legs)
 
 module _ {R : Type 0} (rows : Rows R) (row : R) where
-  load-cons : (bid : Bid) (bids : List Bid) (walk : Option (List Leg)) (walks : List (Option (List Leg)))
+  pub load-cons : (bid : Bid) (bids : List Bid) (walk : Option (List Leg)) (walks : List (Option (List Leg)))
       → load_of rows row (entries_of (bid ∷ bids) (walk ∷ walks)) ≡ walk_load rows row bid.path.kind walk + load_of rows row (entries_of bids walks)
   load-cons bid bids None walks = omega arith
   load-cons bid bids (Some legs) walks = sum_by-append (λ (e : Entry). rows.uses e.0 e.1 row) (map (λ leg. (bid.path.kind, leg)) legs) (entries_of bids walks)

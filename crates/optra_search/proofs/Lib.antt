@@ -5,3 +5,5 @@ pub mod PlacedLemmas
 pub mod ResultLemmas
 pub mod SoundLemmas
 pub mod PlanLemmas
+pub mod FixedLemmas
+pub mod SettledLemmas

@@ -65,14 +65,19 @@ module _ {R : Type 0} (cmp : R → R → Ordering) (net : Net) (rows : Rows R) (
           let at' : slice_get is.path (k + 2) ≡ Some result = subst (λ (n : ℕ). slice_get is.path n ≡ Some result) two at in
           (is.is_path.so_far.next_prices k b.0 result b.1 at').proper
 
-  -- its dual value is at most the bases, since the zero prices are a candidate
-  pub result_bases : result.dual.value ≤ℤ (pos 1000 *ℤ sum_of (λ b. b.money.base) bids)
-  result_bases =
+  -- the dual value at zero prices, which the result's is at most
+  pub zero_candidate : (terms : List ℤ) × (value : ℤ) × IsDual {R = R} net rows bids node [] terms value × (result.dual.value ≤ℤ value)
+  zero_candidate =
       let c = some_at is.path 0 (length is.path) refl is.is_path.so_far.some in
       let e : c.0.prices ≡ [] = if_some (λ (c : PathResult R). c.prices ≡ []) (slice_get is.path 0) c.0 c.1 is.is_path.so_far.zero_prices in
       let v : IsValuation net rows bids node c.0.prices c.0.dual =
           All-contains (λ (c : PathResult R). IsValuation net rows bids node c.prices c.dual) is.path c.0 is.is_path.so_far.each (contains_at is.path 0 c.0 c.1) in
-      let d : IsDual {R = R} net rows bids node [] c.0.dual.terms c.0.dual.value = subst (λ (prices : PriceList R). IsDual net rows bids node prices c.0.dual.terms c.0.dual.value) e v.dual in
-      let z = zero_dual net rows bids node c.0.dual.terms c.0.dual.value d in
-      let l = is.is_result.least 0 c.0 c.1 in
+      (c.0.dual.terms, c.0.dual.value, subst (λ (prices : PriceList R). IsDual net rows bids node prices c.0.dual.terms c.0.dual.value) e v.dual, is.is_result.least 0 c.0 c.1)
+
+  -- its dual value is at most the bases, since the zero prices are a candidate
+  pub result_bases : result.dual.value ≤ℤ (pos 1000 *ℤ sum_of (λ b. b.money.base) bids)
+  result_bases =
+      let c = zero_candidate in
+      let z = zero_dual net rows bids node c.0 c.1 c.2 in
+      let l = c.3 in
       omega (arith, ints)
