@@ -7,3 +7,4 @@ pub mod SoundLemmas
 pub mod PlanLemmas
 pub mod FixedLemmas
 pub mod SettledLemmas
+pub mod BudgetLemmas

@@ -147,7 +147,8 @@ module _ {R : Type 0} (cmp : R → R → Ordering) (net : Net) (proper : IsPrope
       (λ w h cents b. subst (λ (c : ℤ). c ≤ℤ all_bases bids) (sym b.cents_is) (whole_below b.value (all_bases bids) (h.bases b.terms b.value b.dual)))
       is.last.open_nodes sound.waiting))
 
-  closed : is.last.open_nodes ≡ [] → plan.bound ≤ℤ plan.revenue
+  -- where no node is open, the bound is at most the revenue
+  pub closed : is.last.open_nodes ≡ [] → plan.bound ≤ℤ plan.revenue
   closed none =
       let revenue = revenue_of net bids is.last.incumbent in
       subst (λ (r : ℤ). plan.bound ≤ℤ r) (sym is.revenue)

@@ -1,9 +1,12 @@
 -- The laws of the plain planner.
-use Rattle.std.specs.Prelude.{◌≡◌, ℕ, Bool, List, length}
+use Rattle.std.specs.Prelude.{◌≡◌, ℕ, ◌+◌, ◌-◌, ◌^◌, ◌≤◌, List, length, Some, slice_get, All, Contains}
 use Rattle.std.specs.Prelude.{ℤ, pos, ◌≤ℤ◌, ◌<ℤ◌}
+use Rattle.std.specs.List.{AllPairs}
 use Rattle.std.specs.declared.cmp.Ordering.{Ordering}
 use Rattle.optra_network.specs.Net.{Net}
 use Rattle.optra_bid.specs.declared.bids.Bid.{Bid}
+use Rattle.optra_walk.specs.declared.Leg.{Leg}
+use Rattle.optra_walk.specs.Walks.{IsWalk}
 use Rattle.optra_walk.specs.Families.{Rows, Entry}
 use Rattle.optra_node.specs.Duals.{sum_of}
 use Rattle.optra_node.specs.Certificates.{IsFormed, IsValid}
@@ -39,3 +42,23 @@ pub record HasNumbers {R : Type 0} (bids : List Bid) (budget : ℕ) (plan : Plan
 abbrev pub PlansHaveNumbers : {R : Type 0} → (R → R → Ordering) → Net → Rows R → List Bid → Type 0
 PlansHaveNumbers {R} cmp net rows bids =
     (steps budget : ℕ) (plan : Planned R) → IsPlainPlan cmp net rows bids steps budget plan → HasNumbers bids budget plan
+
+-- the leg is one of a walk of the bid
+pub record IsPair (net : Net) (bids : List Bid) (pair : ℕ × Leg) : Type 0 where
+  pub bid : Bid
+  pub at : slice_get bids pair.0 ≡ Some bid
+  pub legs : List Leg
+  pub walk : IsWalk net bid.path legs
+  pub has : Contains legs pair.1
+
+-- the different pairs of a bid and a leg of one of its walks
+pub record ArePairs (net : Net) (bids : List Bid) (pairs : List (ℕ × Leg)) : Type 0 where
+  pub each : All (IsPair net bids) pairs
+  pub whole : (pair : ℕ × Leg) → IsPair net bids pair → Contains pairs pair
+  pub once : AllPairs (λ a b. a ≡ b → ⊥) pairs
+
+-- with so many pairs, a budget that is one less than 2 to the power of their number and one suffices: the bound is the revenue
+abbrev pub SufficientBudget : {R : Type 0} → (R → R → Ordering) → Net → Rows R → List Bid → Type 0
+SufficientBudget {R} cmp net rows bids =
+    (steps budget : ℕ) (plan : Planned R) (pairs : List (ℕ × Leg)) → ArePairs net bids pairs → 2 ^ (length pairs + 1) - 1 ≤ budget
+    → IsPlainPlan cmp net rows bids steps budget plan → plan.bound ≡ plan.revenue

@@ -3,6 +3,7 @@ use Rattle.optra_walk.proofs.UsableLemmas.{choice_usable}
 use Rattle.optra_search.specs.Planner.{Planned}
 use Rattle.optra_search.proofs.TurnLemmas.{turn_unique, plan_unique}
 use Rattle.optra_search.proofs.PlanLemmas.{certified, numbered}
+use Rattle.optra_search.proofs.BudgetLemmas.{enough}
 use Rattle.optra_search.proofs.laws.plan_laws.Goals as goal
 
 pub returns : goal.returns
@@ -22,4 +23,5 @@ returns g c =
           certified cmp net proper rows bids steps budget plan is (g.F.RowFamily.KeepsRule c.args.rows.now net)
           (λ choice fits. (g.met.F.RowFamily.rule_by_rows c.args.rows.now net (entries_of bids plan.choice) proper (choice_usable net proper bids plan.choice choice)).1 fits);
       numbers = λ steps budget plan is. numbered cmp net proper rows bids steps budget plan is;
+      sufficient = λ steps budget plan pairs are much is. enough cmp net proper rows bids steps budget pairs are.whole plan much is;
     }
