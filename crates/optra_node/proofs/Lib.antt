@@ -10,3 +10,4 @@ pub mod PriceLemmas
 pub mod UniqueLemmas
 pub mod RowLemmas
 pub mod LeastLemmas
+pub mod NodeLemmas

@@ -86,7 +86,7 @@ no_child : (walks : List (Option (List Leg))) (node : List Decision) (bid : ℕ)
 no_child walks node bid leg of has = All-push (λ (d : Decision). Follows (legs_at walks d.bid) d) node (decide_not bid leg) of (record { yes = λ e. cc; no = λ e. has })
 
 -- and both decide each pair once
-once_more : (node : List Decision) (d : Decision) → DecidesOnce node → IsUndecided node d.bid d.leg → DecidesOnce (node ++ d ∷ [])
+pub once_more : (node : List Decision) (d : Decision) → DecidesOnce node → IsUndecided node d.bid d.leg → DecidesOnce (node ++ d ∷ [])
 once_more node d once fresh = all_pairs_push DecideApart node d once (λ k e l. fresh k e l)
 
 -- an open node that the choice is of

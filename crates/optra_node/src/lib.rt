@@ -14,10 +14,13 @@ mod laws;
 mod loads;
 mod nodes;
 mod spans;
+#[cfg(test)]
+mod tests;
 
 pub use laws::{
     bound_holds, dual_laws, prices_by_used_rows, tests_tell_allowed, tree_cover, weak_duality,
 };
+pub use nodes::is_formed_leg;
 
 /// Whether a bid's walk has a leg: a yes leg is in the walk, a no leg is not.
 #[derive(Clone, Copy, Debug, PartialEq, Eq)]

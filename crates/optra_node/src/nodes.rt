@@ -1,17 +1,47 @@
 //! What a node allows.
 ghost use Rattle.std.specs.Prelude.{◌≡◌, ◌<◌, ◌↔◌, ◌++◌, ◌∷◌, [], IsTrue, IfOk, length, ℕ};
-ghost use Rattle.optra_node.specs.Nodes.{IsNode, IsFormedLeg, DecidesOnce, IsUndecided, kind_at, IsOverfull, IsBlocked, IsLeastOrNone};
+ghost use Rattle.optra_node.specs.Nodes.{IsNode, IsFormedLeg, IsFormedDecision, IsUndecided, kind_at, IsOverfull, IsBlocked, IsLeastOrNone};
+ghost use Rattle.optra_network.specs.Net.{Net};
+ghost use Rattle.optra_walk.specs.Legs.{dwell_of};
 ghost use Rattle.optra_node.specs.Spans.{IsLegOk, IsStartOk};
 
 use crate::blocking::{is_blocked, least_overfull};
 use crate::loads::kind_at;
-use crate::spans::{let_by, start_ok};
+use crate::spans::{is_undecided, let_by, start_ok};
 use crate::{Decision, Node};
-use optra_network::{Minute, NoMemory};
-use optra_walk::{Instance, Leg, RowFamily};
+use optra_network::{Minute, Network, NoMemory};
+use optra_walk::{Action, Instance, Leg, RowFamily};
 use std::alloc::Global;
 
+/// Whether the leg is one that may be decided: its track is one of the network, it departs by minute 2,879, and its dwell
+/// is at most 240 minutes. The calls of a node need legs of which this holds.
+pub fn is_formed_leg(net: &Network, leg: Leg) -> bool
+    ensures { IsTrue result ↔ IsFormedLeg net.now leg }
+{
+    leg.track.0 < net.track_count() && leg.depart <= 2879 && dwell(leg.action) <= 240
+}
+
+/// The minutes that the train stands at the head of the track.
+fn dwell(action: Action) -> u16
+    ensures { result ≡ dwell_of action }
+{
+    match action {
+        Action::Halt(dwell) | Action::Wait(dwell) => dwell,
+        Action::Pass | Action::Finish => 0,
+    }
+}
+
 impl Node {
+    /// The root of the search: the node without decisions.
+    pub fn root(alloc: Global) -> Node
+        ensures value { result ≡ [] }
+        ensures node { (net : Net) (bids : ℕ) → IsNode net bids result }
+    {
+        Node {
+            decisions: Vec::new(alloc),
+        }
+    }
+
     /// Whether a walk of the bid may have the leg: each decision for the bid lets it have the leg, and the leg is not
     /// blocked. A no leg is refused itself. A yes leg that departs at a minute refuses each other leg whose span holds
     /// that minute; a span runs from the departure up to, but not including, the next departure, and that of Finish has
@@ -58,11 +88,19 @@ impl Node {
         least_overfull(inst, rows, &self.decisions)
     }
 
-    /// The node with one more decision, of a leg that is not decided yet for its bid. `NoMemory` is its only refusal.
+    /// Whether the leg is not decided yet for the bid.
+    pub fn is_undecided(&self, bid: u32, leg: Leg) -> bool
+        ensures { IsTrue result ↔ IsUndecided self.now bid leg }
+    {
+        is_undecided(&self.decisions, bid, leg)
+    }
+
+    /// The node with one more decision, of a leg that is not decided yet for its bid. It is a node of the same bids where
+    /// this one is, and the decision is of one of them and of a formed leg. `NoMemory` is its only refusal.
     pub fn child(&self, alloc: Global, decision: Decision) -> Result<Node, NoMemory>
         requires { IsUndecided self.now decision.bid decision.leg }
         ensures value { IfOk result (λ child. child ≡ self.now ++ decision ∷ []) }
-        ensures once { DecidesOnce self.now → IfOk result (λ child. DecidesOnce child) }
+        ensures node { (net : Net) (bids : ℕ) → IsNode net bids self.now → IsFormedDecision net bids decision → IfOk result (IsNode net bids) }
     {
         let mut decisions = Vec::with_capacity(alloc, self.decisions.len() + 1)?;
         decisions.extend_from_slice(&self.decisions)?;

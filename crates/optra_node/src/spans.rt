@@ -4,6 +4,7 @@
 //! The spans of a walk tile the time from its first departure on, so a walk has a yes leg exactly where it starts no later
 //! than that leg departs, and no other leg of it has a span that holds that minute.
 ghost use Rattle.std.specs.Prelude.{◌≡◌, ℕ, ◌≤◌, ◌<◌, ◌↔◌, IsTrue, IfSome, All, true};
+ghost use Rattle.optra_node.specs.Nodes.{IsUndecided};
 ghost use Rattle.optra_node.specs.Spans.{HoldsMinute, Lets, IsLetBy, IsStartOk};
 
 use crate::Decision;
@@ -43,6 +44,18 @@ fn agrees(net: &Network, kind: TypeId, decision: Decision, bid: u32, leg: Leg) -
     ensures { IsTrue result ↔ (decision.bid ≡ bid → Lets net.now kind decision leg) }
 {
     decision.bid != bid || lets(net, kind, decision, leg)
+}
+
+/// Whether no decision is of the leg for the bid.
+pub(crate) fn is_undecided(decisions: &[Decision], bid: u32, leg: Leg) -> bool
+    ensures { IsTrue result ↔ IsUndecided decisions.now bid leg }
+{
+    for decision in decisions {
+        if decision.bid == bid && decision.leg == leg {
+            return false;
+        }
+    }
+    true
 }
 
 /// Whether each decision for the bid lets its walk have the leg.
