@@ -1,3 +1,4 @@
+pub mod EarnLemmas
 pub mod FirstLemmas
 pub mod SplitLemmas
 pub mod TurnLemmas

@@ -6,6 +6,7 @@ use optra_node::Item;
 use optra_walk::Choice;
 use std::marker::Model;
 
+mod earning;
 mod laws;
 
 pub use laws::plan_laws;
