@@ -9,3 +9,4 @@ pub mod PlanLemmas
 pub mod FixedLemmas
 pub mod SettledLemmas
 pub mod BudgetLemmas
+pub mod MarkLemmas

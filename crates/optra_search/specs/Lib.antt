@@ -2,3 +2,4 @@
 pub mod Splits
 pub mod Planner
 pub mod Laws
+pub mod Marks

@@ -7,6 +7,8 @@ use optra_walk::Choice;
 use std::marker::Model;
 
 mod earning;
+mod fixing;
+mod freeing;
 mod laws;
 
 pub use laws::plan_laws;
