@@ -1,12 +1,15 @@
 -- What a search over marked arcs finds is the freest allowed walk.
-use Rattle.std.proofs.Common.{◌≡◌, ℕ, zero, suc, ◌+◌, ◌-◌, ◌≤◌, ◌<◌, Bool, true, false, not, cond, List, [], ◌∷◌, map, length, get_or, Option, None, Some, IsSome, IsSomeAnd, slice_get, sum_by, refl, sym, ap, ◌∙◌, subst, arith, inl, inr}
+use Rattle.std.proofs.Common.{◌≡◌, ℕ, zero, suc, ◌+◌, ◌-◌, ◌≤◌, ◌<◌, Bool, true, false, not, cond, List, [], ◌∷◌, ◌++◌, map, length, get_or, Option, None, Some, IsSome, IsSomeAnd, slice_get, sum_by, refl, sym, ap, ◌∙◌, subst, arith, inl, inr}
 use Rattle.std.specs.Prelude.{All, Contains, ◌⊎◌, ◌↔◌, nat_lt, ℤ, pos, ◌+ℤ◌, ◌-ℤ◌, ◌≤ℤ◌}
 use Rattle.std.specs.Option.{option_map_or}
 use Rattle.std.specs.Ordering.{is_gt}
 use Rattle.std.proofs.lemmas.Int.{ints}
 use Rattle.std.proofs.lemmas.Option.{slice_get_past}
 use Rattle.std.proofs.lemmas.Bool.Decides.{nat_tests}
+use Rattle.std.proofs.lemmas.List.{length-append}
 use Rattle.std.proofs.lemmas.List.Sums.{sum_by-cons}
+use Rattle.std.proofs.Math.ListN.{get_or-append}
+use Rattle.std.proofs.Math.Seq.{get_or-append_seam}
 use Rattle.std.proofs.lemmas.List.Elements.{All-head, All-tail, All-nil, All-cons, All-contains}
 use Rattle.optra_network.specs.Net.{Net, IsProper}
 use Rattle.optra_network.proofs.HeadwayLemmas.{below_types}
@@ -28,8 +31,9 @@ use Rattle.optra_prices.specs.Arcs.{start_value, leg_value, AreWeighed}
 use Rattle.optra_prices.proofs.ArcLemmas.{path_allowed, allowed_path}
 use Rattle.optra_prices.proofs.RepairLemmas.{some_is}
 use Rattle.optra_search.specs.declared.freeing.ArcMark.{ArcMark}
-use Rattle.optra_search.specs.Splits.{is_fixed, free_count, IsFreest}
-use Rattle.optra_search.specs.Marks.{mark_at, allows_at, weight_at, IsMarkOf, AreMarked}
+use Rattle.optra_search.specs.Splits.{is_fixed, IsFree, free_count, HoldsOfNone, IsFreest, IsSettled, IsFreestLeg}
+use Rattle.optra_search.proofs.FirstLemmas.{compare}
+use Rattle.optra_search.specs.Marks.{no_mark, mark_at, allows_at, weight_at, IsMarkOf, AreMarked, IsFreestOrNone, IsFirstFreeOrNone, IsFreeLegOrNone, IsBestWalkOrNone}
 
 leg_there : (t : Timed) (k : ℕ) → IsSome (leg_of t k) → leg_of t k ≡ Some (leg_at t k)
 leg_there t k h = grind (arith, h)
@@ -47,6 +51,25 @@ no_start t k leg e = by (nat_lt k (length t.minutes)) refl
       where
         inside : {x y : Leg} → Some x ≡ Some y → x ≡ y
         inside e = cc
+
+-- one more mark
+pub one_mark : {R : Type 0} (net : Net) (rows : Rows R) (bids : List Bid) (node : List Decision) (number : ℕ) (t : Timed) (n : ℕ) (marks : List ArcMark) (mark : ArcMark)
+    → AreMarked net rows bids node number t n marks → IsMarkOf net rows bids node number t n mark → AreMarked net rows bids node number t (n + 1) (marks ++ mark ∷ [])
+one_mark net rows bids node number t n marks mark are is = record {
+  count = let l = length-append marks (mark ∷ []) in let c = are.count in omega arith;
+  each = λ k l. by k (compare k n) l;
+}
+  where
+    by : (k : ℕ) → (k < n) ⊎ ((k ≡ n) ⊎ (n < k)) → k < n + 1 → IsMarkOf net rows bids node number t k (mark_at (marks ++ mark ∷ []) k)
+    by k (inl l) m =
+        let c = are.count in
+        subst (IsMarkOf net rows bids node number t k) (sym (get_or-append marks (mark ∷ []) no_mark k (omega arith))) (are.each k l)
+    by k (inr (inl e)) m =
+        let c = are.count in
+        let at : k ≡ length marks = omega arith in
+        let last : mark_at (marks ++ mark ∷ []) k ≡ mark = ap (λ (j : ℕ). get_or (marks ++ mark ∷ []) j no_mark) at ∙ get_or-append_seam marks mark [] no_mark in
+        subst (λ (m : ArcMark). IsMarkOf net rows bids node number t k m) (sym last) (subst (λ (j : ℕ). IsMarkOf net rows bids node number t j mark) (sym e) is)
+    by k (inr (inr l)) m = absurd (omega arith)
 
 -- the mark of an arc of a leg
 pub leg_mark : {R : Type 0} (net : Net) (rows : Rows R) (bids : List Bid) (node : List Decision) (number : ℕ) (t : Timed) (k : ℕ) (leg : Leg) (allowed free : Bool) → leg_of t k ≡ Some leg
@@ -67,6 +90,22 @@ some_there P xs k h = by (slice_get xs k) refl h
     by : (o : Option _) → slice_get xs k ≡ o → IsSomeAnd o P → (x : _) × (slice_get xs k ≡ Some x) × P x
     by None e h = absurd h
     by (Some x) e h = (x, e, h)
+
+-- a path of allowed arcs is a route
+pub path_route : (t : Timed) (allows : ℕ → Bool) (arcs : List ℕ) → IsPath t.dag allows arcs → IsRoute t arcs
+path_route t allows arcs path = record { some = path.some; leads = leads 0 arcs path.leads }
+  where
+    leads : (n : ℕ) (arcs : List ℕ) → LeadsToEnd t.dag allows n arcs → LeadsToEnd t.dag (λ _. true) n arcs
+    leads n [] h = h
+    leads n (k ∷ arcs) h = (h.0, refl, h.2, leads (to_of t.dag k) arcs h.3)
+
+-- what the answer of a search says of the path that it gives
+pub best_of : (t : Timed) (dag : Graph) (marks : List ArcMark) (total : ℤ) (arcs : List ℕ) → dag ≡ t.dag → IsFirstBest dag (allows_at marks) (weight_at marks) total arcs
+    → IsFirstBest t.dag (allows_at marks) (weight_at marks) total arcs
+best_of t dag marks total arcs e best = subst (λ (g : Graph). IsFirstBest g (allows_at marks) (weight_at marks) total arcs) e best
+
+pub none_of : (t : Timed) (dag : Graph) (marks : List ArcMark) → dag ≡ t.dag → ((arcs : List ℕ) → IsPath dag (allows_at marks) arcs → ⊥) → (arcs : List ℕ) → IsPath t.dag (allows_at marks) arcs → ⊥
+none_of t dag marks e none = subst (λ (g : Graph). (arcs : List ℕ) → IsPath g (allows_at marks) arcs → ⊥) e none
 
 module _ {R : Type 0} (net : Net) (proper : IsProper net) (rows : Rows R) (bids : List Bid) (number : ℕ) (bid : Bid) (at : slice_get bids number ≡ Some bid) (t : Timed) (is_graph : IsGraphOf net bid.path t) where
   -- each arc's leg is one of a walk, so it is formed
@@ -137,21 +176,10 @@ module _ {R : Type 0} (net : Net) (proper : IsProper net) (rows : Rows R) (bids 
         let i = legs_free arcs begins.1 (All-tail (λ k. k < length t.dag.arcs) k arcs within) in
         omega (arith, ints)
 
-    path_route : (arcs : List ℕ) → IsPath t.dag (allows_at marks) arcs → IsRoute t arcs
-    path_route arcs path = record { some = path.some; leads = leads 0 arcs path.leads }
-      where
-        leads : (n : ℕ) (arcs : List ℕ) → LeadsToEnd t.dag (allows_at marks) n arcs → LeadsToEnd t.dag (λ _. true) n arcs
-        leads n [] h = h
-        leads n (k ∷ arcs) h = (h.0, refl, h.2, leads (to_of t.dag k) arcs h.3)
-
-    -- a path of allowed arcs is a route
-    pub best_route : (arcs : List ℕ) (total : ℤ) → IsFirstBest t.dag (allows_at marks) (weight_at marks) total arcs → IsRoute t arcs
-    best_route arcs total best = path_route arcs best.path
-
     -- the first best path is the freest walk
     pub best_freest : (arcs : List ℕ) (total : ℤ) → IsFirstBest t.dag (allows_at marks) (weight_at marks) total arcs → IsFreest net rows bids node number bid (walk_of t arcs)
     best_freest arcs total best =
-        let route = path_route arcs best.path in
+        let route = path_route t (allows_at marks) arcs best.path in
         let own = sym best.sum ∙ route_free arcs route in
         record {
           allowed = path_allowed net proper rows bids law node [] number bid t is_graph (allows_at marks) priced weighed arcs best.path;
@@ -174,3 +202,91 @@ module _ {R : Type 0} (net : Net) (proper : IsProper net) (rows : Rows R) (bids 
     none_freest none legs allowed =
         let p = allowed_path net proper rows bids law node [] number bid t is_graph (allows_at marks) priced weighed legs allowed in
         none p.0 p.1
+
+-- what is true of the element that is there
+pub some_back : {X : Type 0} (P : X → Type 0) (o : Option X) (x : X) → o ≡ Some x → P x → IsSomeAnd o P
+some_back P o x e h = subst (λ (p : Option _). IsSomeAnd p P) (sym e) h
+
+module _ {R : Type 0} (net : Net) (proper : IsProper net) (rows : Rows R) (bids : List Bid) (number : ℕ) (t : Timed) (there : IsSomeAnd (slice_get bids number) (λ b. IsGraphOf net b.path t)) (node : List Decision) where
+  graph_bid : (bid : Bid) × (slice_get bids number ≡ Some bid) × IsGraphOf net bid.path t
+  graph_bid = some_there (λ (b : Bid). IsGraphOf net b.path t) bids number there
+
+  module _ (law : TestsTellAllowed net rows bids) (marks : List ArcMark) (are : AreMarked net rows bids node number t (length t.dag.arcs) marks) where
+    -- what the first best path means
+    pub finds_freest : (walk : Option (List Leg)) → IsBestWalkOrNone t marks walk → IsSomeAnd (slice_get bids number) (λ b. IsFreestOrNone net rows bids node number b walk)
+    finds_freest None none =
+        let b = graph_bid in
+        some_back (λ (b : Bid). IsFreestOrNone net rows bids node number b None) (slice_get bids number) b.0 b.1 (none_freest net proper rows bids number b.0 b.1 t b.2 law node marks are none)
+    finds_freest (Some legs) (arcs, total, best, e) =
+        let b = graph_bid in
+        some_back (λ (b : Bid). IsFreestOrNone net rows bids node number b (Some legs)) (slice_get bids number) b.0 b.1
+        (subst (IsFreest net rows bids node number b.0) (sym e) (best_freest net proper rows bids number b.0 b.1 t b.2 law node marks are arcs total best))
+
+-- where no walk is allowed, the bid is settled; where each leg of the freest walk is fixed, it is too
+pub settled_none : {R : Type 0} (net : Net) (rows : Rows R) (bids : List Bid) (node : List Decision) (number : ℕ) → IsSomeAnd (slice_get bids number) (λ b. IsFreestOrNone net rows bids node number b None)
+    → IsSomeAnd (slice_get bids number) (λ b. IsFreeLegOrNone net rows bids node number b None)
+settled_none net rows bids node number h = by (slice_get bids number) h
+  where
+    by : (o : Option Bid) → IsSomeAnd o (λ b. IsFreestOrNone net rows bids node number b None) → IsSomeAnd o (λ b. IsFreeLegOrNone net rows bids node number b None)
+    by None h = h
+    by (Some b) h = λ legs allowed. absurd (h legs allowed)
+
+abbrev counts_free : List Decision → ℕ → Leg → ℕ
+counts_free node number leg = cond (not (is_fixed node number leg)) 1 0
+
+none_free : (node : List Decision) (number : ℕ) (legs : List Leg) → free_count node number legs ≡ 0 → HoldsOfNone (IsFree node number) legs
+none_free node number [] e = All-nil (λ leg. IsFree node number leg → ⊥)
+none_free node number (leg ∷ legs) e =
+    let s = sum_by-cons (λ (leg : Leg). cond (not (is_fixed node number leg)) 1 0) leg legs in
+    All-cons (λ leg. IsFree node number leg → ⊥) leg legs
+    (λ f. let c : counts_free node number leg ≡ 1 = ap (λ (b : Bool). cond {A = ℕ} (not b) 1 0) f in absurd (omega (arith, c)))
+    (none_free node number legs (omega arith))
+
+free_none : (node : List Decision) (number : ℕ) (legs : List Leg) → HoldsOfNone (IsFree node number) legs → free_count node number legs ≡ 0
+free_none node number [] h = refl
+free_none node number (leg ∷ legs) h =
+    let s = sum_by-cons (λ (leg : Leg). cond (not (is_fixed node number leg)) 1 0) leg legs in
+    let i = free_none node number legs (All-tail (λ leg. IsFree node number leg → ⊥) leg legs h) in
+    let f : counts_free node number leg ≡ 0 = by (is_fixed node number leg) refl in
+    omega arith
+  where
+    by : (b : Bool) → is_fixed node number leg ≡ b → counts_free node number leg ≡ 0
+    by true e = ap (λ (b : Bool). cond {A = ℕ} (not b) 1 0) e
+    by false e = absurd (All-head (λ leg. IsFree node number leg → ⊥) leg legs h e)
+
+-- what the first free leg of the freest walk means
+pub free_leg_of : {R : Type 0} (net : Net) (rows : Rows R) (bids : List Bid) (node : List Decision) (number : ℕ) (legs : List Leg) (leg : Option Leg)
+    → IsSomeAnd (slice_get bids number) (λ b. IsFreestOrNone net rows bids node number b (Some legs)) → IsFirstFreeOrNone node number legs leg
+    → IsSomeAnd (slice_get bids number) (λ b. IsFreeLegOrNone net rows bids node number b leg)
+free_leg_of net rows bids node number legs leg h first = by (slice_get bids number) leg h first
+  where
+    by : (o : Option Bid) (leg : Option Leg) → IsSomeAnd o (λ b. IsFreestOrNone net rows bids node number b (Some legs)) → IsFirstFreeOrNone node number legs leg → IsSomeAnd o (λ b. IsFreeLegOrNone net rows bids node number b leg)
+    by None leg h first = h
+    by (Some b) (Some leg) h first = (legs, h, first)
+    by (Some b) None h first = λ other allowed.
+        let z = free_none node number legs first in
+        let m = h.most other allowed in
+        none_free node number other (omega arith)
+
+-- the leg of the bid that comes after bids that are settled
+pub first_bid_leg : {R : Type 0} (net : Net) (rows : Rows R) (bids : List Bid) (node : List Decision) (number : ℕ) (leg : Leg)
+    → ((n : ℕ) (b : Bid) → n < number → slice_get bids n ≡ Some b → IsSettled net rows bids node n b)
+    → IsSomeAnd (slice_get bids number) (λ b. IsFreeLegOrNone net rows bids node number b (Some leg)) → IsFreestLeg net rows bids node number leg
+first_bid_leg net rows bids node number leg before h =
+    let b = some_there (λ (b : Bid). IsFreeLegOrNone net rows bids node number b (Some leg)) bids number h in
+    record { bid = b.0; at = b.1; legs = b.2.0; freest = b.2.1; is = b.2.2; earlier = before }
+
+-- one more bid is settled
+pub one_settled : {R : Type 0} (net : Net) (rows : Rows R) (bids : List Bid) (node : List Decision) (number : ℕ)
+    → ((n : ℕ) (b : Bid) → n < number → slice_get bids n ≡ Some b → IsSettled net rows bids node n b)
+    → IsSomeAnd (slice_get bids number) (λ b. IsFreeLegOrNone net rows bids node number b None)
+    → (n : ℕ) (b : Bid) → n < number + 1 → slice_get bids n ≡ Some b → IsSettled net rows bids node n b
+one_settled net rows bids node number before h n b l at = by (compare n number)
+  where
+    by : (n < number) ⊎ ((n ≡ number) ⊎ (number < n)) → IsSettled net rows bids node n b
+    by (inl m) = before n b m at
+    by (inr (inr m)) = absurd (omega arith)
+    by (inr (inl e)) =
+        let c = some_there (λ (b : Bid). IsFreeLegOrNone net rows bids node number b None) bids number h in
+        let same : c.0 ≡ b = some_is c.1 (subst (λ (m : ℕ). slice_get bids m ≡ Some b) e at) in
+        subst (λ (m : ℕ). IsSettled net rows bids node m b) (sym e) (subst (λ (x : Bid). IsSettled net rows bids node number x) same c.2)

@@ -1,15 +1,17 @@
 -- The arcs of a bid's graph: which may be taken at a node, and which have a leg that is not fixed.
-use Rattle.std.specs.Prelude.{◌≡◌, ℕ, ◌<◌, ◌↔◌, Bool, true, false, not, cond, List, length, Some, slice_index_or, ℤ, pos}
+use Rattle.std.specs.Prelude.{◌≡◌, ℕ, ◌<◌, ◌↔◌, Bool, true, false, not, cond, List, length, Option, None, Some, slice_get, slice_index_or, ℤ, pos}
 use Rattle.optra_network.specs.Net.{Net}
 use Rattle.optra_bid.specs.declared.bids.Bid.{Bid}
 use Rattle.optra_walk.specs.declared.Leg.{Leg}
 use Rattle.optra_walk.specs.Families.{Rows}
-use Rattle.optra_graph.specs.Timed.{Timed, leg_of, start_of}
+use Rattle.optra_dag.specs.Paths.{IsPath, IsFirstBest}
+use Rattle.optra_graph.specs.Timed.{Timed, leg_of, start_of, walk_of}
 use Rattle.optra_node.specs.declared.Decision.{Decision}
 use Rattle.optra_node.specs.Nodes.{kind_at}
 use Rattle.optra_node.specs.Spans.{IsLegOk, IsStartOk}
 use Rattle.optra_search.specs.declared.freeing.ArcMark.{ArcMark}
-use Rattle.optra_search.specs.Splits.{is_fixed}
+use Rattle.optra_prices.specs.Replies.{AllowsNone}
+use Rattle.optra_search.specs.Splits.{is_fixed, IsFree, IsFirst, HoldsOfNone, IsFreest, IsSettled, IsFreestLeg}
 
 -- past the last arc
 abbrev pub no_mark : ArcMark
@@ -37,3 +39,32 @@ pub record IsMarkOf {R : Type 0} (net : Net) (rows : Rows R) (bids : List Bid) (
 pub record AreMarked {R : Type 0} (net : Net) (rows : Rows R) (bids : List Bid) (node : List Decision) (number : ℕ) (t : Timed) (arcs : ℕ) (marks : List ArcMark) : Type 0 where
   pub count : length marks ≡ arcs
   pub each : (k : ℕ) → k < arcs → IsMarkOf net rows bids node number t k (mark_at marks k)
+
+-- the freest walk of the bid; none where no walk is allowed
+abbrev pub IsFreestOrNone : {R : Type 0} → Net → Rows R → List Bid → List Decision → ℕ → Bid → Option (List Leg) → Type 0
+IsFreestOrNone net rows bids node number bid None = AllowsNone net rows bids node number bid
+IsFreestOrNone net rows bids node number bid (Some legs) = IsFreest net rows bids node number bid legs
+
+-- the first of the legs that is not fixed; none where each is
+abbrev pub IsFirstFreeOrNone : List Decision → ℕ → List Leg → Option Leg → Type 0
+IsFirstFreeOrNone node number legs None = HoldsOfNone (IsFree node number) legs
+IsFirstFreeOrNone node number legs (Some leg) = IsFirst (IsFree node number) legs leg
+
+-- the first leg that is not fixed of the bid's freest walk; none where no allowed walk has such a leg
+abbrev pub IsFreeLegOrNone : {R : Type 0} → Net → Rows R → List Bid → List Decision → ℕ → Bid → Option Leg → Type 0
+IsFreeLegOrNone net rows bids node number bid None = IsSettled net rows bids node number bid
+IsFreeLegOrNone net rows bids node number bid (Some leg) = (legs : List Leg) × IsFreest net rows bids node number bid legs × IsFirst (IsFree node number) legs leg
+
+-- no allowed walk of any bid has a leg that is not fixed
+abbrev pub AreSettled : {R : Type 0} → Net → Rows R → List Bid → List Decision → Type 0
+AreSettled net rows bids node = (number : ℕ) (bid : Bid) → slice_get bids number ≡ Some bid → IsSettled net rows bids node number bid
+
+-- the leg of the first bid that has one; none where all bids are settled
+abbrev pub IsFreestLegOrNone : {R : Type 0} → Net → Rows R → List Bid → List Decision → Option (ℕ × Leg) → Type 0
+IsFreestLegOrNone net rows bids node None = AreSettled net rows bids node
+IsFreestLegOrNone net rows bids node (Some found) = IsFreestLeg net rows bids node found.0 found.1
+
+-- the walk of the first best path of allowed arcs; none where there is no such path
+abbrev pub IsBestWalkOrNone : Timed → List ArcMark → Option (List Leg) → Type 0
+IsBestWalkOrNone t marks None = (arcs : List ℕ) → IsPath t.dag (allows_at marks) arcs → ⊥
+IsBestWalkOrNone t marks (Some legs) = (arcs : List ℕ) × (total : ℤ) × IsFirstBest t.dag (allows_at marks) (weight_at marks) total arcs × (legs ≡ walk_of t arcs)
