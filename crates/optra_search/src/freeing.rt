@@ -159,10 +159,10 @@ fn free_leg<F: RowFamily>(
     requires graph { IsSomeAnd (slice_get inst.bids.now bid) (λ b. IsGraphOf inst.net.now b.path graph.now) }
     ensures { IfOk result (λ leg. IsSomeAnd (slice_get inst.entry.bids.now bid) (λ b. IsFreeLegOrNone inst.entry.net.now (F.rows_of rows.now inst.entry.net.now) inst.entry.bids.now node.now bid b leg)) }
 {
-    let Some(walk) = freest(alloc, inst, rows, node, bid, graph)? else {
-        return Ok(None);
-    };
-    Ok(first_free(node, bid, &walk.legs))
+    match freest(alloc, inst, rows, node, bid, graph)? {
+        Some(walk) => Ok(first_free(node, bid, &walk.legs)),
+        None => Ok(None),
+    }
 }
 
 /// For the first bid that has an allowed walk with a leg that is not fixed, its number and the first such leg of its
@@ -182,8 +182,9 @@ pub(crate) fn freest_leg<F: RowFamily, G: Graphs>(
 {
     for (number, bid) in inst.bids.iter().enumerate() {
         let number = number as u32;
-        if let Some(leg) = free_leg(alloc, inst, rows, node, number, graphs.graph(bid))? {
-            return Ok(Some((number, leg)));
+        match free_leg(alloc, inst, rows, node, number, graphs.graph(bid))? {
+            Some(leg) => return Ok(Some((number, leg))),
+            None => continue,
         }
     }
     Ok(None)
