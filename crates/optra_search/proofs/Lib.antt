@@ -10,3 +10,5 @@ pub mod FixedLemmas
 pub mod SettledLemmas
 pub mod BudgetLemmas
 pub mod MarkLemmas
+pub mod ReplyLemmas
+pub mod CrowdLemmas

@@ -31,9 +31,9 @@ use Rattle.optra_prices.specs.Arcs.{start_value, leg_value, AreWeighed}
 use Rattle.optra_prices.proofs.ArcLemmas.{path_allowed, allowed_path}
 use Rattle.optra_prices.proofs.RepairLemmas.{some_is}
 use Rattle.optra_search.specs.declared.freeing.ArcMark.{ArcMark}
-use Rattle.optra_search.specs.Splits.{is_fixed, IsFree, free_count, HoldsOfNone, IsFreest, IsSettled, IsFreestLeg}
+use Rattle.optra_search.specs.Splits.{is_fixed, IsFree, free_count, HoldsOfNone, IsFirstOrNone, IsFreest, IsSettled, IsFreestLeg}
 use Rattle.optra_search.proofs.FirstLemmas.{compare}
-use Rattle.optra_search.specs.Marks.{no_mark, mark_at, allows_at, weight_at, IsMarkOf, AreMarked, IsFreestOrNone, IsFirstFreeOrNone, IsFreeLegOrNone, IsBestWalkOrNone}
+use Rattle.optra_search.specs.Marks.{no_mark, mark_at, allows_at, weight_at, IsMarkOf, AreMarked, IsFreestOrNone, IsFreeLegOrNone, IsBestWalkOrNone}
 
 leg_there : (t : Timed) (k : ℕ) → IsSome (leg_of t k) → leg_of t k ≡ Some (leg_at t k)
 leg_there t k h = grind (arith, h)
@@ -256,11 +256,11 @@ free_none node number (leg ∷ legs) h =
 
 -- what the first free leg of the freest walk means
 pub free_leg_of : {R : Type 0} (net : Net) (rows : Rows R) (bids : List Bid) (node : List Decision) (number : ℕ) (legs : List Leg) (leg : Option Leg)
-    → IsSomeAnd (slice_get bids number) (λ b. IsFreestOrNone net rows bids node number b (Some legs)) → IsFirstFreeOrNone node number legs leg
+    → IsSomeAnd (slice_get bids number) (λ b. IsFreestOrNone net rows bids node number b (Some legs)) → IsFirstOrNone (IsFree node number) legs leg
     → IsSomeAnd (slice_get bids number) (λ b. IsFreeLegOrNone net rows bids node number b leg)
 free_leg_of net rows bids node number legs leg h first = by (slice_get bids number) leg h first
   where
-    by : (o : Option Bid) (leg : Option Leg) → IsSomeAnd o (λ b. IsFreestOrNone net rows bids node number b (Some legs)) → IsFirstFreeOrNone node number legs leg → IsSomeAnd o (λ b. IsFreeLegOrNone net rows bids node number b leg)
+    by : (o : Option Bid) (leg : Option Leg) → IsSomeAnd o (λ b. IsFreestOrNone net rows bids node number b (Some legs)) → IsFirstOrNone (IsFree node number) legs leg → IsSomeAnd o (λ b. IsFreeLegOrNone net rows bids node number b leg)
     by None leg h first = h
     by (Some b) (Some leg) h first = (legs, h, first)
     by (Some b) None h first = λ other allowed.

@@ -1,6 +1,7 @@
 -- The arcs of a bid's graph: which may be taken at a node, and which have a leg that is not fixed.
-use Rattle.std.specs.Prelude.{◌≡◌, ℕ, ◌<◌, ◌↔◌, Bool, true, false, not, cond, List, length, Option, None, Some, slice_get, slice_index_or, ℤ, pos}
+use Rattle.std.specs.Prelude.{◌≡◌, ℕ, ◌<◌, ◌↔◌, Bool, true, false, not, cond, List, length, Option, None, Some, slice_get, slice_index_or, All, Contains, ℤ, pos}
 use Rattle.optra_network.specs.Net.{Net}
+use Rattle.optra_network.specs.declared.TypeId.{TypeId}
 use Rattle.optra_bid.specs.declared.bids.Bid.{Bid}
 use Rattle.optra_walk.specs.declared.Leg.{Leg}
 use Rattle.optra_walk.specs.Families.{Rows}
@@ -9,9 +10,11 @@ use Rattle.optra_graph.specs.Timed.{Timed, leg_of, start_of, walk_of}
 use Rattle.optra_node.specs.declared.Decision.{Decision}
 use Rattle.optra_node.specs.Nodes.{kind_at}
 use Rattle.optra_node.specs.Spans.{IsLegOk, IsStartOk}
+use Rattle.optra_node.specs.Duals.{PriceList}
 use Rattle.optra_search.specs.declared.freeing.ArcMark.{ArcMark}
 use Rattle.optra_prices.specs.Replies.{AllowsNone}
-use Rattle.optra_search.specs.Splits.{is_fixed, IsFree, IsFirst, HoldsOfNone, IsFreest, IsSettled, IsFreestLeg}
+use Rattle.optra_prices.specs.Steps.{reply_load}
+use Rattle.optra_search.specs.Splits.{is_fixed, IsFree, IsFirst, IsFreest, IsSettled, IsFreestLeg, IsSplitLeg}
 
 -- past the last arc
 abbrev pub no_mark : ArcMark
@@ -45,11 +48,6 @@ abbrev pub IsFreestOrNone : {R : Type 0} → Net → Rows R → List Bid → Lis
 IsFreestOrNone net rows bids node number bid None = AllowsNone net rows bids node number bid
 IsFreestOrNone net rows bids node number bid (Some legs) = IsFreest net rows bids node number bid legs
 
--- the first of the legs that is not fixed; none where each is
-abbrev pub IsFirstFreeOrNone : List Decision → ℕ → List Leg → Option Leg → Type 0
-IsFirstFreeOrNone node number legs None = HoldsOfNone (IsFree node number) legs
-IsFirstFreeOrNone node number legs (Some leg) = IsFirst (IsFree node number) legs leg
-
 -- the first leg that is not fixed of the bid's freest walk; none where no allowed walk has such a leg
 abbrev pub IsFreeLegOrNone : {R : Type 0} → Net → Rows R → List Bid → List Decision → ℕ → Bid → Option Leg → Type 0
 IsFreeLegOrNone net rows bids node number bid None = IsSettled net rows bids node number bid
@@ -68,3 +66,21 @@ IsFreestLegOrNone net rows bids node (Some found) = IsFreestLeg net rows bids no
 abbrev pub IsBestWalkOrNone : Timed → List ArcMark → Option (List Leg) → Type 0
 IsBestWalkOrNone t marks None = (arcs : List ℕ) → IsPath t.dag (allows_at marks) arcs → ⊥
 IsBestWalkOrNone t marks (Some legs) = (arcs : List ℕ) × (total : ℤ) × IsFirstBest t.dag (allows_at marks) (weight_at marks) total arcs × (legs ≡ walk_of t arcs)
+
+-- the split leg; none where all bids are settled
+abbrev pub IsSplitLegOrNone : {R : Type 0} → Net → Rows R → List Bid → List Decision → List (Option (List Leg)) → Option (ℕ × Leg) → Type 0
+IsSplitLegOrNone net rows bids node replies None = AreSettled net rows bids node
+IsSplitLegOrNone net rows bids node replies (Some found) = IsSplitLeg net rows bids node replies found.0 found.1
+
+-- a row is listed exactly where the replies use more of it than its capacity
+pub record AreOverfilled {R : Type 0} (rows : Rows R) (bids : List Bid) (replies : List (Option (List Leg))) (listed : PriceList R) : Type 0 where
+  pub sound : All (λ e. (rows.is_row e.0 ≡ true) × (rows.capacity e.0 < reply_load rows bids replies e.0)) listed
+  pub whole : (row : R) → rows.is_row row ≡ true → rows.capacity row < reply_load rows bids replies row → (price : ℤ) × Contains listed (row, price)
+
+-- the leg of the type uses one of the rows that are listed
+abbrev pub UsesOne : {R : Type 0} → Rows R → TypeId → Leg → PriceList R → Type 0
+UsesOne {R} rows kind leg listed = (row : R) × (price : ℤ) × Contains listed (row, price) × (0 < rows.uses kind leg row)
+
+-- a leg that is not fixed and uses one of the rows that are listed
+abbrev pub IsCrowding : {R : Type 0} → Rows R → List Bid → List Decision → PriceList R → ℕ × Leg → Type 0
+IsCrowding rows bids node listed entry = IsFree node entry.0 entry.1 × UsesOne rows (kind_at bids entry.0) entry.1 listed

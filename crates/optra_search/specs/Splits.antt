@@ -38,6 +38,11 @@ pub record IsFirst {X : Type 0} (P : X → Type 0) (xs : List X) (x : X) : Type 
 abbrev pub HoldsOfNone : {X : Type 0} → (X → Type 0) → List X → Type 0
 HoldsOfNone P xs = All (λ x. P x → ⊥) xs
 
+-- the first element of which it holds; none where it holds of no element
+abbrev pub IsFirstOrNone : {X : Type 0} → (X → Type 0) → List X → Option X → Type 0
+IsFirstOrNone P xs None = HoldsOfNone P xs
+IsFirstOrNone P xs (Some x) = IsFirst P xs x
+
 -- the legs of the replies from this bid on, by bid and then along the reply, each with its bid
 abbrev pub legs_from : ℕ → List (Option (List Leg)) → List (ℕ × Leg)
 legs_from number [] = []

@@ -3,7 +3,8 @@ ghost use Rattle.std.specs.Prelude.{◌≡◌, ◌≤◌, ◌<◌, slice_get, le
 ghost use Rattle.optra_bid.specs.Instances.{IsInstance};
 ghost use Rattle.optra_graph.specs.Timed.{IsGraphOf};
 ghost use Rattle.optra_node.specs.Nodes.{IsNode};
-ghost use Rattle.optra_search.specs.Marks.{IsMarkOf, AreMarked, IsFreestOrNone, IsFirstFreeOrNone, IsFreeLegOrNone, IsFreestLegOrNone, IsBestWalkOrNone};
+ghost use Rattle.optra_search.specs.Splits.{IsFree, IsFirstOrNone};
+ghost use Rattle.optra_search.specs.Marks.{IsMarkOf, AreMarked, IsFreestOrNone, IsFreeLegOrNone, IsFreestLegOrNone, IsBestWalkOrNone};
 
 use crate::fixing::is_fixed;
 use optra_dag::{Weight, first_best};
@@ -28,7 +29,8 @@ pub(crate) struct Marks<'a> {
 
 impl Weight for Marks<'_> {
     ghost use Rattle.std.specs.Prelude.{length};
-    ghost use Rattle.optra_search.specs.Marks.{allows_at, weight_at};
+    ghost use Rattle.optra_search.specs.Splits.{IsFree, IsFirstOrNone};
+ghost use Rattle.optra_search.specs.Marks.{allows_at, weight_at};
 
     ghost asked = { λ w. length w.marks.now };
 
@@ -135,8 +137,8 @@ fn freest<F: RowFamily>(
 }
 
 /// The first of the bid's legs that is not fixed.
-fn first_free(node: &Node, bid: u32, legs: &[Leg]) -> Option<Leg>
-    ensures { IsFirstFreeOrNone node.now bid legs.now result }
+pub(crate) fn first_free(node: &Node, bid: u32, legs: &[Leg]) -> Option<Leg>
+    ensures { IsFirstOrNone (IsFree node.now bid) legs.now result }
 {
     for leg in legs {
         if !is_fixed(node, bid, *leg) {

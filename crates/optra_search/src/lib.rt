@@ -10,6 +10,7 @@ mod earning;
 mod fixing;
 mod freeing;
 mod laws;
+mod splitting;
 
 pub use laws::plan_laws;
 
