@@ -1,7 +1,7 @@
 -- The first element of a list of which something holds.
-use Rattle.std.proofs.Common.{◌≡◌, ℕ, zero, suc, ◌<◌, List, [], ◌∷◌, get_or, Option, Some, slice_get, refl, sym, ap, ◌∙◌, subst, arith, inl, inr}
+use Rattle.std.proofs.Common.{◌≡◌, ℕ, zero, suc, ◌<◌, List, [], ◌∷◌, length, get_or, Option, Some, slice_get, refl, sym, ap, ◌∙◌, subst, arith, inl, inr}
 use Rattle.std.specs.Prelude.{All, Contains, ◌⊎◌}
-use Rattle.std.proofs.lemmas.Option.{get_or_from_slice_get, slice_get_within}
+use Rattle.std.proofs.lemmas.Option.{get_or_from_slice_get, slice_get_within, slice_get-get_or}
 use Rattle.std.proofs.lemmas.List.Elements.{All-contains}
 use Rattle.optra_prices.proofs.RepairLemmas.{some_is}
 use Rattle.optra_search.specs.Splits.{IsFirst, HoldsOfNone}
@@ -35,3 +35,12 @@ first_unique P xs a b p q = by (compare p.place q.place)
     by (inl l) = absurd (q.first p.place a l p.at p.is)
     by (inr (inl e)) = some_is (subst (λ (n : ℕ). slice_get xs n ≡ Some a) e p.at) q.at
     by (inr (inr l)) = absurd (p.first q.place b l q.at q.is)
+
+-- an element of which it holds, where it holds of none before
+pub first_reached : {X : Type 0} (P : X → Type 0) (xs : List X) (n : ℕ) (d : X) → n < length xs → ((k : ℕ) (e : X) → k < n → P (get_or xs k e) → ⊥) → P (get_or xs n d) → IsFirst P xs (get_or xs n d)
+first_reached P xs n d l none p = record {
+  place = n;
+  at = slice_get-get_or xs n d l;
+  is = p;
+  first = λ k earlier m e q. none k earlier m (subst P (sym (get_or_from_slice_get xs k earlier earlier e)) q);
+}

@@ -12,3 +12,4 @@ pub mod BudgetLemmas
 pub mod MarkLemmas
 pub mod ReplyLemmas
 pub mod CrowdLemmas
+pub mod WaitingLemmas

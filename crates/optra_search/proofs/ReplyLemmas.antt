@@ -3,6 +3,19 @@ use Rattle.std.proofs.Common.{◌≡◌, ℕ, zero, suc, ◌+◌, ◌-◌, ◌�
 use Rattle.std.specs.Prelude.{All, Contains, ◌↔◌}
 use Rattle.std.proofs.lemmas.Option.{slice_get_within}
 use Rattle.std.proofs.lemmas.List.Elements.{All-nil, All-append, All-map}
+use Rattle.std.specs.Prelude.{IfSome}
+use Rattle.std.specs.Option.{option_map_or}
+use Rattle.std.proofs.lemmas.Option.{get_or_from_slice_get}
+use Rattle.optra_network.specs.Net.{Net, IsProper}
+use Rattle.optra_network.specs.declared.TypeId.{TypeId}
+use Rattle.optra_bid.specs.declared.bids.Bid.{Bid}
+use Rattle.optra_walk.specs.Walks.{IsWalk}
+use Rattle.optra_walk.specs.Choices.{IsChoice}
+use Rattle.optra_walk.specs.Families.{IsUsable}
+use Rattle.optra_walk.proofs.UsableLemmas.{walk_usable}
+use Rattle.optra_node.specs.Nodes.{kind_at}
+use Rattle.optra_node.proofs.ChildLemmas.{some_at}
+use Rattle.optra_search.proofs.EarnLemmas.{choice_long, choice_at}
 use Rattle.optra_walk.specs.declared.Leg.{Leg}
 use Rattle.optra_search.proofs.FirstLemmas.{contains_at}
 use Rattle.optra_search.specs.Splits.{IsFirst, HoldsOfNone, IsFirstOrNone, legs_from, reply_legs}
@@ -141,7 +154,19 @@ module _ (P : ℕ × Leg → Type 0) where
   none_in_reply number None none = All-nil (λ e. P e → ⊥)
   none_in_reply number (Some legs) none = none_in_walk number legs none
 
-refl_at : {X : Type 0} (xs : List X) (k : ℕ) (d : X) → k < length xs → get_or xs k (get_or xs k d) ≡ get_or xs k d
+module _ (P : ℕ × Leg → Type 0) (replies : List (Option (List Leg))) (i : ℕ) (reply : Option (List Leg)) (l : i < length replies) (at : reply ≡ get_or replies i reply)
+    (so_far : (answer : Option (ℕ × Leg)) → IsFirstOrNone P (legs_from i (drop i replies)) answer → IsFirstOrNone P (reply_legs replies) answer) where
+  -- the leg that is found in this reply is the answer
+  pub reply_hit : (leg : Leg) → IsFirst (λ leg. P (i, leg)) (unwrap_or reply []) leg → IsFirst P (reply_legs replies) (i, leg)
+  reply_hit leg is =
+      so_far (Some (i, leg)) (this_reply P replies i reply (i, leg) l (subst (λ (w : Option (List Leg)). IsFirst P (legs_of i w) (i, leg)) at (first_in_reply P i reply leg is)))
+
+  -- where none is found in this reply, the answer for the rest is the answer
+  pub reply_miss : HoldsOfNone (λ leg. P (i, leg)) (unwrap_or reply []) → (answer : Option (ℕ × Leg)) → IsFirstOrNone P (legs_from (i + 1) (drop (i + 1) replies)) answer → IsFirstOrNone P (reply_legs replies) answer
+  reply_miss none answer rest =
+      so_far answer (next_reply P replies i reply answer l (subst (λ (w : Option (List Leg)). HoldsOfNone P (legs_of i w)) at (none_in_reply P i reply none)) rest)
+
+pub refl_at : {X : Type 0} (xs : List X) (k : ℕ) (d : X) → k < length xs → get_or xs k (get_or xs k d) ≡ get_or xs k d
 refl_at [] k d l = absurd (omega arith)
 refl_at (x ∷ xs) zero d l = refl
 refl_at (x ∷ xs) (suc k) d l = refl_at xs k d (omega arith)
@@ -158,3 +183,18 @@ first_alike P Q xs (Some x) alike is = record {
   is = (alike x (contains_at xs is.place x is.at)).0 is.is;
   first = λ k earlier l e q. is.first k earlier l e ((alike earlier (contains_at xs k earlier e)).1 q);
 }
+
+-- the legs of a reply are usable by the bid's type
+pub reply_usable : (net : Net) → IsProper net → (bids : List Bid) (replies : List (Option (List Leg))) (i : ℕ) (reply : Option (List Leg)) → IsChoice net bids replies → i < length replies → reply ≡ get_or replies i reply
+    → All (IsUsable net (kind_at bids i)) (unwrap_or reply [])
+reply_usable net proper bids replies i reply choice l at =
+    let long = choice_long net bids replies choice in
+    let b = some_at bids i (length bids) refl (omega arith) in
+    let is : b.0 ≡ get_or bids i b.0 = sym (get_or_from_slice_get bids i b.0 b.0 b.1) in
+    let walk = choice_at net bids replies i b.0 reply choice (omega arith) is at in
+    let kind : kind_at bids i ≡ b.0.path.kind = ap (λ (o : Option Bid). option_map_or (λ b. b.path.kind) o (record { 0 = 0 })) b.1 in
+    subst (λ (k : TypeId). All (IsUsable net k) (unwrap_or reply [])) (sym kind) (by b.0 reply walk)
+  where
+    by : (b : Bid) (reply : Option (List Leg)) → IfSome reply (IsWalk net b.path) → All (IsUsable net b.path.kind) (unwrap_or reply [])
+    by b None walk = All-nil (IsUsable net b.path.kind)
+    by b (Some legs) walk = walk_usable net proper b legs walk

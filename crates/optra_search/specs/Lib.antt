@@ -3,3 +3,4 @@ pub mod Splits
 pub mod Planner
 pub mod Laws
 pub mod Marks
+pub mod Openings

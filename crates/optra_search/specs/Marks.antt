@@ -1,5 +1,5 @@
 -- The arcs of a bid's graph: which may be taken at a node, and which have a leg that is not fixed.
-use Rattle.std.specs.Prelude.{◌≡◌, ℕ, ◌<◌, ◌↔◌, Bool, true, false, not, cond, List, length, Option, None, Some, slice_get, slice_index_or, All, Contains, ℤ, pos}
+use Rattle.std.specs.Prelude.{◌≡◌, ◌⊎◌, ℕ, ◌<◌, ◌↔◌, Bool, true, false, not, cond, List, length, Option, None, Some, slice_get, slice_index_or, All, Contains, ℤ, pos}
 use Rattle.optra_network.specs.Net.{Net}
 use Rattle.optra_network.specs.declared.TypeId.{TypeId}
 use Rattle.optra_bid.specs.declared.bids.Bid.{Bid}
@@ -14,7 +14,7 @@ use Rattle.optra_node.specs.Duals.{PriceList}
 use Rattle.optra_search.specs.declared.freeing.ArcMark.{ArcMark}
 use Rattle.optra_prices.specs.Replies.{AllowsNone}
 use Rattle.optra_prices.specs.Steps.{reply_load}
-use Rattle.optra_search.specs.Splits.{is_fixed, IsFree, IsFirst, IsFreest, IsSettled, IsFreestLeg, IsSplitLeg}
+use Rattle.optra_search.specs.Splits.{is_fixed, IsFree, IsFreeLeg, reply_legs, HoldsOfNone, IsFirst, IsFreest, IsSettled, IsFreestLeg, IsSplitLeg}
 
 -- past the last arc
 abbrev pub no_mark : ArcMark
@@ -71,6 +71,12 @@ IsBestWalkOrNone t marks (Some legs) = (arcs : List ℕ) × (total : ℤ) × IsF
 abbrev pub IsSplitLegOrNone : {R : Type 0} → Net → Rows R → List Bid → List Decision → List (Option (List Leg)) → Option (ℕ × Leg) → Type 0
 IsSplitLegOrNone net rows bids node replies None = AreSettled net rows bids node
 IsSplitLegOrNone net rows bids node replies (Some found) = IsSplitLeg net rows bids node replies found.0 found.1
+
+-- the split leg where no leg of a reply that is not fixed uses an overfilled row; none where all bids are settled
+abbrev pub IsFreeSplitOrNone : {R : Type 0} → Net → Rows R → List Bid → List Decision → List (Option (List Leg)) → Option (ℕ × Leg) → Type 0
+IsFreeSplitOrNone net rows bids node replies None = AreSettled net rows bids node
+IsFreeSplitOrNone net rows bids node replies (Some found) =
+    IsFirst (IsFreeLeg node) (reply_legs replies) found ⊎ (HoldsOfNone (IsFreeLeg node) (reply_legs replies) × IsFreestLeg net rows bids node found.0 found.1)
 
 -- a row is listed exactly where the replies use more of it than its capacity
 pub record AreOverfilled {R : Type 0} (rows : Rows R) (bids : List Bid) (replies : List (Option (List Leg))) (listed : PriceList R) : Type 0 where

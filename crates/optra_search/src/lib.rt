@@ -10,9 +10,12 @@ mod earning;
 mod fixing;
 mod freeing;
 mod laws;
+mod repairing;
 mod splitting;
+mod waiting;
 
 pub use laws::plan_laws;
+pub use repairing::Repairer;
 
 /// How far a plan goes.
 #[derive(Clone, Copy, Debug, PartialEq, Eq)]
