@@ -73,11 +73,12 @@ pair_of d = (d.bid, d.leg)
 
 pairs_differ : (node : List Decision) → DecidesOnce node → Differ (map pair_of node)
 pairs_differ [] once = tt
-pairs_differ (d ∷ node) once =
-    ((λ c.
+pairs_differ (d ∷ node) once = (
+  (λ c.
       let t = in_map pair_of node (pair_of d) c in
       All-contains (DecideApart d) node t.0 (pairs_head DecideApart d node once) t.1 (ap (λ (p : ℕ × Leg). p.0) (sym t.2)) (ap (λ (p : ℕ × Leg). p.1) (sym t.2))),
-    pairs_differ node (pairs_tail DecideApart d node once))
+  pairs_differ node (pairs_tail DecideApart d node once),
+)
 
 module _ {R : Type 0} (cmp : R → R → Ordering) (net : Net) (proper : IsProper net) (rows : Rows R) (bids : List Bid) (steps budget : ℕ) (pairs : List (ℕ × Leg))
     (whole : (pair : ℕ × Leg) → IsPair net bids pair → Contains pairs pair) where
@@ -138,11 +139,10 @@ module _ {R : Type 0} (cmp : R → R → Ordering) (net : Net) (proper : IsPrope
       let n : length pairs - length first.node ≡ suc (length pairs - length first.node - 1) = omega arith in
       let w : full (length pairs - length first.node) ≡ full (length pairs - length first.node - 1) + full (length pairs - length first.node - 1) + 1 = ap full n ∙ full_more (length pairs - length first.node - 1) in
       let y : full (length pairs - length yes_child.node) ≡ full (length pairs - length first.node - 1) = ap full (omega arith) in
-      let z : full (length pairs - length no_child.node) ≡ full (length pairs - length first.node - 1) = ap full (omega arith) in
-      (
+      let z : full (length pairs - length no_child.node) ≡ full (length pairs - length first.node - 1) = ap full (omega arith) in (
         omega arith,
         All-cons DecidesPairs yes_child (no_child ∷ []) (All-push (λ (d : Decision). Contains pairs (pair_of d)) first.node (decide bid leg) are in_pairs)
-        (All-cons DecidesPairs no_child [] (All-push (λ (d : Decision). Contains pairs (pair_of d)) first.node (decide_not bid leg) are in_pairs) (All-nil DecidesPairs)),
+            (All-cons DecidesPairs no_child [] (All-push (λ (d : Decision). Contains pairs (pair_of d)) first.node (decide_not bid leg) are in_pairs) (All-nil DecidesPairs)),
       )
 
   turn_budgeted : (before after : State R) → IsTurn cmp net rows bids steps budget before after → IsSound cmp net rows bids budget before → IsBudgeted before → IsBudgeted after

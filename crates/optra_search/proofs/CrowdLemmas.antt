@@ -34,10 +34,13 @@ use Rattle.optra_search.specs.Marks.{AreOverfilled, UsesOne, IsCrowding, IsFrees
 -- where none of the rows is used
 pub none_used : {R : Type 0} (rows : Rows R) (kind : TypeId) (leg : Leg) (listed : PriceList R) (n : ℕ) → ((k : ℕ) (d : R × ℤ) → k < n → rows.uses kind leg (get_or listed k d).0 ≡ 0) → length listed ≤ n
     → IsTrue false ↔ UsesOne rows kind leg listed
-none_used rows kind leg listed n none l = ((λ e. absurd (clash e)), λ (row, price, c, used).
-    let z = none c.0 (row, price) (omega (arith, c.1)) in
-    let e = ap (λ (p : _ × ℤ). rows.uses kind leg p.0) c.2 in
-    absurd (omega arith))
+none_used rows kind leg listed n none l = (
+  (λ e. absurd (clash e)),
+  λ (row, price, c, used).
+      let z = none c.0 (row, price) (omega (arith, c.1)) in
+      let e = ap (λ (p : _ × ℤ). rows.uses kind leg p.0) c.2 in
+      absurd (omega arith),
+)
   where
     clash : false ≡ true → ⊥
     clash e = cc
@@ -153,20 +156,20 @@ module _ {R : Type 0} (rows : Rows R) (bids : List Bid) (node : List Decision) (
   pub crowding_is : (number : ℕ) (bid : Bid) (leg : Leg) → slice_get bids number ≡ Some bid → IsCrowding rows bids node listed (number, leg) ↔ IsCrowdedLeg rows bids node replies (number, leg)
   crowding_is number bid leg at = (
     (λ (free, one).
-      let row = one.0 in
-      let price = one.1 in
-      let c = one.2 in
-      let used = one.3 in
-      let s = All-contains (λ (e : R × ℤ). (rows.is_row e.0 ≡ true) × (rows.capacity e.0 < reply_load rows bids replies e.0)) listed (row, price) are.sound c in
-      let u = uses_is number bid leg row at in
-      (free, (row, record { is_row = s.0; used = omega arith; above = s.1 }))),
+        let row = one.0 in
+        let price = one.1 in
+        let c = one.2 in
+        let used = one.3 in
+        let s = All-contains (λ (e : R × ℤ). (rows.is_row e.0 ≡ true) × (rows.capacity e.0 < reply_load rows bids replies e.0)) listed (row, price) are.sound c in
+        let u = uses_is number bid leg row at in
+        (free, (row, record { is_row = s.0; used = omega arith; above = s.1 }))),
     (λ (free, one).
-      let row = one.0 in
-      let crowd = one.1 in
-      let w = are.whole row crowd.is_row crowd.above in
-      let u = uses_is number bid leg row at in
-      let p = crowd.used in
-      (free, (row, w.0, w.1, omega arith))),
+        let row = one.0 in
+        let crowd = one.1 in
+        let w = are.whole row crowd.is_row crowd.above in
+        let u = uses_is number bid leg row at in
+        let p = crowd.used in
+        (free, (row, w.0, w.1, omega arith))),
   )
 
 module _ {R : Type 0} (net : Net) (rows : Rows R) (bids : List Bid) (node : List Decision) (replies : List (Option (List Leg))) (choice : IsChoice net bids replies) (listed : PriceList R) (are : AreOverfilled rows bids replies listed) where

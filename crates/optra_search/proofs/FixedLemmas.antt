@@ -109,11 +109,10 @@ differ-map g one (x ∷ xs) d =
 
 pub differ-append : {X : Type 0} (xs ys : List X) → Differ xs → Differ ys → ((x : X) → Contains xs x → Contains ys x → ⊥) → Differ (xs ++ ys)
 differ-append [] ys d e apart = e
-differ-append (x ∷ xs) ys d e apart =
-    (
-      (λ c. elim (Contains-append_cases xs ys x c) as (λ _. ⊥) [ inl h ↦ d.0 h | inr h ↦ apart x (contains_head x xs x refl) h ]),
-      differ-append xs ys d.1 e (λ z c c'. apart z (contains_later x xs z c) c'),
-    )
+differ-append (x ∷ xs) ys d e apart = (
+  (λ c. elim (Contains-append_cases xs ys x c) as (λ _. ⊥) [ inl h ↦ d.0 h | inr h ↦ apart x (contains_head x xs x refl) h ]),
+  differ-append xs ys d.1 e (λ z c c'. apart z (contains_later x xs z c) c'),
+)
 
 -- legs that differ and are all decided yes come to no more than the yes legs
 pub within_decided : (f : ℕ × Leg → ℕ) (all : List (ℕ × Leg)) (node : List Decision) → Differ all → ((number : ℕ) (leg : Leg) → Contains all (number, leg) → Contains node (decide number leg))
@@ -123,8 +122,8 @@ within_decided f (e ∷ all) node differ has =
     let g : Decision → ℕ = λ d. cond d.yes (f (d.bid, d.leg)) 0 in
     let t = take_out g node (decide e.0 e.1) (has e.0 e.1 (contains_head e all e refl)) in
     let i = within_decided f all t.0 differ.1 (λ number leg c. t.1.others (decide number leg)
-        (λ same. differ.0 (subst (Contains all) (λ j. ((sym same j).bid, (sym same j).leg)) c))
-        (has number leg (contains_later e all (number, leg) c))) in
+    (λ same. differ.0 (subst (Contains all) (λ j. ((sym same j).bid, (sym same j).leg)) c))
+    (has number leg (contains_later e all (number, leg) c))) in
     let s = t.1.sum in
     let h = sum_by-cons f e all in
     omega arith

@@ -13,3 +13,4 @@ pub mod MarkLemmas
 pub mod ReplyLemmas
 pub mod CrowdLemmas
 pub mod WaitingLemmas
+pub mod BoundLemmas

@@ -71,7 +71,7 @@ module _ {R : Type 0} (cmp : R → R → Ordering) (net : Net) (rows : Rows R) (
       let c = some_at is.path 0 (length is.path) refl is.is_path.so_far.some in
       let e : c.0.prices ≡ [] = if_some (λ (c : PathResult R). c.prices ≡ []) (slice_get is.path 0) c.0 c.1 is.is_path.so_far.zero_prices in
       let v : IsValuation net rows bids node c.0.prices c.0.dual =
-          All-contains (λ (c : PathResult R). IsValuation net rows bids node c.prices c.dual) is.path c.0 is.is_path.so_far.each (contains_at is.path 0 c.0 c.1) in
+      All-contains (λ (c : PathResult R). IsValuation net rows bids node c.prices c.dual) is.path c.0 is.is_path.so_far.each (contains_at is.path 0 c.0 c.1) in
       (c.0.dual.terms, c.0.dual.value, subst (λ (prices : PriceList R). IsDual net rows bids node prices c.0.dual.terms c.0.dual.value) e v.dual, is.is_result.least 0 c.0 c.1)
 
   -- its dual value is at most the bases, since the zero prices are a candidate

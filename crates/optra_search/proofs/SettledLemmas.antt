@@ -172,13 +172,13 @@ module _ {R : Type 0} (net : Net) (proper : IsProper net) (rows : Rows R) (bids 
   of_allowed_within row choice of =
       let t = tagged_load rows row bids choice in
       let w = within_decided (λ e. uses_at rows bids row e.0 e.1) (tagged choice) node
-          (tagged_differ choice (λ number legs at.
-          let b = bid_at choice of.count number (Some legs) at in
-          differ_in_order (λ (x y : Leg). x.depart < y.depart) (λ x l. omega arith) legs (departures_rise net b.0.path legs proper (of.each number b.0 legs b.1 at).walk)))
-          (λ number leg c.
-          let l = tagged_legs choice number leg c in
-          let b = bid_at choice of.count number (Some l.0) l.1 in
-          leg_decided number b.0 l.0 b.1 (of.each number b.0 l.0 b.1 l.1) leg l.2) in
+      (tagged_differ choice (λ number legs at.
+      let b = bid_at choice of.count number (Some legs) at in
+      differ_in_order (λ (x y : Leg). x.depart < y.depart) (λ x l. omega arith) legs (departures_rise net b.0.path legs proper (of.each number b.0 legs b.1 at).walk)))
+      (λ number leg c.
+      let l = tagged_legs choice number leg c in
+      let b = bid_at choice of.count number (Some l.0) l.1 in
+      leg_decided number b.0 l.0 b.1 (of.each number b.0 l.0 b.1 l.1) leg l.2) in
       omega arith
 
   module _ (fits_yes : FitsYes rows bids node) where

@@ -124,9 +124,9 @@ module _ {R : Type 0} (cmp : R → R → Ordering) (net : Net) (rows : Rows R) (
       let place : List Decision × Item R → Type 0 = λ p. IsSoundPlace net rows bids revenue p.0 p.1 in
       let waiting : All (IsSoundOpen cmp net rows bids) (first ∷ rest) = subst (All (IsSoundOpen cmp net rows bids)) taken s.waiting in
       let placed_before : All place (places before.items) =
-          All-weaker (λ (p : List Decision × Item R). IsSoundPlace net rows bids (revenue_of net bids before.incumbent) p.0 p.1) place
-          (λ p h. record { splits = h.splits; dead = h.dead; closed = closed_more net rows bids (revenue_of net bids before.incumbent) revenue step.rises p.0 p.1 h.closed; bases = h.bases })
-          (places before.items) s.placed_items in
+      All-weaker (λ (p : List Decision × Item R). IsSoundPlace net rows bids (revenue_of net bids before.incumbent) p.0 p.1) place
+      (λ p h. record { splits = h.splits; dead = h.dead; closed = closed_more net rows bids (revenue_of net bids before.incumbent) revenue step.rises p.0 p.1 h.closed; bases = h.bases })
+      (places before.items) s.placed_items in
       record {
         nodes = ap (map node_of) opens ∙ open_more root before.items first rest are item prices ∙ ap (open_after root) (sym items);
         each =
@@ -201,7 +201,7 @@ module _ {R : Type 0} (cmp : R → R → Ordering) (net : Net) (proper_net : IsP
         let e : listed ≡ r.prices = turn.item_is.1 in
         let own : IsBoundOf net rows bids first.node r.prices (whole_cents r.dual.value) = record { terms = r.dual.terms; value = r.dual.value; dual = v.dual; cents_is = refl } in
         let is_own : (cents : ℤ) → IsBoundOf net rows bids first.node listed cents → cents ≡ whole_cents r.dual.value = λ cents is.
-            bound_of_unique net rows bids first.node r.prices cents (whole_cents r.dual.value) (subst (λ (ps : PriceList R). IsBoundOf net rows bids first.node ps cents) e is) own in
+        bound_of_unique net rows bids first.node r.prices cents (whole_cents r.dual.value) (subst (λ (ps : PriceList R). IsBoundOf net rows bids first.node ps cents) e is) own in
         record {
           sound = record { formed = subst (AreAscending cmp) (sym e) p.ascending; prices = subst (ArePrices rows) (sym e) p.each };
           place = record {

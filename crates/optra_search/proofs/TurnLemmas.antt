@@ -109,8 +109,8 @@ module _ {R : Type 0} (cmp : R → R → Ordering) (total : IsTotalOrder cmp) (a
       let better' : IsBetter net bids old p.repaired new' = subst (λ (choice : List (Option (List Leg))). IsBetter net bids old choice new') c q.better in
       let n : new' ≡ new = better_unique net bids old p.repaired new' new better' p.better in
       let is' : IsPricedItem net rows bids first.node p.result (revenue_of net bids new) item' =
-          subst (λ (choice : List (Option (List Leg))). IsPricedItem net rows bids first.node p.result (revenue_of net bids choice) item') n
-          (subst (λ (result : PathResult R). IsPricedItem net rows bids first.node result (revenue_of net bids new') item') r q.item_is) in
+      subst (λ (choice : List (Option (List Leg))). IsPricedItem net rows bids first.node p.result (revenue_of net bids choice) item') n
+      (subst (λ (result : PathResult R). IsPricedItem net rows bids first.node result (revenue_of net bids new') item') r q.item_is) in
       let i : item ≡ item' = priced_item_unique net rows bids first.node p.result (revenue_of net bids new) item item' p.item_is is' in
       let s : prices ≡ prices' = p.prices_are ∙ ap (λ (result : PathResult R). result.prices) (sym r) ∙ sym q.prices_are in
       (sym n, i, λ t. opened first.node (i t) (s t))
@@ -123,7 +123,7 @@ module _ {R : Type 0} (cmp : R → R → Ordering) (total : IsTotalOrder cmp) (a
       let becomes' : Becomes p.first before.incumbent b.incumbent q.item q.prices = subst (λ (first : OpenNode R). Becomes first before.incumbent b.incumbent q.item q.prices) f q.becomes in
       let u = becomes_unique p.first before.incumbent a.incumbent b.incumbent p.item q.item p.prices q.prices p.becomes becomes' in
       let o : a.open_nodes ≡ b.open_nodes =
-          p.opens ∙ ap (λ (nodes : List (OpenNode R)). nodes ++ p.rest) u.2 ∙ (λ t. opened (sym f t).node q.item q.prices ++ sym r t) ∙ sym q.opens in
+      p.opens ∙ ap (λ (nodes : List (OpenNode R)). nodes ++ p.rest) u.2 ∙ (λ t. opened (sym f t).node q.item q.prices ++ sym r t) ∙ sym q.opens in
       let i : a.items ≡ b.items = p.items ∙ ap (λ (item : Item R). before.items ++ item ∷ []) u.1 ∙ sym q.items in
       let n : a.count ≡ b.count = p.count ∙ sym q.count in
       λ t. record { open_nodes = o t; items = i t; incumbent = u.0 t; count = n t }

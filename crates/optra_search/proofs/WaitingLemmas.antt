@@ -15,7 +15,7 @@ use Rattle.optra_node.specs.Duals.{PriceList}
 use Rattle.optra_node.specs.Trees.{decide, decide_not, children}
 use Rattle.optra_search.specs.declared.waiting.Waiting.{Waiting}
 use Rattle.optra_search.specs.Planner.{OpenNode, State, IsDeadTurn, IsPricedTurn, opened, IsTurn, Turns}
-use Rattle.optra_search.specs.Openings.{front, decisions_of, start_below, open_from, Nested, state_of}
+use Rattle.optra_search.specs.Openings.{front, decisions_of, start_below, open_from, Nested, state_of, yes_child, no_child}
 
 -- what is pushed stands in front
 pub front-push : {X : Type 0} (xs : List X) (x : X) → front (xs ++ x ∷ []) ≡ x ∷ front xs
@@ -68,13 +68,6 @@ module _ {R : Type 0} (path : List Decision) (rest : List (Waiting R)) (w : Wait
   pub top_within : w.depth ≤ length path
   top_within = on_top.0
 
--- the yes child and the no child that are pushed
-abbrev pub yes_child : {R : Type 0} → ℕ → ℕ → Leg → Waiting R
-yes_child depth bid leg = record { depth = depth; decision = Some (decide bid leg); start = None }
-
-abbrev pub no_child : {R : Type 0} → ℕ → ℕ → Leg → PriceList R → Waiting R
-no_child depth bid leg prices = record { depth = depth; decision = Some (decide_not bid leg); start = Some prices }
-
 module _ {R : Type 0} (path : List Decision) (rest : List (Waiting R)) (bid : ℕ) (leg : Leg) (prices : PriceList R) where
   pushed : List (Waiting R)
   pushed = (rest ++ no_child (length path) bid leg prices ∷ []) ++ yes_child (length path) bid leg ∷ []
@@ -94,7 +87,7 @@ module _ {R : Type 0} (path : List Decision) (rest : List (Waiting R)) (bid : �
 
   pub split_nested : Nested (length path) (front rest) → Nested (length path) (front ((rest ++ no_child (length path) bid leg prices ∷ []) ++ yes_child (length path) bid leg ∷ []))
   unfolding pushed
-  split_nested nested = subst (Nested (length path)) (sym pushed_front) (omega arith, omega arith, nested)
+  split_nested nested = subst (Nested (length path)) (sym pushed_front) (omega arith, (omega arith, nested))
 
 module _ {R : Type 0} (cmp : R → R → Ordering) (net : Net) (rows : Rows R) (bids : List Bid) (steps budget : ℕ) where
   -- one turn, by what becomes of the node that is entered

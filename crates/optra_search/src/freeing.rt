@@ -30,7 +30,7 @@ pub(crate) struct Marks<'a> {
 impl Weight for Marks<'_> {
     ghost use Rattle.std.specs.Prelude.{length};
     ghost use Rattle.optra_search.specs.Splits.{IsFree, IsFirstOrNone};
-ghost use Rattle.optra_search.specs.Marks.{allows_at, weight_at};
+    ghost use Rattle.optra_search.specs.Marks.{allows_at, weight_at};
 
     ghost asked = { λ w. length w.marks.now };
 
@@ -100,11 +100,7 @@ fn mark_all<F: RowFamily>(
 }
 
 /// The walk of the first path of allowed arcs with the most free ones. `None` where there is no such path.
-fn best_walk(
-    alloc: Global,
-    graph: &TimeGraph,
-    marks: &[ArcMark],
-) -> Result<Option<Walk>, NoMemory>
+fn best_walk(alloc: Global, graph: &TimeGraph, marks: &[ArcMark]) -> Result<Option<Walk>, NoMemory>
     requires { length graph.now.dag.arcs ≤ length marks.now }
     ensures { IfOk result (λ walk. IsBestWalkOrNone graph.now marks.now walk) }
 {

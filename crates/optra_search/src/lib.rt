@@ -1,4 +1,4 @@
-//! Branching: the plan of the plain planner.
+//! Branching: what the plan of a search is, its laws, and the leg on which a node is split.
 #![tactic(auto)]
 
 use optra_network::Cents;

@@ -25,8 +25,7 @@ bids-preserved c =
     let low = c.earned-total.ensures.range.0 in
     let high = c.earned-total.ensures.range.1 in
     let n = c.bids-test.true in
-    let t = c.bids.total-is in
-    (
+    let t = c.bids.total-is in (
       omega (arith, ints, so_far.0, so_far.1, so_far.2),
       omega (arith, ints, so_far.1, so_far.2),
       omega (arith, ints, so_far.1, so_far.2),
