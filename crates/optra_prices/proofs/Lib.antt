@@ -1,3 +1,4 @@
+pub mod RepairLemmas
 pub mod ListLemmas
 pub mod PriceListLemmas
 pub mod OneLemmas

@@ -4,6 +4,7 @@ pub mod Steps
 pub mod Paths
 pub mod Deads
 pub mod Laws
+pub mod Repairs
 pub mod Arcs
 pub mod Tables
 pub mod Terms

@@ -1,0 +1,16 @@
+pub mod EarnLemmas
+pub mod FirstLemmas
+pub mod SplitLemmas
+pub mod TurnLemmas
+pub mod PlacedLemmas
+pub mod ResultLemmas
+pub mod SoundLemmas
+pub mod PlanLemmas
+pub mod FixedLemmas
+pub mod SettledLemmas
+pub mod BudgetLemmas
+pub mod MarkLemmas
+pub mod ReplyLemmas
+pub mod CrowdLemmas
+pub mod WaitingLemmas
+pub mod BoundLemmas

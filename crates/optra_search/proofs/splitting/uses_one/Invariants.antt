@@ -1,0 +1,8 @@
+-- None of the rows so far is used.
+use Rattle.std.proofs.Common.{◌≡◌, ℕ, ◌<◌, slice_index_or}
+use Rattle.std.specs.Prelude.{ℤ}
+use Rattle.optra_search.proofs.splitting.uses_one.Given as goal
+
+abbrev pub invariant-loop-entry : goal.invariant-loop-entry
+invariant-loop-entry g l =
+    (k : ℕ) (d : _) → k < l.entry-index → (g.F.RowFamily.rows_of l.rows l.net).uses l.kind l.leg (slice_index_or l.listed k d).0 ≡ 0

@@ -1,0 +1,6 @@
+-- The leg on which a node is split, and the plain planner.
+pub mod Splits
+pub mod Planner
+pub mod Laws
+pub mod Marks
+pub mod Openings
