@@ -1,4 +1,4 @@
-//! Cases worked by hand: what a yes leg and a no leg let, at a family without rows. What rows block and overfill is tried
+//! Cases worked by hand: what a yes leg and a no leg let, at a family whose rows no leg uses. What rows block and overfill is tried
 //! at headway rows, by the crates above.
 ghost use Rattle.std.specs.Prelude.{◌≡◌, ◌<◌, false, length, IfOk};
 ghost use Rattle.optra_node.specs.Nodes.{IsNode};
@@ -13,22 +13,23 @@ use std::alloc::Global;
 use std::process::Abort;
 use std::test::Fail;
 
-/// A family of no rows, whose rule always holds.
-struct NoRows;
+/// A family whose rows no leg uses, and whose rule is that no row is used above its capacity.
+struct UnusedRows;
 
-impl RowFamily for NoRows {
-    ghost use Rattle.std.specs.Prelude.{ℕ, false, []};
+impl RowFamily for UnusedRows {
+    ghost use Rattle.std.specs.Prelude.{ℕ, true, []};
+    ghost use Rattle.optra_walk.specs.Families.{Rows, FitRows};
     ghost use Rattle.std.proofs.Common.{sym, refl, arith, lit≤};
     ghost use Rattle.std.specs.declared.cmp.Ordering.TheVariants.{Equal};
     ghost use Rattle.std.proofs.lemmas.Cmp.{ranked};
 
     type Row = u8;
 
-    ghost rows_of = { λ _ _. record { is_row = λ _. false; capacity = λ _. 0; uses = λ _ _ _. 0 } };
+    ghost rows_of = { λ _ _. record { is_row = λ _. true; capacity = λ _. 0; uses = λ _ _ _. 0 } };
 
     ghost rows_used = { λ _ _ _ _. [] };
 
-    ghost KeepsRule = { λ _ _ _. Unit {0} };
+    ghost KeepsRule = { λ _ _ entries. FitRows (record { is_row = λ (_ : ℕ). true; capacity = λ _. 0; uses = λ _ _ _. 0 }) entries };
 
     ghost tells_apart = { λ a b e. ranked a b Equal (sym e) };
 
@@ -38,10 +39,10 @@ impl RowFamily for NoRows {
 
     ghost unusable_uses_none = { λ _ _ _ _ _ _. refl };
 
-    ghost rule_by_rows = { λ _ _ _ _ _. (λ _ row is. absurd (Prim.cc is), λ _. tt) };
+    ghost rule_by_rows = { λ _ _ _ _ _. (λ fits. fits, λ fits. fits) };
 
     fn is_row(&self, _net: &Network, _row: u8) -> bool {
-        false
+        true
     }
 
     fn cap(&self, _net: &Network, _row: u8) -> u32 {
@@ -156,7 +157,7 @@ fn leg_ok(inst: Instance<'_>, node: &Node, bid: u32, leg: Leg) -> Option<bool>
     requires node { IsNode inst.net.now (length inst.bids.now) node.now }
 {
     if (bid as usize) < inst.bids.len() && is_formed_leg(inst.net, leg) {
-        Some(node.leg_ok(inst, &NoRows, bid, leg))
+        Some(node.leg_ok(inst, &UnusedRows, bid, leg))
     } else {
         None
     }
@@ -165,7 +166,7 @@ fn leg_ok(inst: Instance<'_>, node: &Node, bid: u32, leg: Leg) -> Option<bool>
 /// The same by a summary of the node.
 fn leg_ok_by_summary(
     inst: Instance<'_>,
-    summary: &Summary<'_, NoRows>,
+    summary: &Summary<'_, UnusedRows>,
     bid: u32,
     leg: Leg,
 ) -> Option<bool>
@@ -199,7 +200,7 @@ fn check_legs(rt: &impl Abort, inst: Instance<'_>, node: &Node)
     }
 }
 
-fn check_legs_by_summary(rt: &impl Abort, inst: Instance<'_>, summary: &Summary<'_, NoRows>)
+fn check_legs_by_summary(rt: &impl Abort, inst: Instance<'_>, summary: &Summary<'_, UnusedRows>)
     requires net { summary.now.net ≡ inst.net.now }
     requires bids { summary.now.bids ≡ inst.bids.now }
 {
@@ -245,7 +246,7 @@ fn bids(alloc: Global) -> Result<Vec<Bid>, Fail> {
 fn check_rows(rt: &impl Abort, inst: Instance<'_>, node: &Node)
     requires node { IsNode inst.net.now (length inst.bids.now) node.now }
 {
-    assert_eq!(rt; node.overfull(inst, &NoRows), None);
+    assert_eq!(rt; node.overfull(inst, &UnusedRows), None);
 }
 
 fn check_node(rt: &impl Abort, alloc: Global, inst: Instance<'_>) -> Result<(), Fail>
@@ -255,7 +256,7 @@ fn check_node(rt: &impl Abort, alloc: Global, inst: Instance<'_>) -> Result<(), 
     check_legs(rt, inst, &node);
     check_starts(rt, inst, &node);
     check_rows(rt, inst, &node);
-    let summary = Summary::new(alloc, inst, &NoRows, &node)?;
+    let summary = Summary::new(alloc, inst, &UnusedRows, &node)?;
     check_legs_by_summary(rt, inst, &summary);
     Ok(())
 }
