@@ -13,3 +13,5 @@ pub mod SettledLemmas
 pub mod SizeLemmas
 pub mod TableLemmas
 pub mod ValueOfLemmas
+pub mod HoldLemmas
+pub mod StepLemmas

@@ -9,3 +9,4 @@ pub mod Arcs
 pub mod Tables
 pub mod Terms
 pub mod Standings
+pub mod Holdings

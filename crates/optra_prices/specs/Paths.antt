@@ -1,5 +1,5 @@
 -- The price path, as the list of its candidates.
-use Rattle.std.specs.Prelude.{◌≡◌, ◌⊎◌, ℕ, ◌+◌, ◌<◌, ◌≤◌, List, [], length, Option, Some, slice_get, All, IfSome}
+use Rattle.std.specs.Prelude.{◌≡◌, ◌⊎◌, ℕ, zero, suc, ◌+◌, ◌<◌, ◌≤◌, List, [], length, Option, Some, slice_get, All, IfSome}
 use Rattle.std.specs.Prelude.{ℤ, ◌≤ℤ◌, ◌<ℤ◌}
 use Rattle.std.specs.declared.cmp.Ordering.{Ordering}
 use Rattle.optra_network.specs.Net.{Net}
@@ -44,3 +44,14 @@ pub record IsPathResult {R : Type 0} (cmp : R → R → Ordering) (net : Net) (r
   pub path : List (Priced R)
   pub is_path : IsPricePath cmp net rows bids node start steps incumbent path
   pub is_result : IsFirstLeast path result
+
+-- the candidate at this place is the first of least dual value among the first n
+abbrev pub IsLeastPlace : {R : Type 0} → List (Priced R) → ℕ → ℕ → Type 0
+IsLeastPlace {R} path n place =
+    (i : ℕ) (best candidate : Priced R) → i < n → slice_get path place ≡ Some best → slice_get path i ≡ Some candidate
+    → (best.dual.value ≤ℤ candidate.dual.value) × (i < place → best.dual.value <ℤ candidate.dual.value)
+
+-- the prices of the candidate after place n of the path: the start prices after the zero prices, and then those after each step
+abbrev pub IsNextPrices : {R : Type 0} → (R → R → Ordering) → Rows R → List Bid → PriceList R → Priced R → ℕ → PriceList R → Type 0
+IsNextPrices cmp rows bids start last zero prices = prices ≡ start
+IsNextPrices cmp rows bids start last (suc k) prices = IsStep cmp rows bids last.dual.replies k last.prices prices

@@ -10,17 +10,21 @@ use std::marker::Model;
 
 pub mod duals;
 mod grouping;
+mod holding;
 mod laws;
 mod numbering;
 mod searching;
 mod sessions;
 mod settling;
+mod stepping;
 mod tables;
 mod touching;
+mod using;
 mod valuing;
 mod weighing;
 
 pub use laws::price_laws;
+pub use stepping::step;
 
 /// The dual value of a node at prices, in thousandths of a cent, with the reply and the term of each bid.
 #[derive(Drop)]
