@@ -1,6 +1,6 @@
 -- Turns over the stack of waiting nodes.
-use Rattle.std.proofs.Common.{◌≡◌, ℕ, zero, suc, ◌+◌, ◌-◌, ◌≤◌, ◌<◌, List, [], ◌∷◌, ◌++◌, map, length, take, Option, None, Some, unwrap_or, refl, sym, ap, ◌∙◌, subst, arith, inl, inr, append_assoc}
-use Rattle.std.specs.Prelude.{◌⊎◌, ⊤}
+use Rattle.std.proofs.Common.{◌≡◌, ℕ, zero, suc, ◌+◌, ◌≤◌, ◌<◌, List, [], ◌∷◌, ◌++◌, length, take, Option, unwrap_or, refl, sym, ap, ◌∙◌, subst, arith}
+use Rattle.std.specs.Prelude.{◌⊎◌}
 use Rattle.std.specs.Option.{option_to_list}
 use Rattle.std.specs.declared.cmp.Ordering.{Ordering}
 use Rattle.std.proofs.lemmas.List.{length-append, length-take}
@@ -12,9 +12,9 @@ use Rattle.optra_node.specs.declared.Decision.{Decision}
 use Rattle.optra_node.specs.declared.Item.{Item}
 use Rattle.optra_node.specs.declared.Item.TheVariants.{Split}
 use Rattle.optra_node.specs.Duals.{PriceList}
-use Rattle.optra_node.specs.Trees.{decide, decide_not, children}
+use Rattle.optra_node.specs.Trees.{decide, decide_not}
 use Rattle.optra_search.specs.declared.waiting.Waiting.{Waiting}
-use Rattle.optra_search.specs.Planner.{OpenNode, State, IsDeadTurn, IsPricedTurn, opened, IsTurn, Turns}
+use Rattle.optra_search.specs.Planner.{State, IsDeadTurn, IsPricedTurn, opened, IsTurn, Turns}
 use Rattle.optra_search.specs.Openings.{front, decisions_of, start_below, open_from, Nested, state_of, yes_child, no_child}
 
 -- what is pushed stands in front
