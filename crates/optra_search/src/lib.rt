@@ -11,6 +11,7 @@ mod fixing;
 mod freeing;
 mod laws;
 mod repairing;
+mod searching;
 mod splitting;
 mod waiting;
 
