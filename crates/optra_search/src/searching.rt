@@ -1,12 +1,13 @@
 //! What a search keeps while it runs.
-ghost use Rattle.std.specs.Prelude.{◌≡◌};
+ghost use Rattle.std.specs.Prelude.{◌≡◌, None, Some, IfOk, pos};
 ghost use Rattle.optra_search.specs.Planner.{dead_item};
+ghost use Rattle.optra_search.specs.Reached.{parts_of, settled_as};
 
 use crate::waiting::Waiting;
-use optra_network::Cents;
-use optra_node::{Item, Node};
+use optra_network::{Cents, NoMemory};
+use optra_node::{Decision, Item, Node, Prices};
 use optra_prices::Dead;
-use optra_walk::Choice;
+use optra_walk::{Choice, Leg};
 
 /// A search under way: the node taken last, the nodes that wait, the items, the incumbent with what it earns, the
 /// greatest bound of a leaf so far, and how many nodes were taken.
@@ -29,4 +30,72 @@ pub(crate) fn dead_item<R>(reason: Dead<R>) -> Item<R>
         Dead::Forced { row } => Item::Forced { row },
         Dead::NoWalk { bid } => Item::NoWalk { bid },
     }
+}
+
+/// The node becomes a leaf with the prices, or it is split on the leg and its children wait.
+pub(crate) fn close_or_split<R: Drop>(
+    search: Search<R>,
+    split: Option<(u32, Leg)>,
+    prices: Prices<R>,
+    cents: i128,
+) -> Result<Search<R>, NoMemory>
+    ensures { IfOk result (λ after. parts_of after ≡ settled_as (parts_of search) split prices cents) }
+{
+    match split {
+        Some((bid, leg)) => {
+            let after = divide(search, bid, leg, prices)?;
+            Ok(after)
+        }
+        None => {
+            let after = close(search, prices, cents)?;
+            Ok(after)
+        }
+    }
+}
+
+/// The node becomes a leaf with the prices.
+fn close<R: Drop>(
+    search: Search<R>,
+    prices: Prices<R>,
+    cents: i128,
+) -> Result<Search<R>, NoMemory>
+    ensures { IfOk result (λ after. parts_of after ≡ settled_as (parts_of search) None prices cents) }
+{
+    let mut search = search;
+    search.bound = search.bound.max(cents);
+    search.items.push(Item::Priced { prices })?;
+    Ok(search)
+}
+
+/// The node is split on the leg, and its children wait, the yes child on top.
+fn divide<R: Drop>(
+    search: Search<R>,
+    bid: u32,
+    leg: Leg,
+    prices: Prices<R>,
+) -> Result<Search<R>, NoMemory>
+    ensures { IfOk result (λ after. parts_of after ≡ settled_as (parts_of search) (Some (bid, leg)) prices (pos 0)) }
+{
+    let mut search = search;
+    search.items.push(Item::Split { bid, leg })?;
+    let depth = search.node.decisions.len();
+    search.waiting.push(Waiting {
+        depth,
+        decision: Some(Decision {
+            bid,
+            leg,
+            yes: false,
+        }),
+        start: Some(prices),
+    })?;
+    search.waiting.push(Waiting {
+        depth,
+        decision: Some(Decision {
+            bid,
+            leg,
+            yes: true,
+        }),
+        start: None,
+    })?;
+    Ok(search)
 }
