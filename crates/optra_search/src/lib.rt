@@ -12,6 +12,7 @@ mod freeing;
 mod laws;
 mod repairing;
 mod searching;
+mod settling;
 mod splitting;
 mod waiting;
 
