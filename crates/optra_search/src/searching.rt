@@ -1,6 +1,7 @@
 //! What a search keeps while it runs.
-ghost use Rattle.std.specs.Prelude.{◌≡◌, None, Some, IfOk, pos};
+ghost use Rattle.std.specs.Prelude.{◌≡◌, [], None, Some, IfOk, pos, unwrap_or};
 ghost use Rattle.optra_search.specs.Planner.{dead_item};
+ghost use Rattle.optra_search.specs.Openings.{front, start_below};
 ghost use Rattle.optra_search.specs.Reached.{parts_of, settled_as};
 
 use crate::waiting::Waiting;
@@ -20,6 +21,35 @@ pub(crate) struct Search<R> {
     pub(crate) revenue: Cents,
     pub(crate) bound: i128,
     pub(crate) count: u64,
+}
+
+/// The prices at which the next node below starts; zero prices where there is none.
+fn start_under<'a, R>(waiting: &'a [Waiting<R>], zero: &'a Prices<R>) -> &'a Prices<R>
+    requires { zero.now ≡ [] }
+    ensures { result.now ≡ start_below (front waiting.now) }
+{
+    match waiting.last() {
+        Some(below) => match &below.start {
+            Some(prices) => prices,
+            None => zero,
+        },
+        None => zero,
+    }
+}
+
+/// The prices at which a node starts: its own, or those of the next one below.
+pub(crate) fn start_of<'a, R>(
+    start: &'a Option<Prices<R>>,
+    waiting: &'a [Waiting<R>],
+    zero: &'a Prices<R>,
+) -> &'a Prices<R>
+    requires { zero.now ≡ [] }
+    ensures { result.now ≡ unwrap_or start.now (start_below (front waiting.now)) }
+{
+    match start {
+        Some(prices) => prices,
+        None => start_under(waiting, zero),
+    }
 }
 
 /// The item of a dead node.
