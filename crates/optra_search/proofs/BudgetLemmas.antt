@@ -1,7 +1,6 @@
 -- A budget that suffices: no way from the root has more splits than there are pairs of a bid and a leg of its walks.
-use Rattle.std.proofs.Common.{◌≡◌, ℕ, zero, suc, ◌+◌, ◌-◌, ◌*◌, ◌^◌, ◌≤◌, ◌<◌, List, [], ◌∷◌, ◌++◌, map, length, get_or, sum_by, refl, sym, ap, ◌∙◌, subst, arith, inl, inr, Option, pow-suc}
+use Rattle.std.proofs.Common.{◌≡◌, ℕ, zero, suc, ◌+◌, ◌-◌, ◌*◌, ◌^◌, ◌≤◌, List, [], ◌∷◌, ◌++◌, map, length, sum_by, refl, sym, ap, ◌∙◌, subst, arith, inl, inr, Option, pow-suc}
 use Rattle.std.specs.Prelude.{All, Contains, ◌⊎◌}
-use Rattle.std.specs.Prelude.{ℤ, pos, ◌≤ℤ◌}
 use Rattle.std.specs.declared.cmp.Ordering.{Ordering}
 use Rattle.std.proofs.lemmas.List.{length-append, length-map}
 use Rattle.std.proofs.lemmas.List.Sums.{sum_by-cons, sum_by-append}
@@ -19,9 +18,9 @@ use Rattle.optra_node.specs.Duals.{PriceList}
 use Rattle.optra_node.specs.Trees.{decide, decide_not}
 use Rattle.optra_node.proofs.LoadLemmas.{contains_cases, contains_head, contains_later, take_out, pairs_head, pairs_tail, all_head, all_tail}
 use Rattle.optra_prices.proofs.RepairLemmas.{between}
-use Rattle.optra_search.specs.Planner.{OpenNode, State, first_state, IsDeadTurn, IsPricedTurn, opened, IsTurn, Turns, IsOver, Planned, IsPlainPlan}
-use Rattle.optra_search.specs.Laws.{IsPair, ArePairs}
-use Rattle.optra_search.proofs.SplitLemmas.{IsAllowedLeg, split_allowed, split_free, free_undecided}
+use Rattle.optra_search.specs.Planner.{OpenNode, State, first_state, IsDeadTurn, IsPricedTurn, opened, IsTurn, Turns, Planned, IsPlainPlan}
+use Rattle.optra_search.specs.Laws.{IsPair}
+use Rattle.optra_search.proofs.SplitLemmas.{split_allowed, split_free, free_undecided}
 use Rattle.optra_search.proofs.TurnLemmas.{dead_opens}
 use Rattle.optra_search.proofs.FixedLemmas.{Differ, in_map}
 use Rattle.optra_search.proofs.ResultLemmas.{result_valued}

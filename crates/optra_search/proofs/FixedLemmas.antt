@@ -1,9 +1,8 @@
 -- Legs that are fixed, lists whose elements all differ, and entries of a choice.
-use Rattle.std.proofs.Common.{◌≡◌, ℕ, zero, suc, ◌+◌, ◌≤◌, ◌<◌, Bool, true, false, cond, List, [], ◌∷◌, ◌++◌, map, length, get_or, sum_by, Option, None, Some, slice_get, slice_set, unwrap_or, refl, sym, ap, ◌∙◌, subst, arith, inl, inr}
-use Rattle.std.specs.Prelude.{All, Contains, ◌⊎◌, ◌&&◌, ◌||◌, nat_eq, ⊤}
+use Rattle.std.proofs.Common.{◌≡◌, ℕ, zero, suc, ◌≤◌, ◌<◌, Bool, true, false, cond, List, [], ◌∷◌, ◌++◌, map, length, sum_by, Option, None, Some, slice_get, slice_set, unwrap_or, refl, sym, ap, subst, arith, inl, inr}
+use Rattle.std.specs.Prelude.{Contains, ◌⊎◌, ◌&&◌, ◌||◌, nat_eq, ⊤}
 use Rattle.std.specs.List.{AllPairs}
-use Rattle.std.specs.declared.cmp.Ordering.{Ordering}
-use Rattle.std.specs.declared.cmp.Ordering.TheVariants.{Less, Equal, Greater}
+use Rattle.std.specs.declared.cmp.Ordering.TheVariants.{Equal}
 use Rattle.std.specs.Ordering.{is_eq, bool_cmp, nat_cmp}
 use Rattle.std.proofs.lemmas.Cmp.{ranked}
 use Rattle.std.proofs.lemmas.Bool.Decides.{nat_tests}
@@ -17,7 +16,7 @@ use Rattle.optra_node.specs.declared.Decision.{Decision}
 use Rattle.optra_node.specs.Nodes.{is_yes_for}
 use Rattle.optra_node.specs.Trees.{decide}
 use Rattle.optra_node.proofs.RowLemmas.{equal_is}
-use Rattle.optra_node.proofs.LoadLemmas.{contains_cases, contains_head, contains_later, take_out, pairs_head, pairs_tail, all_head, all_tail, tagged}
+use Rattle.optra_node.proofs.LoadLemmas.{contains_cases, contains_head, contains_later, take_out, pairs_head, pairs_tail, tagged}
 use Rattle.optra_search.specs.Splits.{same_leg, is_fixed}
 
 both : (a b : Bool) → (a && b) ≡ true → (a ≡ true) × (b ≡ true)

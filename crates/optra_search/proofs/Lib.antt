@@ -14,3 +14,4 @@ pub mod ReplyLemmas
 pub mod CrowdLemmas
 pub mod WaitingLemmas
 pub mod BoundLemmas
+pub mod SearchLemmas

@@ -1,6 +1,6 @@
 -- What a search over marked arcs finds is the freest allowed walk.
-use Rattle.std.proofs.Common.{◌≡◌, ℕ, zero, suc, ◌+◌, ◌-◌, ◌≤◌, ◌<◌, Bool, true, false, not, cond, List, [], ◌∷◌, ◌++◌, map, length, get_or, Option, None, Some, IsSome, IsSomeAnd, slice_get, sum_by, refl, sym, ap, ◌∙◌, subst, arith, inl, inr}
-use Rattle.std.specs.Prelude.{All, Contains, ◌⊎◌, ◌↔◌, nat_lt, ℤ, pos, ◌+ℤ◌, ◌-ℤ◌, ◌≤ℤ◌}
+use Rattle.std.proofs.Common.{◌≡◌, ℕ, ◌+◌, ◌<◌, Bool, true, false, not, cond, List, [], ◌∷◌, ◌++◌, map, length, get_or, Option, None, Some, IsSome, IsSomeAnd, slice_get, refl, sym, ap, ◌∙◌, subst, arith, inl, inr}
+use Rattle.std.specs.Prelude.{All, Contains, ◌⊎◌, ◌↔◌, nat_lt, ℤ, pos, ◌-ℤ◌}
 use Rattle.std.specs.Option.{option_map_or}
 use Rattle.std.specs.Ordering.{is_gt}
 use Rattle.std.proofs.lemmas.Int.{ints}
@@ -20,12 +20,12 @@ use Rattle.optra_walk.specs.Orders.{walk_cmp}
 use Rattle.optra_walk.specs.Values.{first_departure}
 use Rattle.optra_walk.proofs.UsableLemmas.{walk_usable}
 use Rattle.optra_dag.specs.Paths.{Graph, LeadsToEnd, IsPath, IsFirstBest, weight_of, to_of}
-use Rattle.optra_graph.specs.Timed.{Timed, IsGraphOf, IsRoute, IsLegArc, IsStartArc, BeginsOnce, leg_of, leg_at, start_of, walk_of}
+use Rattle.optra_graph.specs.Timed.{Timed, IsGraphOf, IsRoute, IsLegArc, IsStartArc, leg_of, leg_at, start_of, walk_of}
 use Rattle.optra_node.specs.declared.Decision.{Decision}
 use Rattle.optra_node.specs.Laws.{TestsTellAllowed}
 use Rattle.optra_node.specs.Nodes.{kind_at, IsAllowed, IsFormedLeg}
-use Rattle.optra_node.specs.Spans.{IsLegOk, IsStartOk}
-use Rattle.optra_node.specs.Duals.{PriceList, leg_price}
+use Rattle.optra_node.specs.Spans.{IsLegOk}
+use Rattle.optra_node.specs.Duals.{leg_price}
 use Rattle.optra_node.proofs.LoadLemmas.{contains_cases, contains-map}
 use Rattle.optra_prices.specs.Arcs.{start_value, leg_value, AreWeighed}
 use Rattle.optra_prices.proofs.ArcLemmas.{path_allowed, allowed_path}

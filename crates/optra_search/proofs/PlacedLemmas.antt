@@ -1,9 +1,8 @@
 -- Items that are added to a tree in the making, and the nodes that are then open.
-use Rattle.std.proofs.Common.{◌≡◌, ℕ, ◌+◌, List, [], ◌∷◌, ◌++◌, map, length, refl, sym, ap, ◌∙◌}
+use Rattle.std.proofs.Common.{◌≡◌, List, [], ◌∷◌, ◌++◌, map, refl, sym, ap, ◌∙◌}
 use Rattle.std.proofs.lemmas.List.{map-append}
 use Rattle.optra_node.specs.declared.Decision.{Decision}
 use Rattle.optra_node.specs.declared.Item.{Item}
-use Rattle.optra_node.specs.declared.Item.TheVariants.{Priced}
 use Rattle.optra_node.specs.Duals.{PriceList}
 use Rattle.optra_node.specs.Trees.{children, open_after, placed}
 use Rattle.optra_search.specs.Planner.{OpenNode, opened, priced_open}

@@ -1,8 +1,7 @@
 -- A plan makes a formed and valid certificate, and its numbers are within each other.
-use Rattle.std.proofs.Common.{◌≡◌, ℕ, zero, suc, ◌+◌, ◌≤◌, ◌<◌, Bool, List, [], ◌∷◌, ◌++◌, map, length, get_or, Option, None, Some, refl, sym, ap, ◌∙◌, subst, arith, inl, inr}
-use Rattle.std.specs.Prelude.{All, Contains, ◌⊎◌, IfSome, IsSomeAnd}
-use Rattle.std.specs.Prelude.{ℤ, pos, ◌≤ℤ◌, ◌<ℤ◌}
-use Rattle.std.specs.List.{AllZip}
+use Rattle.std.proofs.Common.{◌≡◌, ℕ, ◌≤◌, ◌<◌, List, [], ◌∷◌, map, length, Option, None, Some, refl, sym, ap, ◌∙◌, subst, arith, inl, inr}
+use Rattle.std.specs.Prelude.{All, ◌⊎◌, IfSome, IsSomeAnd}
+use Rattle.std.specs.Prelude.{ℤ, ◌≤ℤ◌, ◌<ℤ◌}
 use Rattle.std.specs.declared.cmp.Ordering.{Ordering}
 use Rattle.std.proofs.lemmas.Int.{ints}
 use Rattle.std.proofs.lemmas.List.{length-append}
@@ -19,13 +18,12 @@ use Rattle.optra_node.specs.declared.Decision.{Decision}
 use Rattle.optra_node.specs.declared.Item.{Item}
 use Rattle.optra_node.specs.declared.Item.TheVariants.{Priced}
 use Rattle.optra_node.specs.Nodes.{IsFormedLeg}
-use Rattle.optra_node.specs.Trees.{placed, places, root, IsTree}
-use Rattle.optra_node.specs.Certificates.{IsFormedWalk, IsFormedItem, IsFormed, SplitsUndecided, EndsDead, HasPrices, IsValid}
-use Rattle.optra_node.proofs.LoadLemmas.{all_head, all_tail}
+use Rattle.optra_node.specs.Trees.{places, root, IsTree}
+use Rattle.optra_node.specs.Certificates.{IsFormedWalk, IsFormedItem, SplitsUndecided, EndsDead, HasPrices}
 use Rattle.optra_node.proofs.DualLemmas.{zip_length}
 use Rattle.optra_node.proofs.TreeLemmas.{bound_above}
 use Rattle.optra_prices.proofs.RepairLemmas.{FitChoice}
-use Rattle.optra_search.specs.Planner.{OpenNode, State, first_state, priced_open, Planned, IsPlainPlan}
+use Rattle.optra_search.specs.Planner.{OpenNode, first_state, priced_open, Planned, IsPlainPlan}
 use Rattle.optra_search.specs.Laws.{IsCertified, HasNumbers}
 use Rattle.optra_search.proofs.PlacedLemmas.{leaf_of, open_at_end, placed_at_end}
 use Rattle.optra_search.proofs.ResultLemmas.{whole_below}

@@ -1,9 +1,8 @@
 -- A node where no allowed walk has a leg that is not fixed closes: its dual value is at most what repair earns.
-use Rattle.std.proofs.Common.{◌≡◌, ℕ, zero, suc, ◌+◌, ◌≤◌, ◌<◌, Bool, true, false, cond, List, [], ◌∷◌, ◌++◌, map, length, get_or, sum_by, Option, None, Some, slice_get, slice_set, unwrap_or, refl, sym, ap, ◌∙◌, subst, arith, inl, inr}
-use Rattle.std.specs.Prelude.{All, Contains, ◌⊎◌, ◌||◌, ◌&&◌, nat_eq, IfSome, IsSomeAnd}
-use Rattle.std.specs.Prelude.{ℤ, pos, ◌+ℤ◌, ◌-ℤ◌, ◌*ℤ◌, ◌≤ℤ◌, ◌<ℤ◌}
+use Rattle.std.proofs.Common.{◌≡◌, ℕ, zero, suc, ◌+◌, ◌≤◌, ◌<◌, Bool, true, false, List, [], ◌∷◌, map, length, get_or, Option, None, Some, slice_get, slice_set, unwrap_or, refl, sym, ap, ◌∙◌, subst, arith, inl, inr}
+use Rattle.std.specs.Prelude.{All, Contains, ◌⊎◌, ◌||◌, IsSomeAnd}
+use Rattle.std.specs.Prelude.{ℤ, pos, ◌+ℤ◌, ◌*ℤ◌, ◌≤ℤ◌}
 use Rattle.std.specs.List.{AllPairs}
-use Rattle.std.specs.declared.cmp.Ordering.{Ordering}
 use Rattle.std.specs.Ordering.{is_gt}
 use Rattle.std.proofs.lemmas.Cmp.{tied_itself}
 use Rattle.std.proofs.lemmas.Bool.Decides.{nat_tests}
@@ -11,12 +10,12 @@ use Rattle.std.proofs.lemmas.Int.{ints}
 use Rattle.std.proofs.Math.IntN.{negsuc}
 use Rattle.std.proofs.lemmas.List.{length-set}
 use Rattle.std.proofs.lemmas.List.Sums.{sum_by-append, sum_by-cons}
-use Rattle.std.proofs.lemmas.List.Elements.{All-contains, All-nil, Contains-get_or}
+use Rattle.std.proofs.lemmas.List.Elements.{All-contains, Contains-get_or}
 use Rattle.optra_network.specs.Net.{Net, IsProper}
 use Rattle.optra_network.specs.declared.TypeId.{TypeId}
 use Rattle.optra_bid.specs.declared.bids.Bid.{Bid}
 use Rattle.optra_walk.specs.declared.Leg.{Leg}
-use Rattle.optra_walk.specs.Walks.{IsWalk, IsStart, first_leg}
+use Rattle.optra_walk.specs.Walks.{IsStart, first_leg}
 use Rattle.optra_walk.specs.Values.{value_of}
 use Rattle.optra_walk.specs.Choices.{revenue_of}
 use Rattle.optra_walk.specs.Families.{Rows, Entry, FitRows, load_of, entries_of}
@@ -24,20 +23,19 @@ use Rattle.optra_walk.specs.Orders.{walk_cmp}
 use Rattle.optra_walk.proofs.OrderLemmas.{walk_cmp_total}
 use Rattle.optra_walk.proofs.WalkLemmas.{departures_rise}
 use Rattle.optra_node.specs.declared.Decision.{Decision}
-use Rattle.optra_node.specs.Nodes.{is_yes_for, has_yes, Follows, uses_at, yes_load, IsOverfull, IsAllowed}
-use Rattle.optra_node.specs.Duals.{sum_of, PriceList, walk_price, capacity_price, reduced_value, IsOffer, IsTerm, IsDead, IsDual, whole_cents}
+use Rattle.optra_node.specs.Nodes.{is_yes_for, has_yes, Follows, uses_at, yes_load, IsAllowed}
+use Rattle.optra_node.specs.Duals.{sum_of, walk_price, IsOffer, IsTerm, IsDead, IsDual}
 use Rattle.optra_node.specs.Trees.{decide}
 use Rattle.optra_node.proofs.SumLemmas.{sum_of-cons}
 use Rattle.optra_node.proofs.LoadLemmas.{all_head, all_tail, pairs_head, pairs_tail, contains_cases, contains_head, tagged, tagged_load}
 use Rattle.optra_node.proofs.ChildLemmas.{some_at, within_at}
 use Rattle.optra_prices.specs.Deads.{FitsYes}
 use Rattle.optra_prices.specs.Replies.{Valuation}
-use Rattle.optra_prices.specs.Repairs.{IsTakenBefore, IsTakingOrder, FitBeside, IsPlaceable, IsFirstWorthiest, IsKept, IsGiven, GivesInTurn, empty_choice, IsRepair}
+use Rattle.optra_prices.specs.Repairs.{IsTakenBefore, FitBeside, IsFirstWorthiest, IsGiven, GivesInTurn, empty_choice, IsRepair}
 use Rattle.optra_prices.proofs.RepairLemmas.{same_order, some_is, taken_apart, walk_load, load-cons}
 use Rattle.optra_search.specs.Splits.{is_fixed, IsFree, IsSettled}
 use Rattle.optra_search.proofs.FirstLemmas.{compare}
-use Rattle.optra_search.proofs.FixedLemmas.{fixed_has, Differ, differ_in_order, within_decided, tagged_legs, tagged_differ, at_set, at_set_other}
-use Rattle.optra_search.proofs.ResultLemmas.{whole_below}
+use Rattle.optra_search.proofs.FixedLemmas.{fixed_has, differ_in_order, within_decided, tagged_legs, tagged_differ, at_set, at_set_other}
 
 -- where the bid had no walk, a walk adds its own load
 load-set_free : {R : Type 0} (rows : Rows R) (row : R) (bids : List Bid) (walks : List (Option (List Leg))) (number : ℕ) (bid : Bid) (walk : Option (List Leg)) → slice_get bids number ≡ Some bid → slice_get walks number ≡ Some None

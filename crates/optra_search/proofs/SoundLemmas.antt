@@ -1,7 +1,7 @@
 -- What every state that turns reach keeps.
-use Rattle.std.proofs.Common.{◌≡◌, ℕ, zero, suc, ◌+◌, ◌≤◌, ◌<◌, Bool, true, false, List, [], ◌∷◌, ◌++◌, map, length, get_or, Option, None, Some, slice_get, refl, sym, ap, ◌∙◌, subst, arith, inl, inr}
-use Rattle.std.specs.Prelude.{All, Contains, ◌⊎◌, IfSome, IsSomeAnd, ⊤}
-use Rattle.std.specs.Prelude.{ℤ, pos, ◌*ℤ◌, ◌≤ℤ◌, ◌<ℤ◌}
+use Rattle.std.proofs.Common.{◌≡◌, ℕ, zero, suc, ◌+◌, ◌≤◌, ◌<◌, List, [], ◌∷◌, ◌++◌, map, length, Option, Some, refl, sym, ap, ◌∙◌, subst, arith, inl, inr}
+use Rattle.std.specs.Prelude.{All, ◌⊎◌, IsSomeAnd, ⊤}
+use Rattle.std.specs.Prelude.{ℤ, pos, ◌*ℤ◌, ◌≤ℤ◌}
 use Rattle.std.specs.declared.cmp.Ordering.{Ordering}
 use Rattle.std.proofs.lemmas.Int.{ints}
 use Rattle.std.proofs.lemmas.List.{length-append}
@@ -15,9 +15,9 @@ use Rattle.optra_walk.specs.Families.{Rows}
 use Rattle.optra_node.specs.declared.Decision.{Decision}
 use Rattle.optra_node.specs.declared.Item.{Item}
 use Rattle.optra_node.specs.declared.Item.TheVariants.{Split, NoWalk, Forced, Priced}
-use Rattle.optra_node.specs.Nodes.{DecidesOnce, DecideApart, IsFormedDecision, IsNode, IsUndecided, IsFormedLeg}
+use Rattle.optra_node.specs.Nodes.{DecideApart, IsFormedDecision, IsNode, IsUndecided, IsFormedLeg}
 use Rattle.optra_node.specs.Duals.{sum_of, PriceList, ArePrices, IsStuck, IsDual, whole_cents}
-use Rattle.optra_node.specs.Trees.{decide, decide_not, open_after, placed, places, root}
+use Rattle.optra_node.specs.Trees.{decide, decide_not, open_after, places, root}
 use Rattle.optra_node.specs.Certificates.{AreAscending, IsFormedItem, SplitsUndecided, EndsDead, HasPrices, IsBoundOf}
 use Rattle.optra_node.proofs.LoadLemmas.{all_head, all_tail}
 use Rattle.optra_node.proofs.BaseLemmas.{zero_dual}
@@ -25,13 +25,12 @@ use Rattle.optra_node.proofs.ChildLemmas.{within_at, dual_below}
 use Rattle.optra_node.proofs.UniqueLemmas.{bound_of_unique}
 use Rattle.optra_prices.specs.declared.Dead.{Dead}
 use Rattle.optra_prices.specs.declared.Dead.TheVariants.{Forced as DeadForced, NoWalk as DeadNoWalk}
-use Rattle.optra_prices.specs.declared.Priced.{Priced as PathResult}
 use Rattle.optra_prices.specs.Deads.{IsDeadAs}
 use Rattle.optra_prices.specs.Steps.{AreProper}
 use Rattle.optra_prices.specs.Repairs.{empty_choice}
 use Rattle.optra_prices.proofs.RepairLemmas.{FitChoice, empty_is_choice, empty_fits, repair_fits}
-use Rattle.optra_search.specs.Planner.{OpenNode, State, first_state, dead_item, IsBetter, IsPricedItem, IsDeadTurn, IsPricedTurn, opened, IsTurn, Turns}
-use Rattle.optra_search.proofs.SplitLemmas.{IsAllowedLeg, split_allowed, split_free, free_undecided, allowed_formed}
+use Rattle.optra_search.specs.Planner.{OpenNode, State, first_state, dead_item, IsBetter, IsDeadTurn, IsPricedTurn, opened, IsTurn, Turns}
+use Rattle.optra_search.proofs.SplitLemmas.{split_allowed, split_free, free_undecided, allowed_formed}
 use Rattle.optra_search.proofs.TurnLemmas.{dead_opens}
 use Rattle.optra_search.proofs.PlacedLemmas.{node_of, open_more, placed_more}
 use Rattle.optra_search.proofs.ResultLemmas.{zero_proper, whole_below, whole_positive, result_valued, result_proper, result_bases}

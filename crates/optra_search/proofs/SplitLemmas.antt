@@ -1,8 +1,6 @@
 -- The split leg is one; it is of an allowed walk of its bid, and it is not decided.
 use Rattle.std.proofs.Common.{◌≡◌, ℕ, zero, suc, ◌+◌, ◌≤◌, ◌<◌, Bool, true, false, List, [], ◌∷◌, ◌++◌, map, length, get_or, Option, None, Some, slice_get, refl, sym, ap, ◌∙◌, subst, arith, inl, inr}
 use Rattle.std.specs.Prelude.{All, Contains, ◌⊎◌, ◌&&◌, ◌||◌, nat_eq}
-use Rattle.std.specs.declared.cmp.Ordering.{Ordering}
-use Rattle.std.specs.declared.cmp.Ordering.TheVariants.{Less, Equal, Greater}
 use Rattle.std.specs.Ordering.{is_eq, bool_cmp}
 use Rattle.std.proofs.lemmas.Cmp.{tied_itself}
 use Rattle.std.proofs.lemmas.Bool.Decides.{nat_tests}
@@ -11,19 +9,18 @@ use Rattle.optra_network.specs.Net.{Net, IsProper}
 use Rattle.optra_network.proofs.HeadwayLemmas.{below_types}
 use Rattle.optra_bid.specs.declared.bids.Bid.{Bid}
 use Rattle.optra_walk.specs.declared.Leg.{Leg}
-use Rattle.optra_walk.specs.Walks.{IsWalk}
 use Rattle.optra_walk.specs.Families.{Rows, IsUsable}
 use Rattle.optra_walk.specs.Orders.{action_cmp}
 use Rattle.optra_walk.proofs.OrderLemmas.{action_cmp_total}
 use Rattle.optra_walk.proofs.UsableLemmas.{walk_usable}
 use Rattle.optra_node.specs.declared.Decision.{Decision}
-use Rattle.optra_node.specs.Nodes.{is_yes_for, IsFormedLeg, IsUndecided, Follows, IsAllowed}
+use Rattle.optra_node.specs.Nodes.{is_yes_for, IsFormedLeg, IsUndecided, IsAllowed}
 use Rattle.optra_node.specs.Duals.{PriceList}
 use Rattle.optra_node.proofs.LoadLemmas.{contains_cases, contains_head, contains_later}
 use Rattle.optra_node.proofs.ChildLemmas.{some_at, within_at}
 use Rattle.optra_prices.specs.Replies.{AreReplies, IsReply}
 use Rattle.optra_prices.proofs.RepairLemmas.{same_walk, some_is}
-use Rattle.optra_search.specs.Splits.{same_leg, is_fixed, IsFree, free_count, IsFirst, HoldsOfNone, legs_from, reply_legs, IsFreeLeg, IsCrowdedLeg, IsFreest, IsSettled, IsFreestLeg, IsSplitLeg}
+use Rattle.optra_search.specs.Splits.{same_leg, is_fixed, IsFree, free_count, IsFirst, legs_from, reply_legs, IsFreeLeg, IsCrowdedLeg, IsFreest, IsFreestLeg, IsSplitLeg}
 use Rattle.optra_search.proofs.FirstLemmas.{compare, contains_at, none_at, first_or_none, first_unique}
 
 -- a leg is the same as itself

@@ -1,5 +1,5 @@
 -- A turn of a state leads to one state, and there is one plan.
-use Rattle.std.proofs.Common.{◌≡◌, ℕ, zero, suc, ◌≤◌, Bool, false, List, [], ◌∷◌, ◌++◌, map, Option, None, Some, refl, sym, ap, ◌∙◌, subst, arith, inl, inr}
+use Rattle.std.proofs.Common.{◌≡◌, ℕ, zero, suc, ◌≤◌, List, [], ◌∷◌, ◌++◌, map, Option, None, Some, refl, sym, ap, ◌∙◌, subst, arith, inl, inr}
 use Rattle.std.specs.Prelude.{◌⊎◌}
 use Rattle.std.specs.Prelude.{ℤ, ◌≤ℤ◌, ◌<ℤ◌}
 use Rattle.std.specs.declared.cmp.Ordering.{Ordering}
@@ -21,10 +21,8 @@ use Rattle.optra_prices.specs.declared.Dead.TheVariants.{Forced as DeadForced, N
 use Rattle.optra_prices.specs.declared.Priced.{Priced as PathResult}
 use Rattle.optra_prices.specs.Deads.{IsDeadAs}
 use Rattle.optra_prices.specs.Laws.{OnePathResult}
-use Rattle.optra_prices.specs.Paths.{IsPathResult}
 use Rattle.optra_prices.specs.Repairs.{IsRepair}
 use Rattle.optra_prices.proofs.RepairLemmas.{tied, repair_unique}
-use Rattle.optra_search.specs.Splits.{IsSplitLeg}
 use Rattle.optra_search.specs.Planner.{OpenNode, State, first_state, dead_item, IsBetter, IsPricedItem, IsDeadTurn, IsPricedTurn, opened, IsTurn, Turns, IsOver, priced_open, Planned, IsPlainPlan}
 use Rattle.optra_search.proofs.SplitLemmas.{split_unique}
 

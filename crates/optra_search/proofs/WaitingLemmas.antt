@@ -1,6 +1,6 @@
 -- Turns over the stack of waiting nodes.
-use Rattle.std.proofs.Common.{◌≡◌, ℕ, zero, suc, ◌+◌, ◌-◌, ◌≤◌, ◌<◌, List, [], ◌∷◌, ◌++◌, map, length, take, Option, None, Some, unwrap_or, refl, sym, ap, ◌∙◌, subst, arith, inl, inr, append_assoc}
-use Rattle.std.specs.Prelude.{◌⊎◌, ⊤}
+use Rattle.std.proofs.Common.{◌≡◌, ℕ, zero, suc, ◌+◌, ◌-◌, ◌≤◌, ◌<◌, List, [], ◌∷◌, ◌++◌, length, take, Option, None, Some, slice_get, unwrap_or, refl, sym, ap, ◌∙◌, subst, arith}
+use Rattle.std.specs.Prelude.{◌⊎◌}
 use Rattle.std.specs.Option.{option_to_list}
 use Rattle.std.specs.declared.cmp.Ordering.{Ordering}
 use Rattle.std.proofs.lemmas.List.{length-append, length-take}
@@ -12,9 +12,9 @@ use Rattle.optra_node.specs.declared.Decision.{Decision}
 use Rattle.optra_node.specs.declared.Item.{Item}
 use Rattle.optra_node.specs.declared.Item.TheVariants.{Split}
 use Rattle.optra_node.specs.Duals.{PriceList}
-use Rattle.optra_node.specs.Trees.{decide, decide_not, children}
+use Rattle.optra_node.specs.Trees.{decide, decide_not}
 use Rattle.optra_search.specs.declared.waiting.Waiting.{Waiting}
-use Rattle.optra_search.specs.Planner.{OpenNode, State, IsDeadTurn, IsPricedTurn, opened, IsTurn, Turns}
+use Rattle.optra_search.specs.Planner.{State, IsDeadTurn, IsPricedTurn, opened, IsTurn, Turns}
 use Rattle.optra_search.specs.Openings.{front, decisions_of, start_below, open_from, Nested, state_of, yes_child, no_child}
 
 -- what is pushed stands in front
@@ -120,3 +120,31 @@ module _ {R : Type 0} (cmp : R → R → Ordering) (net : Net) (rows : Rows R) (
       let t : Turns cmp net rows bids steps budget (n + 1) next c = one_turn n next b c rest turn in
       let e : suc (n + 1) ≡ suc n + 1 = omega arith in
       subst (λ (k : ℕ). Turns cmp net rows bids steps budget k a c) e (next, first, t)
+
+start_below-append : {R : Type 0} (ws vs : List (Waiting R)) → 0 < length ws → start_below (ws ++ vs) ≡ start_below ws
+start_below-append [] vs l = absurd (omega arith)
+start_below-append (w ∷ ws) vs l = refl
+
+-- the top of a stack is its last element
+pub last_below : {R : Type 0} (ws : List (Waiting R)) (w : Waiting R) → slice_get ws (length ws - 1) ≡ Some w → start_below (front ws) ≡ unwrap_or w.start []
+last_below [] w e = cc
+last_below (x ∷ []) w e = let s : x ≡ w = inside e in ap (λ (v : Waiting _). unwrap_or v.start []) s
+  where
+    inside : Some x ≡ Some w → x ≡ w
+    inside e = cc
+last_below (x ∷ (y ∷ ws)) w e =
+    let a = length-append (front ws) (y ∷ []) in
+    let at : length (x ∷ (y ∷ ws)) - 1 ≡ suc (length (y ∷ ws) - 1) = omega arith in
+    start_below-append (front (y ∷ ws)) (x ∷ []) (omega arith) ∙ last_below (y ∷ ws) w (subst (λ (n : ℕ). slice_get (x ∷ (y ∷ ws)) n ≡ Some w) at e)
+
+pub none_below : {R : Type 0} (ws : List (Waiting R)) → slice_get ws (length ws - 1) ≡ None → start_below (front ws) ≡ []
+none_below [] e = refl
+none_below {R} (x ∷ ws) e = absurd (past (x ∷ ws) (length (x ∷ ws) - 1) (omega arith) e)
+  where
+    past : (xs : List (Waiting R)) (k : ℕ) → k < length xs → slice_get xs k ≡ None → ⊥
+    past [] k l e = omega arith
+    past (y ∷ xs) zero l e = cc
+    past (y ∷ xs) (suc k) l e = past xs k (omega arith) e
+
+pub last_start : {R : Type 0} (ws : List (Waiting R)) (w : Waiting R) (start : Option (PriceList R)) → Some w ≡ slice_get ws (length ws - 1) → w.start ≡ start → start_below (front ws) ≡ unwrap_or start []
+last_start {R} ws w start e s = last_below ws w (sym e) ∙ ap (λ (o : Option (PriceList R)). unwrap_or o []) s

@@ -4,3 +4,5 @@ pub mod Planner
 pub mod Laws
 pub mod Marks
 pub mod Openings
+pub mod Searches
+pub mod Reached

@@ -11,6 +11,8 @@ mod fixing;
 mod freeing;
 mod laws;
 mod repairing;
+mod searching;
+mod settling;
 mod splitting;
 mod waiting;
 

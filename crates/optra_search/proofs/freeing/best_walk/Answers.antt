@@ -1,5 +1,5 @@
 -- What the search over the marked arcs finds.
-use Rattle.std.proofs.Common.{◌≡◌, ◌∙◌, subst, sym, length, ◌<◌, arith, ap}
+use Rattle.std.proofs.Common.{◌∙◌, ap}
 use Rattle.optra_graph.specs.Timed.{walk_of}
 use Rattle.optra_search.specs.Marks.{allows_at}
 use Rattle.optra_search.proofs.MarkLemmas.{path_route, best_of, none_of}

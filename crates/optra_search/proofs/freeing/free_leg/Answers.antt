@@ -1,8 +1,6 @@
 -- The first free leg of the freest walk.
-use Rattle.optra_bid.specs.declared.bids.Bid.{Bid}
-use Rattle.std.proofs.Common.{◌≡◌, List, None, slice_get, subst}
+use Rattle.std.proofs.Common.{◌≡◌, List, subst}
 use Rattle.optra_walk.specs.declared.Leg.{Leg}
-use Rattle.std.specs.Prelude.{IsSomeAnd}
 use Rattle.optra_search.specs.Splits.{IsFree, IsFirstOrNone}
 use Rattle.optra_search.proofs.MarkLemmas.{settled_none, free_leg_of}
 use Rattle.optra_search.proofs.freeing.free_leg.Goals as goal

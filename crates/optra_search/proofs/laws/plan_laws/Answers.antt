@@ -1,6 +1,5 @@
 use Rattle.optra_walk.specs.Families.{entries_of}
 use Rattle.optra_walk.proofs.UsableLemmas.{choice_usable}
-use Rattle.optra_search.specs.Planner.{Planned}
 use Rattle.optra_search.proofs.TurnLemmas.{turn_unique, plan_unique}
 use Rattle.optra_search.proofs.PlanLemmas.{certified, numbered}
 use Rattle.optra_search.proofs.BudgetLemmas.{enough}

@@ -1,5 +1,5 @@
 -- Reply by reply.
-use Rattle.std.proofs.Common.{◌≡◌, ◌<◌, ◌≤◌, ◌^◌, ℕ, None, length, arith}
+use Rattle.std.proofs.Common.{None, arith}
 use Rattle.optra_search.specs.Marks.{IsCrowding}
 use Rattle.optra_search.proofs.EarnLemmas.{choice_long}
 use Rattle.optra_search.proofs.ReplyLemmas.{reply_hit, reply_miss, past_replies, reply_usable}

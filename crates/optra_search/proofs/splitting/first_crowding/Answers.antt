@@ -1,5 +1,4 @@
 -- The first such leg that is reached.
-use Rattle.std.proofs.Common.{ℕ}
 use Rattle.optra_walk.specs.declared.Leg.{Leg}
 use Rattle.optra_search.specs.Marks.{IsCrowding}
 use Rattle.optra_search.proofs.FirstLemmas.{first_reached}

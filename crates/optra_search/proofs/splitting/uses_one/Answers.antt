@@ -1,5 +1,4 @@
 -- None of the rows is used.
-use Rattle.optra_search.proofs.ReplyLemmas.{first_alike}
 use Rattle.optra_search.proofs.CrowdLemmas.{none_used}
 use Rattle.optra_search.proofs.splitting.uses_one.Goals as goal
 

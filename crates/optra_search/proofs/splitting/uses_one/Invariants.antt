@@ -1,6 +1,5 @@
 -- None of the rows so far is used.
 use Rattle.std.proofs.Common.{◌≡◌, ℕ, ◌<◌, slice_index_or}
-use Rattle.std.specs.Prelude.{ℤ}
 use Rattle.optra_search.proofs.splitting.uses_one.Given as goal
 
 abbrev pub invariant-loop-entry : goal.invariant-loop-entry
