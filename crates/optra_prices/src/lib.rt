@@ -8,11 +8,13 @@ use optra_node::Prices;
 use optra_walk::Walk;
 use std::marker::Model;
 
+pub mod deads;
 pub mod duals;
 mod grouping;
 mod holding;
 mod laws;
 mod numbering;
+mod paths;
 mod searching;
 mod sessions;
 mod settling;
@@ -24,6 +26,7 @@ mod valuing;
 mod weighing;
 
 pub use laws::price_laws;
+pub use paths::price_path;
 pub use stepping::step;
 
 /// The dual value of a node at prices, in thousandths of a cent, with the reply and the term of each bid.

@@ -10,6 +10,7 @@ mod earning;
 mod fixing;
 mod freeing;
 mod laws;
+pub mod planning;
 mod repairing;
 mod searching;
 mod settling;

@@ -1,0 +1,34 @@
+//! Whether a node is dead.
+ghost use Rattle.std.specs.Prelude.{◌≡◌, ◌≤◌, All, Contains, IfOk, length};
+ghost use Rattle.optra_node.specs.Nodes.{IsNode};
+ghost use Rattle.optra_prices.specs.Deads.{IsDeadAs};
+
+use crate::Dead;
+use optra_graph::Graphs;
+use optra_network::NoMemory;
+use optra_node::Node;
+use optra_walk::{Instance, RowFamily};
+use std::alloc::{AllocError, Global};
+
+/// Why no choice that keeps the rule is of the node; `None` exactly where the node's yes legs overfill no row and each
+/// bid with a yes leg has an allowed walk.
+///
+/// `Forced` comes with the least row that the yes legs overfill. Where they overfill none, `NoWalk` comes with the first
+/// bid that has a yes leg and no allowed walk.
+///
+/// It needs at most 1,000 bids, and the graphs of the bids on the instance's network. `NoMemory` is its only refusal.
+pub fn dead<F: RowFamily, G: Graphs>(
+    alloc: Global,
+    inst: Instance<'_>,
+    graphs: &G,
+    rows: &F,
+    node: &Node,
+) -> Result<Option<Dead<F::Row>>, NoMemory>
+    requires few { length inst.bids.now ≤ 1000 }
+    requires node { IsNode inst.net.now (length inst.bids.now) node.now }
+    requires network { G.network graphs.now ≡ inst.net.now }
+    requires held { All (λ bid. Contains (G.held graphs.now) bid.path) inst.bids.now }
+    ensures { IfOk result (λ reason. IsDeadAs F.Row.cmp inst.entry.net.now (F.rows_of rows.now inst.entry.net.now) inst.entry.bids.now node.now reason) }
+{
+    Err(AllocError)
+}

