@@ -4,6 +4,7 @@ pub mod PriceListLemmas
 pub mod OneLemmas
 pub mod ValueLemmas
 pub mod ArcLemmas
+pub mod MarkLemmas
 pub mod NumberLemmas
 pub mod GroupLemmas
 pub mod PriceSumLemmas
