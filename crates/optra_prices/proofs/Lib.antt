@@ -9,6 +9,7 @@ pub mod NumberLemmas
 pub mod GroupLemmas
 pub mod PriceSumLemmas
 pub mod FoundLemmas
+pub mod TouchLemmas
 pub mod TermLemmas
 pub mod SettledLemmas
 pub mod SizeLemmas
