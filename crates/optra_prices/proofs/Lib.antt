@@ -10,6 +10,7 @@ pub mod GroupLemmas
 pub mod PriceSumLemmas
 pub mod FoundLemmas
 pub mod TouchLemmas
+pub mod ChoiceLemmas
 pub mod TermLemmas
 pub mod SettledLemmas
 pub mod SizeLemmas

@@ -21,6 +21,8 @@ mod sessions;
 mod settling;
 mod stepping;
 mod tables;
+#[cfg(test)]
+mod tests;
 mod touching;
 mod using;
 mod valuing;
