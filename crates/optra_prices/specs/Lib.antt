@@ -10,3 +10,4 @@ pub mod Tables
 pub mod Terms
 pub mod Standings
 pub mod Holdings
+pub mod Courses
