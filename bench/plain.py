@@ -1,5 +1,7 @@
 #!/usr/bin/env python3
-"""A slow plain planner, written from docs/MODEL.md and not from the crates: python3 bench/plain.py FOLDER [--steps K] [--budget B]
+"""A slow plain planner, written from docs/MODEL.md and not from the crates.
+
+    python3 bench/plain.py FOLDER [--steps K] [--budget B] [--trace]
 
 FOLDER has net/ with its five tables, bids.csv and stops.csv; they are taken as accepted, no fault is looked for. Prints what
 `optra plan` prints, and ends with its status. With --trace each node that is taken is told on standard error. Every walk of
@@ -46,14 +48,16 @@ def read_network(folder):
     tracks = [Track(name, stations.index(tail), stations.index(head)) for name, tail, head in records(f"{folder}/tracks.csv")]
     types = [name for name, in records(f"{folder}/types.csv")]
     place = {track.name: i for i, track in enumerate(tracks)}
-    running = {(place[track], types.index(kind)): tuple(map(int, times)) for track, kind, *times in records(f"{folder}/running.csv")}
+    running = {(place[track], types.index(kind)): tuple(map(int, times))
+               for track, kind, *times in records(f"{folder}/running.csv")}
     headways = {(place[track], types.index(a), types.index(b)): int(minutes)
                 for track, a, b, minutes in records(f"{folder}/headways.csv")}
     return Network(stations, tracks, types, running, headways)
 
 
 def read_bids(net, bids_path, stops_path):
-    stops = [(bid, Stop(net.stations.index(station), *map(int, numbers))) for bid, station, *numbers in records(stops_path)]
+    stops = [(bid, Stop(net.stations.index(station), *map(int, numbers)))
+             for bid, station, *numbers in records(stops_path)]
     bids = []
     for name, bidder, kind, origin, destination, *rest in records(bids_path):
         numbers = list(map(int, rest))
@@ -389,13 +393,14 @@ def trace_text(net, bids, plan):
                   f"  start prices: {prices_text(net, turn.start)}"]
         if turn.result:
             place = turn.path.index(turn.result)
-            lines += [f"  candidates: {len(turn.path)}, the result is number {place}",
+            lines += [f"  candidates: {len(turn.path)}, the result is number {place} from 0",
                       f"  dual values: {' '.join(str(candidate.dual.value) for candidate in turn.path)}",
                       f"  result prices: {prices_text(net, turn.result.prices)}", *dual_lines(net, bids, turn.result.dual),
                       f"  repaired: {walks_text(net, bids, turn.repaired)}"]
         lines.append(f"  revenue: {turn.revenue}")
     for node, start, dual in plan.rest:
-        lines += [f"open: priced {prices_text(net, start)}", f"  decisions: {node_text(net, bids, node)}", *dual_lines(net, bids, dual)]
+        lines += [f"open: priced {prices_text(net, start)}", f"  decisions: {node_text(net, bids, node)}",
+                  *dual_lines(net, bids, dual)]
     return "".join(line + "\n" for line in lines)
 
 
