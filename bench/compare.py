@@ -16,7 +16,7 @@ from collections import Counter
 import demo
 import plain
 
-MOST_WALKS = 150
+MOST_WALKS = 200
 
 
 def write(folder, tables):
@@ -31,10 +31,14 @@ def random_network(draws):
     tracks = []
     for _ in range(draws.choice([1, 1, 2, 2, 3, 4, 5])):
         ends = draws.sample(stations, 2)
-        if tracks and draws.random() < 0.4:
+        if tracks and draws.random() < 0.5:
             ends = [tracks[-1][1], tracks[-1][0]]
         tracks.append(ends)
-    slow, far = draws.choice([3, 6, 10]), draws.choice([[1], [1, 2, 3], [1, 1, 4, 7], [2, 5, 9], [1, 3, 14]])
+    slow = draws.choice([2, 3, 6, 10])
+    far = draws.choice([[1], [1, 2, 3], [1, 1, 4, 7], [2, 5, 9], [1, 3, 14], [4, 9, 20]])
+    if draws.random() < 0.2:
+        # Forth and back quickly, with headways by which a train gets in its own way.
+        tracks, slow, far = [["A", "B"], ["B", "A"]], 2, [1, 3, 6, 9]
     running, headways = [], []
     for number in range(len(tracks)):
         users = [kind for kind in types if draws.random() < 0.9] or types[:1]
@@ -76,12 +80,12 @@ def random_bid(draws, net, early, spread):
         return None
     destination = draws.choice(ends)
     depart = early + draws.randint(0, spread)
-    departs = sorted([depart, depart + draws.randint(0, 4), depart + draws.randint(0, 4)])
-    slack = draws.choice([0, 1, 2, 4, 7])
+    departs = sorted([depart, depart + draws.randint(0, 6), depart + draws.randint(0, 6)])
+    slack = draws.choice([0, 1, 2, 4, 7, 10])
     arrive = depart + reached[destination]
     arrives = sorted(min(minute, plain.LAST_MINUTE) for minute in
                      [arrive, arrive + draws.randint(0, slack), departs[2] + reached[destination] + slack])
-    base = draws.choice([0, 1, 7, 100, 1000, 1000, 1000, draws.randint(1, 2000)])
+    base = draws.choice([0, 7, 100, 1000, 1000, 1000, draws.randint(1, 2000)])
     rates = [draws.choice([0, 0, 1, 10, draws.randint(0, 300)]) for _ in range(6)]
     fields = [net.types[kind], net.stations[origin], net.stations[destination], *departs, *arrives, base, *rates,
               draws.choice([0, 0, 1, 2, 3])]
@@ -97,7 +101,7 @@ def bid_tables(draws, net):
     """The two tables of bids; now and then a bid is another one again."""
     early, spread = draws.choice([0, 0, 0, 100, 2850]), draws.choice([0, 1, 2, 4, 8])
     made = []
-    for number in range(draws.choice([1, 2, 3, 4, 4, 5, 5])):
+    for number in range(draws.choice([1, 2, 3, 4, 5, 5])):
         bid = draws.choice(made) if made and draws.random() < 0.25 else random_bid(draws, net, early, spread)
         if bid:
             made.append(bid)
@@ -131,11 +135,11 @@ def random_case(draws, folder):
             return net, bids
 
 
-def all_options(draws):
-    """The options to plan with: few steps, many nodes, and what is planned with where none is given."""
-    few = ["--steps", str(draws.randint(0, 3)), "--budget", str(draws.randint(1, 7))]
-    many = ["--steps", str(draws.randint(2, 10)), "--budget", str(draws.choice([5, 20, 40]))]
-    return [few, many, ["--budget", "3"]]
+def all_options(draws, walks):
+    """The options to plan with: few steps, many nodes, many steps, and where there are few walks no options at all."""
+    few = ["--steps", str(draws.randint(0, 3)), "--budget", str(draws.randint(1, 30))]
+    many = ["--steps", str(draws.randint(2, 10)), "--budget", str(draws.choice([2, 5, 60]))]
+    return [few, many, ["--budget", "3"]] + ([[]] if walks <= 30 else [])
 
 
 def compared(program, folder, net, planner, options, seen):
@@ -161,7 +165,7 @@ def main(program, count, seed):
         draws = random.Random(f"{seed} {case}")
         net, bids = random_case(draws, folder)
         planner = plain.Planner(net, bids)
-        for options in all_options(draws):
+        for options in all_options(draws, sum(map(len, planner.walks))):
             if not compared(os.path.realpath(program), folder, net, planner, options, seen):
                 print(f"-- case {case} of seed {seed}")
                 return 1
