@@ -3,7 +3,7 @@
 
 Stations hang together by lines with branches, with a track each way between neighbours, and what is left of TRACKS makes
 short cuts; so TRACKS is at least 2 * (STATIONS - 1). Each bid goes along 4 to 9 sections with 2 to 4 stops, departs within
-30 to 60 minutes and may wait up to 10 minutes at a station; its windows are made for the way over the lines, so it has walks.
+10 to 20 minutes and may wait up to 4 minutes at a station; its windows are made for the way over the lines, so it has walks.
 All numbers are drawn from the seed, so the same words always write the same tables. FOLDER gets net/ with its five tables,
 bids.csv and stops.csv.
 """
@@ -79,12 +79,12 @@ def bid(draws, before, minutes, types, number):
     between = list(range(1, length))
     while len(between) > 2 + draws.draw(3):
         between.pop(draws.draw(len(between)))
-    depart, around = 60 + draws.draw(240), 15 + draws.draw(16)
+    depart, around = 60 + draws.draw(240), 5 + draws.draw(6)
     run = sum(minutes[a, b] + extra(kind) for a, b in zip(way, way[1:]))
     arrive = depart + run + 2 + 3 * len(between)
     fields = [f"b{number}", f"R{1 + draws.draw(10)}", f"c{kind + 1}", f"S{way[0] + 1}", f"S{way[-1] + 1}",
               depart - around, depart, depart + around, arrive - around, arrive, arrive + around,
-              2000 + 500 * length + draws.draw(2000), 20, 30, 10, 40, 5, 15, 2 + draws.draw(9)]
+              2000 + 500 * length + draws.draw(2000), 20, 30, 10, 40, 5, 15, 1 + draws.draw(4)]
     stops = [f"b{number},S{way[place] + 1},1,3,0,2879" for place in between]
     return ",".join(map(str, fields)), stops
 
