@@ -4,10 +4,12 @@ pub mod PriceListLemmas
 pub mod OneLemmas
 pub mod ValueLemmas
 pub mod ArcLemmas
+pub mod MarkLemmas
 pub mod NumberLemmas
 pub mod GroupLemmas
 pub mod PriceSumLemmas
 pub mod FoundLemmas
+pub mod TouchLemmas
 pub mod TermLemmas
 pub mod SettledLemmas
 pub mod SizeLemmas

@@ -3,6 +3,7 @@ pub mod Replies
 pub mod Steps
 pub mod Paths
 pub mod Deads
+pub mod Marks
 pub mod Laws
 pub mod Repairs
 pub mod Arcs
