@@ -17,3 +17,4 @@ pub mod TableLemmas
 pub mod ValueOfLemmas
 pub mod HoldLemmas
 pub mod StepLemmas
+pub mod PathLemmas

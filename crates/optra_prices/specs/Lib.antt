@@ -12,3 +12,4 @@ pub mod Terms
 pub mod Standings
 pub mod Holdings
 pub mod Courses
+pub mod Following

@@ -11,6 +11,7 @@ use std::marker::Model;
 mod courses;
 pub mod deads;
 pub mod duals;
+mod following;
 mod grouping;
 mod holding;
 mod laws;
