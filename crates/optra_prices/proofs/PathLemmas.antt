@@ -11,11 +11,11 @@ use Rattle.optra_bid.specs.declared.bids.Bid.{Bid}
 use Rattle.optra_walk.specs.Families.{Rows}
 use Rattle.optra_node.specs.declared.Decision.{Decision}
 use Rattle.optra_node.specs.Duals.{PriceList, whole_cents}
-use Rattle.optra_prices.specs.Replies.{Valuation, IsValuation}
+use Rattle.optra_prices.specs.Replies.{IsValuation}
 use Rattle.optra_prices.specs.Steps.{IsStep}
 use Rattle.optra_prices.specs.Tables.{IsRowPrice}
 use Rattle.optra_prices.specs.Terms.{Setting}
-use Rattle.optra_prices.specs.Paths.{IsLow, IsPathSoFar, IsPricePath, IsFirstLeast, IsPathResult, IsNextPrices}
+use Rattle.optra_prices.specs.Paths.{IsLow, IsPathSoFar, IsFirstLeast, IsPathResult, IsNextPrices}
 use Rattle.optra_prices.specs.Courses.{listed, prices_at, valuation_at, IsPriced, KeepsRows, AreNumbered}
 use Rattle.optra_prices.specs.Following.{candidate_at, KeepsLess, IsKept, IsFollowing, IsFollowed}
 use Rattle.optra_prices.specs.declared.Priced.{Priced}

@@ -2,8 +2,6 @@ use Rattle.std.proofs.Common.{◌≡◌, List, ap, ◌∙◌, subst, rules, to_z
 use Rattle.std.specs.Prelude.{ℤ, FitsSigned}
 use Rattle.std.specs.Int.{w64}
 use Rattle.std.proofs.lemmas.Int.{to_z-of_z}
-use Rattle.optra_node.specs.Duals.{PriceList}
-use Rattle.optra_prices.specs.Replies.{Valuation}
 use Rattle.optra_prices.specs.Terms.{Setting, setting}
 use Rattle.optra_prices.specs.Paths.{IsPathResult}
 use Rattle.optra_prices.specs.Courses.{listed, prices_at, valuation_at}
