@@ -116,8 +116,12 @@ module _ {R : Type 0} (cmp : R → R → Ordering) (net : Net) (proper : IsPrope
         bound_is = is.bound_is;
       }
 
+  -- the state in which they end
+  abbrev last : State R
+  last = state_of s.node s.waiting s.items s.incumbent s.count
+
   -- and once none waits, the search is the plan
-  pub closed_plan : IsOver budget (state_of s.node s.waiting s.items s.incumbent s.count) → (c : Parts R) → MayClose cmp net rows bids c → HasClosed s c → c.waiting ≡ [] → IsPlainPlan cmp net rows bids steps budget (plan_of c)
+  pub closed_plan : IsOver budget last → (c : Parts R) → MayClose cmp net rows bids c → HasClosed s c → c.waiting ≡ [] → IsPlainPlan cmp net rows bids steps budget (plan_of c)
   closed_plan over c may has none =
       record {
         last = last;
@@ -132,9 +136,6 @@ module _ {R : Type 0} (cmp : R → R → Ordering) (net : Net) (proper : IsPrope
             (tree_dead cmp net proper rows bids steps budget last is.turns c.items tree_is) (tree_prices cmp net proper rows bids steps budget last is.turns c.items tree_is) may.bound_is;
       }
     where
-      abbrev last : State R
-      last = state_of s.node s.waiting s.items s.incumbent s.count
-
       no_more : (xs : List (Item R)) → xs ≡ xs ++ []
       no_more [] = refl
       no_more (x ∷ xs) = ap (λ ys. x ∷ ys) (no_more xs)

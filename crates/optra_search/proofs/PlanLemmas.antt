@@ -1,5 +1,5 @@
 -- A plan makes a formed and valid certificate, and its numbers are within each other.
-use Rattle.std.proofs.Common.{◌≡◌, ℕ, ◌≤◌, ◌<◌, List, [], ◌∷◌, map, length, Option, None, Some, refl, sym, ap, ◌∙◌, subst, arith, inl, inr}
+use Rattle.std.proofs.Common.{◌≡◌, ℕ, ◌≤◌, ◌<◌, List, [], ◌∷◌, ◌++◌, map, length, Option, None, Some, refl, sym, ap, ◌∙◌, subst, arith, inl, inr}
 use Rattle.std.specs.Prelude.{All, ◌⊎◌, IfSome, IsSomeAnd}
 use Rattle.std.specs.Prelude.{ℤ, ◌≤ℤ◌, ◌<ℤ◌}
 use Rattle.std.specs.declared.cmp.Ordering.{Ordering}
@@ -83,7 +83,7 @@ module _ {R : Type 0} (cmp : R → R → Ordering) (net : Net) (proper : IsPrope
       tree_items (HasPrices rows) (All-weaker (IsSoundItem cmp net rows bids) (HasPrices rows) (λ item h. h.prices) last.items last_sound.items)
       (All-weaker (IsSoundOpen cmp net rows bids) (λ w. HasPrices rows (priced_open w)) (λ w h. h.proper.each) last.open_nodes last_sound.waiting)
 
-  tree_formed : All (IsFormedItem cmp net (length bids)) tree
+  pub tree_formed : All (IsFormedItem cmp net (length bids)) tree
   tree_formed =
       tree_items (IsFormedItem cmp net (length bids)) (All-weaker (IsSoundItem cmp net rows bids) (IsFormedItem cmp net (length bids)) (λ item h. h.formed) last.items last_sound.items)
       (All-weaker (IsSoundOpen cmp net rows bids) (λ w. IsFormedItem cmp net (length bids) (priced_open w)) (λ w h. h.proper.ascending) last.open_nodes last_sound.waiting)
