@@ -7,6 +7,7 @@ use Rattle.std.specs.declared.cmp.Ordering.{Ordering}
 use Rattle.std.proofs.lemmas.Int.{ints}
 use Rattle.std.proofs.lemmas.List.Elements.{All-weaker}
 use Rattle.optra_network.specs.Net.{Net, IsProper}
+use Rattle.optra_bid.specs.Specs.{IsBetween}
 use Rattle.optra_bid.specs.declared.bids.Bid.{Bid}
 use Rattle.optra_walk.specs.declared.Leg.{Leg}
 use Rattle.optra_walk.specs.Choices.{revenue_of}
@@ -18,6 +19,7 @@ use Rattle.optra_node.specs.Nodes.{IsNode}
 use Rattle.optra_node.specs.Duals.{PriceList, whole_cents}
 use Rattle.optra_node.specs.Trees.{root, places, open_after}
 use Rattle.optra_node.specs.Certificates.{IsBoundOf}
+use Rattle.optra_node.proofs.SumLemmas.{sum_of-cons}
 use Rattle.optra_node.proofs.LoadLemmas.{all_head, all_tail}
 use Rattle.optra_prices.specs.Replies.{Valuation, IsValuation}
 use Rattle.optra_prices.specs.Steps.{AreProper}
@@ -91,17 +93,14 @@ module _ {R : Type 0} (cmp : R → R → Ordering) (net : Net) (rows : Rows R) (
           ∙ ap (λ (ws : List (OpenNode R)). s.items ++ map priced_open ws) (sym opens_are);
     }
 
--- leaves after leaves
-pub closed_more : {R : Type 0} (a b c : Parts R) → HasClosed a b → HasClosed b c → HasClosed a c
-closed_more a b c p q = record {
-  incumbent = q.incumbent ∙ p.incumbent;
-  revenue = q.revenue ∙ p.revenue;
-  count = q.count ∙ p.count;
-  tree = q.tree ∙ p.tree;
-}
-
-pub closed_none : {R : Type 0} (a : Parts R) → HasClosed a a
-closed_none a = record { incumbent = refl; revenue = refl; count = refl; tree = refl }
+-- a base is at most 1,000,000,000 cents
+bases_below : (bids : List Bid) → all_bases bids ≤ℤ pos (1000000000 * length bids)
+bases_below [] = omega (arith, ints)
+bases_below (bid ∷ bids) =
+    let s = sum_of-cons (λ (b : Bid). b.money.base) bid bids in
+    let b = bid.bounds.amounts.base.1 in
+    let i = bases_below bids in
+    omega (arith, ints)
 
 module _ {R : Type 0} (cmp : R → R → Ordering) (net : Net) (proper : IsProper net) (rows : Rows R) (bids : List Bid) (steps budget : ℕ) (s : Parts R) (is : IsReached cmp net rows bids steps budget s) where
   -- the nodes that wait when the turns end may become leaves
@@ -142,3 +141,11 @@ module _ {R : Type 0} (cmp : R → R → Ordering) (net : Net) (proper : IsPrope
 
       tree_is : c.items ≡ s.items ++ map priced_open (waiting_of s)
       tree_is = no_more c.items ∙ ap (λ (ws : List (Waiting R)). c.items ++ map priced_open (open_from c.node (front ws))) (sym none) ∙ has.tree
+
+  -- its bound is within the bases
+  pub closed_range : length bids ≤ 1000 → IsOver budget last → (c : Parts R) → MayClose cmp net rows bids c → HasClosed s c → c.waiting ≡ [] → IsBetween (pos 0) (pos 1000000000000) c.bound
+  closed_range few over c may has none =
+      let n = numbered cmp net proper rows bids steps budget (plan_of c) (closed_plan over c may has none) in
+      let most = n.bases in
+      let all = bases_below bids in
+      (may.bound_is.least, omega (arith, ints))
