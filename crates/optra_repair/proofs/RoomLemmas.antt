@@ -1,5 +1,5 @@
 -- What the totals say of what fits.
-use Rattle.std.proofs.Common.{◌≡◌, ℕ, zero, suc, ◌+◌, ◌≤◌, ◌<◌, true, false, List, [], ◌∷◌, ◌++◌, map, length, take, get_or, Option, Some, None, slice_get, refl, sym, ap, ◌∙◌, subst, arith}
+use Rattle.std.proofs.Common.{◌≡◌, ℕ, zero, suc, ◌+◌, ◌≤◌, ◌<◌, Bool, true, false, List, [], ◌∷◌, ◌++◌, map, length, take, get_or, Option, Some, None, slice_get, refl, sym, ap, ◌∙◌, subst, arith}
 use Rattle.std.specs.Prelude.{◌↔◌, All, Contains, IfSome}
 use Rattle.std.proofs.lemmas.Option.{slice_get-get_or}
 use Rattle.std.proofs.lemmas.List.{take_all}
@@ -94,6 +94,11 @@ module _ {R : Type 0} (rows : Rows R) where
       by : (o : Option Leg) → slice_get legs n ≡ o → IfSome o (λ leg. HasRoom rows after kind leg → ⊥) → HaveRoom rows before kind legs → ⊥
       by None e h = absurd (omega (arith, some, none_past legs n e))
       by (Some leg) e h = no_whole before after kind legs n leg adds e (are_rows leg (at_contains legs n leg e)) h
+
+  -- the same, by equal parts
+  pub put_moves : (before after : R → ℕ) (kind kind' : TypeId) (legs legs' : List Leg) (kept kept' : Bool) → kind ≡ kind' → legs ≡ legs' → kept ≡ kept' → IsPut rows kind legs kept before after → IsPut rows kind' legs' kept' before after
+  put_moves before after kind kind' legs legs' kept kept' a b d put =
+      subst (λ (k : TypeId). IsPut rows k legs' kept' before after) a (subst (λ (xs : List Leg). IsPut rows kind xs kept' before after) b (subst (λ (h : Bool). IsPut rows kind legs h before after) d put))
 
   module _ (placed : List Entry) (total : R → ℕ) (are : AreTotals rows total placed) where
     fit_rows : AreWithin rows total → FitRows rows placed

@@ -34,13 +34,7 @@ fn add_fitting<F: RowFamily>(
 }
 
 /// Takes legs away that were added.
-fn take_back<F: RowFamily>(
-    load: &mut Load<F>,
-    net: &Network,
-    rows: &F,
-    kind: TypeId,
-    legs: &[Leg],
-)
+fn take_back<F: RowFamily>(load: &mut Load<F>, net: &Network, rows: &F, kind: TypeId, legs: &[Leg])
     requires usable { All (IsUsable net.now kind) legs.now }
     requires enough { (row : F.Row) → use_of_legs (F.rows_of rows.now net.now) kind legs.now row ≤ total_of F.Row.cmp load.old.totals row }
     ensures { AddsLegs (F.rows_of rows.now net.now) kind legs.now (total_of F.Row.cmp load.new.totals) (total_of F.Row.cmp load.old.totals) }

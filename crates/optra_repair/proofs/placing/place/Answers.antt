@@ -1,5 +1,5 @@
 -- The walk that the search finds is the first worthiest one, and it is kept where it fits as a whole.
-use Rattle.std.proofs.Common.{List, None, Some, sym, subst}
+use Rattle.std.proofs.Common.{true, false, List, None, Some, sym, subst}
 use Rattle.std.specs.Prelude.{All}
 use Rattle.optra_network.specs.declared.TypeId.{TypeId}
 use Rattle.optra_walk.specs.declared.Leg.{Leg}
@@ -11,6 +11,7 @@ use Rattle.optra_repair.specs.declared.marking.ArcPart.{ArcPart}
 use Rattle.optra_repair.specs.Parts.{IsWorthWalk}
 use Rattle.optra_repair.proofs.PartLemmas.{parts_range}
 use Rattle.optra_repair.proofs.PlaceLemmas.{none_given, walk_given, refused}
+use Rattle.optra_repair.proofs.RoomLemmas.{put_moves}
 use Rattle.optra_repair.proofs.WorthLemmas.{worth_is_walk}
 use Rattle.optra_repair.proofs.placing.place.Goals as goal
 
@@ -41,12 +42,24 @@ pub returns-then-branch-clause-given : goal.returns-then-branch-clause-given
 returns-then-branch-clause-given g c placed totals =
     let net = c.args.inst.net.now in
     let f = c.args.rows.now in
+    let rows = g.F.RowFamily.rows_of f net in
+    let total = total_of g.F.Row.Ord.cmp c.args.load.now.totals in
     let proper = c.track_count.ensures.proper in
     let bid = c.args.bid.now in
-    let a = c.if-branch.true in
-    walk_given net proper (g.F.RowFamily.rows_of f net) c.args.inst.bids.now c.tests_tell_allowed.ensures c.args.summary.now.node c.args.number bid c.args.graph.now c.requires.graph (total_of g.F.Row.Ord.cmp c.args.load.now.totals) c.mark_all.new.parts.items
+    let put = put_moves rows total (total_of g.F.Row.Ord.cmp c.keep.new.load.totals) c.kind_of.result bid.path.kind c.legs_of.result.now c.in-Some.walk c.in_ok-keep.field-0 true c.kind_of.ensures c.legs_of.ensures c.if-branch.true c.in_ok-keep.ensures in
+    walk_given net proper rows c.args.inst.bids.now c.tests_tell_allowed.ensures c.args.summary.now.node c.args.number bid c.args.graph.now c.requires.graph total c.mark_all.new.parts.items
     c.in_ok-mark_all.ensures (λ leg usable. (g.met.F.RowFamily.lists_rows f net bid.path.kind leg proper usable).are_rows) c.requires.within placed totals c.in-Some.walk
-    (subst (λ (parts : List ArcPart). IsWorthWalk c.args.graph.now parts (Some c.in-Some.walk)) c.deref.ensures.value (rw c.in-Some.is at c.in_ok-walk.ensures)) ?
+    (subst (λ (parts : List ArcPart). IsWorthWalk c.args.graph.now parts (Some c.in-Some.walk)) c.deref.ensures.value (rw c.in-Some.is at c.in_ok-walk.ensures)) put.0
 
 pub returns-else-branch-clause-given : goal.returns-else-branch-clause-given
-returns-else-branch-clause-given g c placed totals = ?
+returns-else-branch-clause-given g c placed totals =
+    let net = c.args.inst.net.now in
+    let f = c.args.rows.now in
+    let rows = g.F.RowFamily.rows_of f net in
+    let total = total_of g.F.Row.Ord.cmp c.args.load.now.totals in
+    let proper = c.track_count.ensures.proper in
+    let bid = c.args.bid.now in
+    let put = put_moves rows total (total_of g.F.Row.Ord.cmp c.keep.new.load.totals) c.kind_of.result bid.path.kind c.legs_of.result.now c.in-Some.walk c.in_ok-keep.field-0 false c.kind_of.ensures c.legs_of.ensures c.if-branch.false c.in_ok-keep.ensures in
+    refused net proper rows c.args.inst.bids.now c.tests_tell_allowed.ensures c.args.summary.now.node c.args.number bid c.args.graph.now c.requires.graph total c.mark_all.new.parts.items
+    c.in_ok-mark_all.ensures (λ leg usable. (g.met.F.RowFamily.lists_rows f net bid.path.kind leg proper usable).are_rows) c.requires.within placed totals c.in-Some.walk
+    (subst (λ (parts : List ArcPart). IsWorthWalk c.args.graph.now parts (Some c.in-Some.walk)) c.deref.ensures.value (rw c.in-Some.is at c.in_ok-walk.ensures)) put.0
