@@ -4,10 +4,12 @@ pub mod PriceListLemmas
 pub mod OneLemmas
 pub mod ValueLemmas
 pub mod ArcLemmas
+pub mod MarkLemmas
 pub mod NumberLemmas
 pub mod GroupLemmas
 pub mod PriceSumLemmas
 pub mod FoundLemmas
+pub mod TouchLemmas
 pub mod TermLemmas
 pub mod SettledLemmas
 pub mod SizeLemmas
@@ -15,3 +17,4 @@ pub mod TableLemmas
 pub mod ValueOfLemmas
 pub mod HoldLemmas
 pub mod StepLemmas
+pub mod PathLemmas

@@ -106,7 +106,7 @@ pub rows_stay : {R : Type 0} (numbered : List R) → Extends numbered numbered
 rows_stay numbered n row at = at
 
 -- a start arc has no leg
-no_start : (t : Timed) (k m : ℕ) (leg : Leg) → leg_of t k ≡ Some leg → start_of t k ≡ Some m → ⊥
+pub no_start : (t : Timed) (k m : ℕ) (leg : Leg) → leg_of t k ≡ Some leg → start_of t k ≡ Some m → ⊥
 no_start t k m leg e start =
     let l = slice_get_within t.minutes k m start in
     let none : leg_of t k ≡ None = ap (λ (b : Bool). cond b None (Some (leg_at t k))) (lt-ltb k (length t.minutes) l) in

@@ -3,6 +3,7 @@ pub mod Replies
 pub mod Steps
 pub mod Paths
 pub mod Deads
+pub mod Marks
 pub mod Laws
 pub mod Repairs
 pub mod Arcs
@@ -10,3 +11,5 @@ pub mod Tables
 pub mod Terms
 pub mod Standings
 pub mod Holdings
+pub mod Courses
+pub mod Following

@@ -1,11 +1,11 @@
 //! Groups of touches, one after the other, and their prices.
-ghost use Rattle.std.specs.Prelude.{◌≡◌, ◌≢◌, ◌||◌, ℕ, ◌+◌, ◌-◌, ◌*◌, ◌≤◌, ◌<◌, true, false, All, Some, IfOk, OnOk, length, slice_index_or, pos, ◌*ℤ◌};
+ghost use Rattle.std.specs.Prelude.{◌≡◌, ◌≢◌, ◌||◌, ℕ, ◌+◌, ◌-◌, ◌*◌, ◌≤◌, ◌<◌, true, false, All, Some, IfSome, IfOk, OnOk, length, slice_index_or, pos, ◌*ℤ◌};
 ghost use Rattle.optra_bid.specs.Specs.{IsBetween};
 ghost use Rattle.optra_walk.specs.Families.{IsUsable};
 ghost use Rattle.optra_prices.specs.Tables.{IsNumbering, Extends, AreTouches, group_at, uses_in_all, AreGroups, KeepsGroups, IsRowPrice, IsGroupPrice, group_price, AreGroupPrices};
 
 use crate::numbering::{Groups, Numbering, Touch};
-use crate::touching::push_touches;
+use crate::touching::{push_touches, touches_same};
 use optra_network::{Network, NoMemory, TypeId};
 use optra_walk::{Leg, RowFamily};
 use std::alloc::{AllocError, Global};
@@ -20,8 +20,42 @@ pub(crate) fn empty_groups(alloc: Global) -> Result<Groups, NoMemory>
     })
 }
 
-/// The number of a group with what the leg touches.
-pub(crate) fn leg_group<F: RowFamily>(
+/// The touches of a group.
+fn group(groups: &Groups, g: usize) -> &[Touch]
+    requires groups { AreGroups groups.now.starts.items groups.now.touches.items }
+    requires within { g + 1 < length groups.now.starts.items }
+    ensures { result.now ≡ group_at groups.now.starts.items groups.now.touches.items g }
+{
+    let start = groups.starts[g];
+    let end = groups.starts[g + 1];
+    &groups.touches[start..end]
+}
+
+/// The group that was added last, where it has exactly what the leg touches.
+fn last_group<F: RowFamily>(
+    net: &Network,
+    rows: &F,
+    numbering: &Numbering<F::Row>,
+    groups: &Groups,
+    kind: TypeId,
+    leg: Leg,
+) -> Option<u32>
+    requires usable { IsUsable net.now kind leg }
+    requires groups { AreGroups groups.now.starts.items groups.now.touches.items }
+    ensures within { IfSome result (λ g. g + 1 < length groups.now.starts.items) }
+    ensures touches { IfSome result (λ g. AreTouches numbering.now.rows.items ((F.rows_of rows.now net.now).uses kind leg) (group_at groups.now.starts.items groups.now.touches.items g) (F.rows_used rows.now net.now kind leg)) }
+{
+    let last = groups.starts.len() - 2;
+    let number = u32::try_from(last).ok()?;
+    if touches_same(net, rows, &numbering.rows, group(groups, last), kind, leg) {
+        Some(number)
+    } else {
+        None
+    }
+}
+
+/// A new group with what the leg touches.
+fn new_group<F: RowFamily>(
     net: &Network,
     rows: &F,
     numbering: &mut Numbering<F::Row>,
@@ -48,6 +82,33 @@ pub(crate) fn leg_group<F: RowFamily>(
     push_touches(net, rows, numbering, &mut groups.touches, kind, leg)?;
     groups.starts.push(groups.touches.len())?;
     Ok(group)
+}
+
+/// The number of a group with what the leg touches. Legs that stand one after the other and touch the same share a group.
+pub(crate) fn leg_group<F: RowFamily>(
+    net: &Network,
+    rows: &F,
+    numbering: &mut Numbering<F::Row>,
+    groups: &mut Groups,
+    kind: TypeId,
+    leg: Leg,
+) -> Result<u32, NoMemory>
+    requires usable { IsUsable net.now kind leg }
+    requires numbering { IsNumbering F.Row.cmp numbering.old.numbers numbering.old.rows.items }
+    requires rows { All (λ row. (F.rows_of rows.now net.now).is_row row ≡ true) numbering.old.rows.items }
+    requires groups { AreGroups groups.old.starts.items groups.old.touches.items }
+    ensures numbering { OnOk result (IsNumbering F.Row.cmp numbering.new.numbers numbering.new.rows.items) }
+    ensures rows { OnOk result (All (λ row. (F.rows_of rows.now net.now).is_row row ≡ true) numbering.new.rows.items) }
+    ensures extends { OnOk result (Extends numbering.old.rows.items numbering.new.rows.items) }
+    ensures groups { OnOk result (AreGroups groups.new.starts.items groups.new.touches.items) }
+    ensures keeps { OnOk result (KeepsGroups groups.old.starts.items groups.old.touches.items groups.new.starts.items groups.new.touches.items) }
+    ensures within { IfOk result (λ g. g + 1 < length groups.new.starts.items) }
+    ensures touches { IfOk result (λ g. AreTouches numbering.new.rows.items ((F.rows_of rows.now net.now).uses kind leg) (group_at groups.new.starts.items groups.new.touches.items g) (F.rows_used rows.now net.now kind leg)) }
+{
+    match last_group(net, rows, numbering, groups, kind, leg) {
+        Some(group) => Ok(group),
+        None => new_group(net, rows, numbering, groups, kind, leg),
+    }
 }
 
 /// The price of a row by its number.
@@ -145,7 +206,5 @@ fn price_at(prices: &[i64], groups: &Groups, g: usize) -> i64
     ensures value { result ≡ group_price prices.now (group_at groups.now.starts.items groups.now.touches.items g) }
     ensures range { IsGroupPrice result }
 {
-    let start = groups.starts[g];
-    let end = groups.starts[g + 1];
-    group_price(prices, &groups.touches[start..end])
+    group_price(prices, group(groups, g))
 }

@@ -8,11 +8,14 @@ use optra_node::Prices;
 use optra_walk::Walk;
 use std::marker::Model;
 
+mod courses;
 pub mod deads;
 pub mod duals;
+mod following;
 mod grouping;
 mod holding;
 mod laws;
+mod marking;
 mod numbering;
 mod paths;
 mod searching;

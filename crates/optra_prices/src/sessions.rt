@@ -11,7 +11,7 @@ use crate::tables::bid_table;
 use optra_dag::Buffers;
 use optra_graph::Graphs;
 use optra_network::NoMemory;
-use optra_node::Node;
+use optra_node::{Node, Summary};
 use optra_walk::{Instance, RowFamily};
 use std::alloc::Global;
 
@@ -35,16 +35,17 @@ pub(crate) fn make_tables<'g, F: RowFamily, G: Graphs>(
     ensures extends { OnOk result (Extends numbering.old.rows.items numbering.new.rows.items) }
     ensures tables { IfOk result (λ tables. AreTables (setting inst.entry.net.now (F.rows_of rows.now inst.entry.net.now) (F.rows_used rows.now inst.entry.net.now) inst.entry.bids.now node.now) (length inst.entry.bids.now) numbering.new.rows.items tables.items) }
 {
-    let mut tables = Vec::with_capacity(alloc, inst.bids.len())?;
+    let summary = Summary::new(alloc, inst, rows, node)?;
     let bids = inst.bids;
+    let mut tables = Vec::with_capacity(alloc, bids.len())?;
     for number in 0..bids.len() {
         let bid = &bids[number];
         let graph = graphs.graph(bid);
         let table = bid_table(
             alloc,
-            inst,
+            inst.net,
             rows,
-            node,
+            &summary,
             number as u32,
             bid,
             graph,

@@ -2,28 +2,22 @@
 ghost use Rattle.std.specs.Prelude.{◌≡◌, ◌+◌, ◌<◌, ◌≤◌, ◌↔◌, IsTrue, true, All, Some, IfOk, OnOk, length, slice_get};
 ghost use Rattle.optra_walk.specs.Families.{IsUsable};
 ghost use Rattle.optra_graph.specs.Timed.{IsGraphOf, start_of, leg_of};
-ghost use Rattle.optra_node.specs.Nodes.{IsNode, IsFormedLeg, has_yes, kind_at};
+ghost use Rattle.optra_node.specs.Nodes.{IsFormedLeg, kind_at};
 ghost use Rattle.optra_node.specs.Spans.{IsLegOk, IsStartOk};
 ghost use Rattle.optra_prices.specs.Arcs.{start_value, leg_value, IsArcValue};
 ghost use Rattle.optra_prices.specs.Tables.{IsNumbering, Extends, AreGroups, KeepsGroups};
 ghost use Rattle.optra_prices.specs.Terms.{setting, IsTerm, AreTerms, AreBidArcs};
 
 use crate::grouping::{empty_groups, leg_group};
+use crate::marking::has_yes;
 use crate::numbering::{ArcTerm, BidTable, Groups, Numbering};
 use crate::weighing::{leg_value, start_value};
 use optra_bid::Bid;
 use optra_graph::TimeGraph;
-use optra_network::{Minute, NoMemory, TypeId};
-use optra_node::{Decision, Node};
-use optra_walk::{Instance, Leg, RowFamily};
+use optra_network::{Minute, Network, NoMemory, TypeId};
+use optra_node::Summary;
+use optra_walk::{Leg, RowFamily};
 use std::alloc::Global;
-
-/// Whether the bid has a yes leg.
-fn has_yes(decisions: &[Decision], bid: u32) -> bool
-    ensures { result ≡ has_yes decisions.now bid }
-{
-    decisions.iter().any(|d| d.yes && d.bid == bid)
-}
 
 /// The train type of a bid.
 pub(crate) fn kind_of(bid: &Bid) -> TypeId
@@ -33,10 +27,14 @@ pub(crate) fn kind_of(bid: &Bid) -> TypeId
 }
 
 /// The arc of a start, which touches nothing.
-fn start_term(inst: Instance<'_>, node: &Node, number: u32, bid: &Bid, minute: Minute) -> ArcTerm
-    requires node { IsNode inst.net.now (length inst.bids.now) node.now }
-    requires number { number < length inst.bids.now }
-    ensures allowed { IsTrue result.allowed ↔ IsStartOk node.now number minute }
+fn start_term<F: RowFamily>(
+    summary: &Summary<'_, F>,
+    number: u32,
+    bid: &Bid,
+    minute: Minute,
+) -> ArcTerm
+    requires { number < length summary.now.bids }
+    ensures allowed { IsTrue result.allowed ↔ IsStartOk summary.now.node number minute }
     ensures value { result.value ≡ start_value bid.now minute }
     ensures range { IsArcValue result.value }
     ensures group { result.group ≡ 0 }
@@ -44,40 +42,38 @@ fn start_term(inst: Instance<'_>, node: &Node, number: u32, bid: &Bid, minute: M
     ArcTerm {
         value: start_value(bid, minute),
         group: 0,
-        allowed: node.start_ok(inst, number, minute),
+        allowed: summary.start_ok(number, minute),
     }
 }
 
 /// The arc of a leg, which touches the rows of a group.
 fn leg_term<F: RowFamily>(
-    inst: Instance<'_>,
-    rows: &F,
-    node: &Node,
+    net: &Network,
+    summary: &Summary<'_, F>,
     number: u32,
     bid: &Bid,
     leg: Leg,
     group: u32,
 ) -> ArcTerm
-    requires node { IsNode inst.net.now (length inst.bids.now) node.now }
-    requires number { number < length inst.bids.now }
-    requires leg { IsFormedLeg inst.net.now leg }
-    ensures allowed { IsTrue result.allowed ↔ IsLegOk inst.entry.net.now (F.rows_of rows.now inst.entry.net.now) inst.entry.bids.now node.now number (kind_at inst.entry.bids.now number) leg }
-    ensures value { result.value ≡ leg_value inst.entry.net.now bid.now leg }
+    requires number { number < length summary.now.bids }
+    requires leg { IsFormedLeg summary.now.net leg }
+    ensures allowed { IsTrue result.allowed ↔ IsLegOk summary.now.net (F.rows_of summary.now.family summary.now.net) summary.now.bids summary.now.node number (kind_at summary.now.bids number) leg }
+    ensures value { result.value ≡ leg_value net.now bid.now leg }
     ensures range { IsArcValue result.value }
     ensures group { result.group ≡ group }
 {
     ArcTerm {
-        value: leg_value(inst.net, bid, leg),
+        value: leg_value(net, bid, leg),
         group,
-        allowed: node.leg_ok(inst, rows, number, leg),
+        allowed: summary.leg_ok(number, leg),
     }
 }
 
 /// The arc at a place, with a group for its leg.
 fn term_at<F: RowFamily>(
-    inst: Instance<'_>,
+    net: &Network,
     rows: &F,
-    node: &Node,
+    summary: &Summary<'_, F>,
     number: u32,
     bid: &Bid,
     graph: &TimeGraph,
@@ -85,49 +81,51 @@ fn term_at<F: RowFamily>(
     groups: &mut Groups,
     k: u32,
 ) -> Result<ArcTerm, NoMemory>
-    requires node { IsNode inst.net.now (length inst.bids.now) node.now }
-    requires bid { slice_get inst.bids.now number ≡ Some bid.now }
-    requires graph { IsGraphOf inst.net.now bid.now.path graph.now }
+    requires net { summary.now.net ≡ net.now }
+    requires family { summary.now.family ≡ rows.now }
+    requires bid { slice_get summary.now.bids number ≡ Some bid.now }
+    requires graph { IsGraphOf net.now bid.now.path graph.now }
     requires within { k < length graph.now.dag.arcs }
     requires numbering { IsNumbering F.Row.cmp numbering.old.numbers numbering.old.rows.items }
-    requires rows { All (λ row. (F.rows_of rows.now inst.net.now).is_row row ≡ true) numbering.old.rows.items }
+    requires rows { All (λ row. (F.rows_of rows.now net.now).is_row row ≡ true) numbering.old.rows.items }
     requires groups { AreGroups groups.old.starts.items groups.old.touches.items }
     ensures numbering { OnOk result (IsNumbering F.Row.cmp numbering.new.numbers numbering.new.rows.items) }
-    ensures rows { OnOk result (All (λ row. (F.rows_of rows.now inst.entry.net.now).is_row row ≡ true) numbering.new.rows.items) }
+    ensures rows { OnOk result (All (λ row. (F.rows_of rows.now net.now).is_row row ≡ true) numbering.new.rows.items) }
     ensures extends { OnOk result (Extends numbering.old.rows.items numbering.new.rows.items) }
     ensures groups { OnOk result (AreGroups groups.new.starts.items groups.new.touches.items) }
     ensures keeps { OnOk result (KeepsGroups groups.old.starts.items groups.old.touches.items groups.new.starts.items groups.new.touches.items) }
-    ensures term { IfOk result (λ arc. IsTerm (setting inst.entry.net.now (F.rows_of rows.now inst.entry.net.now) (F.rows_used rows.now inst.entry.net.now) inst.entry.bids.now node.now) number bid.now graph.now numbering.new.rows.items groups.new.starts.items groups.new.touches.items k arc) }
+    ensures term { IfOk result (λ arc. IsTerm (setting net.now (F.rows_of rows.now net.now) (F.rows_used rows.now net.now) summary.now.bids summary.now.node) number bid.now graph.now numbering.new.rows.items groups.new.starts.items groups.new.touches.items k arc) }
 {
-    let _ = inst.net.track_count();
+    let _ = net.track_count();
     let Some(leg) = graph.leg(k) else {
         let minute = graph.start(k).unwrap_or(0);
-        return Ok(start_term(inst, node, number, bid, minute));
+        return Ok(start_term(summary, number, bid, minute));
     };
-    let group = leg_group(inst.net, rows, numbering, groups, kind_of(bid), leg)?;
-    Ok(leg_term(inst, rows, node, number, bid, leg, group))
+    let group = leg_group(net, rows, numbering, groups, kind_of(bid), leg)?;
+    Ok(leg_term(net, summary, number, bid, leg, group))
 }
 
 /// All arcs of the bid's graph at the node.
 pub(crate) fn bid_table<'g, F: RowFamily>(
     alloc: Global,
-    inst: Instance<'_>,
+    net: &Network,
     rows: &F,
-    node: &Node,
+    summary: &Summary<'_, F>,
     number: u32,
     bid: &Bid,
     graph: &'g TimeGraph,
     numbering: &mut Numbering<F::Row>,
 ) -> Result<BidTable<'g>, NoMemory>
-    requires node { IsNode inst.net.now (length inst.bids.now) node.now }
-    requires bid { slice_get inst.bids.now number ≡ Some bid.now }
-    requires graph { IsGraphOf inst.net.now bid.now.path graph.now }
+    requires net { summary.now.net ≡ net.now }
+    requires family { summary.now.family ≡ rows.now }
+    requires bid { slice_get summary.now.bids number ≡ Some bid.now }
+    requires graph { IsGraphOf net.now bid.now.path graph.now }
     requires numbering { IsNumbering F.Row.cmp numbering.old.numbers numbering.old.rows.items }
-    requires rows { All (λ row. (F.rows_of rows.now inst.net.now).is_row row ≡ true) numbering.old.rows.items }
+    requires rows { All (λ row. (F.rows_of rows.now net.now).is_row row ≡ true) numbering.old.rows.items }
     ensures numbering { OnOk result (IsNumbering F.Row.cmp numbering.new.numbers numbering.new.rows.items) }
-    ensures rows { OnOk result (All (λ row. (F.rows_of rows.now inst.entry.net.now).is_row row ≡ true) numbering.new.rows.items) }
+    ensures rows { OnOk result (All (λ row. (F.rows_of rows.now net.now).is_row row ≡ true) numbering.new.rows.items) }
     ensures extends { OnOk result (Extends numbering.old.rows.items numbering.new.rows.items) }
-    ensures table { IfOk result (λ table. AreBidArcs (setting inst.entry.net.now (F.rows_of rows.now inst.entry.net.now) (F.rows_used rows.now inst.entry.net.now) inst.entry.bids.now node.now) number bid.now table.graph.now numbering.new.rows.items table.arcs.items table.groups.starts.items table.groups.touches.items table.forced) }
+    ensures table { IfOk result (λ table. AreBidArcs (setting net.now (F.rows_of rows.now net.now) (F.rows_used rows.now net.now) summary.now.bids summary.now.node) number bid.now table.graph.now numbering.new.rows.items table.arcs.items table.groups.starts.items table.groups.touches.items table.forced) }
 {
     let count = graph.dag().arcs();
     let mut groups = empty_groups(alloc)?;
@@ -135,9 +133,9 @@ pub(crate) fn bid_table<'g, F: RowFamily>(
     arcs.reserve_exact(count as usize)?;
     for k in 0..count {
         let term = term_at(
-            inst,
+            net,
             rows,
-            node,
+            summary,
             number,
             bid,
             graph,
@@ -151,6 +149,6 @@ pub(crate) fn bid_table<'g, F: RowFamily>(
         graph,
         arcs,
         groups,
-        forced: has_yes(&node.decisions, number),
+        forced: has_yes(summary, number),
     })
 }

@@ -7,9 +7,9 @@ use Rattle.optra_prices.proofs.tables.bid_table.Given as goal
 abbrev pub invariant-loop-k : goal.invariant-loop-k
 invariant-loop-k g l = record {
   numbering : IsNumbering g.F.Row.Ord.cmp l.numbering.numbers l.numbering.rows.items;
-  rows : All (λ row. (g.F.RowFamily.rows_of l.rows l.inst.net.now).is_row row ≡ true) l.numbering.rows.items;
+  rows : All (λ row. (g.F.RowFamily.rows_of l.rows l.net).is_row row ≡ true) l.numbering.rows.items;
   extends : Extends l.initial.numbering.rows.items l.numbering.rows.items;
   groups : AreGroups l.groups.starts.items l.groups.touches.items;
   count : length l.arcs.items ≡ l.k;
-  terms : AreTerms (setting l.inst.net.now (g.F.RowFamily.rows_of l.rows l.inst.net.now) (g.F.RowFamily.rows_used l.rows l.inst.net.now) l.inst.bids.now l.node) l.number l.bid l.graph l.numbering.rows.items l.groups.starts.items l.groups.touches.items l.arcs.items;
+  terms : AreTerms (setting l.net (g.F.RowFamily.rows_of l.rows l.net) (g.F.RowFamily.rows_used l.rows l.net) l.summary.bids l.summary.node) l.number l.bid l.graph l.numbering.rows.items l.groups.starts.items l.groups.touches.items l.arcs.items;
 }

@@ -1,7 +1,7 @@
 use Rattle.std.proofs.Common.{◌≡◌, ◌-◌, ◌≤◌, length, sym, subst, arith}
 use Rattle.optra_prices.specs.Tables.{AreTouches, uses_in_all}
 use Rattle.optra_prices.proofs.GroupLemmas.{touches_use, Added, group_added}
-use Rattle.optra_prices.proofs.grouping.leg_group.Goals as goal
+use Rattle.optra_prices.proofs.grouping.new_group.Goals as goal
 
 pub returns : goal.returns
 returns g c =
