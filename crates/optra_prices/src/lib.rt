@@ -26,7 +26,7 @@ mod tables;
 mod touching;
 mod using;
 mod valuing;
-mod weighing;
+pub mod weighing;
 
 pub use laws::price_laws;
 pub use paths::price_path;
