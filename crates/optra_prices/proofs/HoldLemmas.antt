@@ -134,11 +134,11 @@ module _ {R : Type 0} (cmp : R → R → Ordering) (total : IsTotalOrder cmp) (a
   ]
 
   -- ---- the prices that are made
-  abbrev pub next_of : (R × Held → ℤ) → R → Option Held → ℤ
+  abbrev pub next_of : {V : Type 0} → (R × V → ℤ) → R → Option V → ℤ
   next_of next row None = pos 0
   next_of next row (Some held) = next (row, held)
 
-  key_none : (next : R × Held → ℤ) (es : List (R × Held)) (row : R) → NonePasses (is_at (cmp row)) es → All (λ e. eq_by_cmp cmp row e.0 ≡ false) (stepped next es)
+  key_none : {V : Type 0} (next : R × V → ℤ) (es : List (R × V)) (row : R) → NonePasses (is_at (cmp row)) es → All (λ e. eq_by_cmp cmp row e.0 ≡ false) (stepped next es)
   key_none next [] row none = All-nil (λ (x : R × ℤ). eq_by_cmp cmp row x.0 ≡ false)
   key_none next (e ∷ es) row none = by (is_positive (next e)) (key_none next es row none.1)
     where
@@ -150,7 +150,7 @@ module _ {R : Type 0} (cmp : R → R → Ordering) (total : IsTotalOrder cmp) (a
   zero_next z e l = grind (arith, ints)
 
   -- the price of a row in the list that is made
-  pub stepped_price : (next : R × Held → ℤ) → ((e : R × Held) → pos 0 ≤ℤ next e) → (es : List (R × Held)) → IsStrictlySortedBy cmp (keys_of es) → (row : R)
+  pub stepped_price : {V : Type 0} (next : R × V → ℤ) → ((e : R × V) → pos 0 ≤ℤ next e) → (es : List (R × V)) → IsStrictlySortedBy cmp (keys_of es) → (row : R)
       → price_of (eq_by_cmp cmp) (stepped next es) row ≡ next_of next row (lookup (is_at (cmp row)) es)
   stepped_price next low [] up row = refl
   stepped_price next low (e ∷ es) up row = by (is_eq (cmp row e.0)) refl (is_positive (next e)) refl (stepped_price next low es (sorted_tail cmp e.0 (keys_of es) up) row)

@@ -15,3 +15,4 @@ pub mod TableLemmas
 pub mod ValueOfLemmas
 pub mod HoldLemmas
 pub mod StepLemmas
+pub mod UseLemmas

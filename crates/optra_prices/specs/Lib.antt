@@ -11,3 +11,4 @@ pub mod Terms
 pub mod Standings
 pub mod Holdings
 pub mod Courses
+pub mod Uses

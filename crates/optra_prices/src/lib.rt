@@ -14,6 +14,7 @@ pub mod duals;
 mod grouping;
 mod holding;
 mod laws;
+mod loading;
 mod numbering;
 mod paths;
 mod searching;
