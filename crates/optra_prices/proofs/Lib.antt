@@ -16,3 +16,5 @@ pub mod ValueOfLemmas
 pub mod HoldLemmas
 pub mod StepLemmas
 pub mod UseLemmas
+pub mod CourseLemmas
+pub mod MoveLemmas

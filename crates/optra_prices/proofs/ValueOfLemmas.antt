@@ -75,21 +75,21 @@ path_route table prices standing stands some = by stands.found
     by (inr (inr found)) = record { some = found.best.path.some; leads = (leads_on table.graph.now.dag (allows_by table.arcs.items) 0 standing.path.items found.best.path.leads).0 }
 
 -- a place of a list after one was set
-set_at : (xs : List ℤ) (k j : ℕ) (x : ℤ) → k < length xs → j ≡ k → slice_index_or (set xs k x) j (pos 0) ≡ x
+pub set_at : (xs : List ℤ) (k j : ℕ) (x : ℤ) → k < length xs → j ≡ k → slice_index_or (set xs k x) j (pos 0) ≡ x
 set_at [] k j x l e = absurd (omega arith)
 set_at (z ∷ xs) zero zero x l e = refl
 set_at (z ∷ xs) zero (suc j) x l e = absurd (omega arith)
 set_at (z ∷ xs) (suc k) zero x l e = absurd (omega arith)
 set_at (z ∷ xs) (suc k) (suc j) x l e = set_at xs k j x (omega arith) (omega arith)
 
-set_elsewhere : (xs : List ℤ) (k j : ℕ) (x : ℤ) → j ≢ k → slice_index_or (set xs k x) j (pos 0) ≡ slice_index_or xs j (pos 0)
+pub set_elsewhere : (xs : List ℤ) (k j : ℕ) (x : ℤ) → j ≢ k → slice_index_or (set xs k x) j (pos 0) ≡ slice_index_or xs j (pos 0)
 set_elsewhere [] k j x apart = refl
 set_elsewhere (z ∷ xs) zero zero x apart = absurd (apart refl)
 set_elsewhere (z ∷ xs) zero (suc j) x apart = refl
 set_elsewhere (z ∷ xs) (suc k) zero x apart = refl
 set_elsewhere (z ∷ xs) (suc k) (suc j) x apart = set_elsewhere xs k j x (λ e. apart (ap suc e))
 
-zeros_at : (n k : ℕ) → slice_index_or (replicate n (pos 0)) k (pos 0) ≡ pos 0
+pub zeros_at : (n k : ℕ) → slice_index_or (replicate n (pos 0)) k (pos 0) ≡ pos 0
 zeros_at zero k = refl
 zeros_at (suc n) zero = refl
 zeros_at (suc n) (suc k) = zeros_at n k
@@ -170,7 +170,7 @@ pub sets_range : {R : Type 0} (cmp : R → R → Ordering) (numbered : List R) (
 sets_range cmp numbered e prices after (inl (m, at, is)) p all = subst (All IsRowPrice) (sym is) (All-set IsRowPrice prices m e.1 p all)
 sets_range cmp numbered e prices after (inr (none, is)) p all = subst (All IsRowPrice) (sym is) all
 
-set_count : (xs : List ℤ) (k : ℕ) (x : ℤ) → length (set xs k x) ≡ length xs
+pub set_count : (xs : List ℤ) (k : ℕ) (x : ℤ) → length (set xs k x) ≡ length xs
 set_count [] k x = refl
 set_count (z ∷ xs) zero x = refl
 set_count (z ∷ xs) (suc k) x = ap suc (set_count xs k x)

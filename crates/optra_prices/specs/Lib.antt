@@ -12,3 +12,4 @@ pub mod Standings
 pub mod Holdings
 pub mod Courses
 pub mod Uses
+pub mod Listings
