@@ -13,3 +13,4 @@ pub mod Holdings
 pub mod Courses
 pub mod Uses
 pub mod Listings
+pub mod Moves

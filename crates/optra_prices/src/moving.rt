@@ -1,5 +1,5 @@
 //! Prices by the numbers of rows, as a step moves them.
-ghost use Rattle.std.specs.Prelude.{◌≡◌, ◌<◌, ℕ, All, length, pos, slice_index, slice_index_or};
+ghost use Rattle.std.specs.Prelude.{◌≡◌, ◌<◌, ℕ, All, length, replicate, pos, slice_index, slice_index_or};
 ghost use Rattle.optra_bid.specs.Specs.{IsBetween};
 ghost use Rattle.optra_prices.specs.Steps.{next_price};
 ghost use Rattle.optra_prices.specs.Tables.{IsRowPrice};
@@ -19,4 +19,18 @@ pub(crate) fn move_prices(by: i64, prices: &mut Vec<i64>, uses: &[u64], capaciti
     for n in 0..prices.len() {
         prices[n] = next_price(by, prices[n], uses[n], capacities[n]);
     }
+}
+
+/// Sets all prices to 0.
+pub(crate) fn clear_prices(prices: &mut Vec<i64>)
+    ensures { prices.new.items ≡ replicate (length prices.old.items) (pos 0) }
+{
+    prices.fill(0);
+}
+
+/// Sets all uses to 0.
+pub(crate) fn clear_uses(uses: &mut Vec<u64>)
+    ensures { uses.new.items ≡ replicate (length uses.old.items) 0 }
+{
+    uses.fill(0);
 }
