@@ -18,3 +18,5 @@ pub mod StepLemmas
 pub mod UseLemmas
 pub mod CourseLemmas
 pub mod MoveLemmas
+pub mod ListingLemmas
+pub mod LoadingLemmas

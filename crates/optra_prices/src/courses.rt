@@ -216,6 +216,7 @@ pub(crate) fn priced_at<F: RowFamily>(
     ensures dual { IfOk result (λ priced. priced.dual ≡ valuation_at (F.rows_of rows.now inst.entry.net.now) course.now) }
 {
     let _ = inst.net.track_count();
+    let _count = course.numbering.numbers.len();
     let entries = list_prices(alloc, &course.order, &course.prices)?;
     let capacity = capacity_sum(&course.order, &course.prices, &course.capacities);
     let dual = assemble(alloc, capacity, &course.tables, &course.standings)?;

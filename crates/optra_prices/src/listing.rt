@@ -103,11 +103,7 @@ pub(crate) fn list_prices<R: Copy>(
 }
 
 /// The price of all capacity.
-pub(crate) fn capacity_sum<R: Copy>(
-    order: &[(R, u32)],
-    prices: &[i64],
-    capacities: &[u32],
-) -> i128
+pub(crate) fn capacity_sum<R: Copy>(order: &[(R, u32)], prices: &[i64], capacities: &[u32]) -> i128
     requires prices { All IsRowPrice prices.now }
     requires capacities { All (λ capacity. capacity ≤ 65535) capacities.now }
     ensures value { result ≡ capacity_sum order.now prices.now capacities.now }
