@@ -1,5 +1,5 @@
 -- Rows by number while prices go along a path.
-use Rattle.std.proofs.Common.{◌≡◌, ℕ, zero, suc, ◌+◌, ◌<◌, ◌≤◌, true, List, [], ◌∷◌, map, replicate, length, get_or, Option, Some, None, slice_get, refl, sym, ap, ◌∙◌, subst, arith}
+use Rattle.std.proofs.Common.{◌≡◌, ℕ, ◌<◌, ◌≤◌, true, List, replicate, length, Option, Some, None, slice_get, refl, sym, ap, ◌∙◌, subst, arith}
 use Rattle.std.specs.Prelude.{All, Contains, ℤ, pos, ◌≤ℤ◌, slice_index, slice_index_or}
 use Rattle.std.specs.BTreeMap.{get, IsOrdered}
 use Rattle.std.specs.declared.cmp.Ordering.{Ordering}
@@ -10,15 +10,15 @@ use Rattle.std.proofs.lemmas.Option.{none-some, same_Some, slice_get_within, sli
 use Rattle.optra_network.specs.Net.{IsProper}
 use Rattle.optra_network.specs.declared.TypeId.{TypeId}
 use Rattle.optra_walk.specs.declared.Leg.{Leg}
-use Rattle.optra_walk.specs.Families.{Rows, IsUsable, ListsRows, TellsApart, load_of, entries_of}
-use Rattle.optra_node.specs.Duals.{PriceList, price_of, capacity_price}
+use Rattle.optra_walk.specs.Families.{IsUsable, ListsRows, TellsApart}
+use Rattle.optra_node.specs.Duals.{price_of, capacity_price}
 use Rattle.optra_node.specs.Laws.{TestsTellAllowed, PricesByUsedRows}
 use Rattle.optra_node.proofs.LeastLemmas.{at_contains}
-use Rattle.optra_prices.specs.Courses.{listed, prices_at, valuation_at, IsCourse, IsPriced}
+use Rattle.optra_prices.specs.Courses.{listed, prices_at, IsCourse, IsPriced}
 use Rattle.optra_prices.specs.Listings.{capacity_sum}
 use Rattle.optra_prices.specs.Moves.{HasMoved}
 use Rattle.optra_prices.specs.Steps.{AreProper, IsStep, step_length, next_price, reply_load}
-use Rattle.optra_prices.specs.Standings.{Agrees, AllStand, IsSound, replies_of, value_of}
+use Rattle.optra_prices.specs.Standings.{Agrees, IsSound, replies_of, value_of}
 use Rattle.optra_prices.specs.Tables.{Extends, IsNumbering, IsRowPrice}
 use Rattle.optra_prices.specs.Terms.{Setting}
 use Rattle.optra_prices.specs.Uses.{AddsUses, HasGroups, all_uses}
@@ -148,9 +148,3 @@ module _ {R : Type 0} (cmp : R → R → Ordering) (total : IsTotalOrder cmp) (a
           ∙ ap (λ (z : ℤ). next_price by z (slice_index uses n) (slice_index c.capacities.items n)) (sym old_price)
           ∙ ap (λ (m : ℕ). next_price by (price_of (eq_by_cmp cmp) (listed c.numbering.numbers.entries c.prices.items) row) m (slice_index c.capacities.items n)) used
           ∙ ap (λ (m : ℕ). next_price by (price_of (eq_by_cmp cmp) (listed c.numbering.numbers.entries c.prices.items) row) (reply_load s.rows s.bids replies row) m) room
-
--- a place of a list that is made from another
-pub map_at : {X Y : Type 0} (f : X → Y) (xs : List X) (k : ℕ) (x : X) → slice_get xs k ≡ Some x → slice_get (map f xs) k ≡ Some (f x)
-map_at f [] k x e = absurd (none-some x e)
-map_at f (y ∷ xs) zero x e = ap (λ z. Some (f z)) (same_Some y x e)
-map_at f (y ∷ xs) (suc k) x e = map_at f xs k x e

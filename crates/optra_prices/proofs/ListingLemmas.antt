@@ -1,5 +1,5 @@
 -- Price lists by the numbers of rows.
-use Rattle.std.proofs.Common.{◌≡◌, ℕ, zero, suc, ◌<◌, Bool, true, false, cond, List, [], ◌∷◌, length, get_or, Option, Some, None, slice_get, refl, sym, ap, ◌∙◌, subst, arith, inl, inr}
+use Rattle.std.proofs.Common.{◌≡◌, ℕ, zero, suc, Bool, true, false, cond, List, [], ◌∷◌, get_or, Option, Some, None, slice_get, refl, sym, ap, ◌∙◌, subst, arith, inl, inr}
 use Rattle.std.specs.Prelude.{All, Contains, ℤ, pos, ◌+ℤ◌, ◌*ℤ◌, ◌≤ℤ◌, slice_index, slice_index_or}
 use Rattle.std.specs.Int.{is_positive}
 use Rattle.std.specs.BTreeMap.{BTreeMap, get, IsOrdered}
@@ -53,9 +53,6 @@ module _ {R : Type 0} where
   capacity_listed rows prices capacities range (e ∷ order) all =
       by (is_positive (price_at prices e)) refl (capacity_listed rows prices capacities range order (all_tail (λ (x : R × ℕ). slice_index capacities x.1 ≡ rows.capacity x.0) e order all))
     where
-      price : ℤ
-      price = price_at prices e
-
       split : capacity_sum (e ∷ order) prices capacities ≡ price_at prices e *ℤ pos (slice_index capacities e.1) +ℤ capacity_sum order prices capacities
       split = sum_of-cons (λ (x : R × ℕ). price_at prices x *ℤ pos (slice_index capacities x.1)) e order
 

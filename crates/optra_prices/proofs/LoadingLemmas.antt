@@ -1,26 +1,26 @@
 -- Uses of rows by their numbers are what the replies use.
-use Rattle.std.proofs.Common.{◌≡◌, ◌≢◌, ℕ, zero, suc, ◌+◌, ◌<◌, Bool, true, false, cond, List, [], ◌∷◌, map, length, get_or, sum_by, Option, Some, None, slice_get, nat_eq, refl, sym, ap, ◌∙◌, subst, arith, inl, inr}
-use Rattle.std.specs.Prelude.{◌⊎◌, ◌↔◌, All, Contains, ℤ}
+use Rattle.std.proofs.Common.{◌≡◌, ℕ, suc, ◌+◌, ◌<◌, Bool, true, false, cond, List, [], ◌∷◌, map, length, get_or, sum_by, Option, Some, None, slice_get, refl, sym, ap, ◌∙◌, arith, inl, inr}
+use Rattle.std.specs.Prelude.{All, Contains, ℤ}
 use Rattle.std.specs.declared.cmp.Ordering.{Ordering}
 use Rattle.std.specs.Ordering.{is_eq, eq_by_cmp}
 use Rattle.std.specs.Cmp.{IsTotalOrder}
 use Rattle.std.proofs.lemmas.Bool.{cases_Bool, cases_lt}
 use Rattle.std.proofs.lemmas.Bool.Decides.{eqb_tells}
 use Rattle.std.proofs.lemmas.Cmp.{tied_itself}
-use Rattle.std.proofs.lemmas.List.Elements.{All-head, All-tail, All-weaker}
+use Rattle.std.proofs.lemmas.List.Elements.{All-head, All-tail}
 use Rattle.std.proofs.lemmas.List.Sums.{sum_by-cons, sum_by-append}
-use Rattle.std.proofs.lemmas.Option.{none-some, same_Some, slice_get_within, slice_get-get_or}
+use Rattle.std.proofs.lemmas.Option.{same_Some, slice_get-get_or}
 use Rattle.optra_network.specs.Net.{IsProper}
 use Rattle.optra_network.specs.declared.TypeId.{TypeId}
 use Rattle.optra_bid.specs.declared.bids.Bid.{Bid}
 use Rattle.optra_walk.specs.declared.Leg.{Leg}
 use Rattle.optra_walk.specs.Families.{Rows, Entry, IsUsable, ListsRows, TellsApart, load_of, entries_of}
-use Rattle.optra_graph.specs.Timed.{Timed, IsRoute, IsLegArc, leg_of, leg_at, start_of, walk_of}
+use Rattle.optra_graph.specs.Timed.{Timed, IsRoute, IsLegArc, leg_of, leg_at, start_of}
 use Rattle.optra_node.proofs.LoadLemmas.{contains_cases}
 use Rattle.optra_node.proofs.RowLemmas.{equal_is}
 use Rattle.optra_prices.specs.Arcs.{path_reply}
 use Rattle.optra_prices.specs.Holdings.{entries_one, part_of}
-use Rattle.optra_prices.specs.Tables.{IsTouch, AreTouches, group_at, no_arc}
+use Rattle.optra_prices.specs.Tables.{AreTouches, no_arc}
 use Rattle.optra_prices.specs.Terms.{Setting, AreBidArcs}
 use Rattle.optra_prices.specs.Standings.{Stands, AreTables, AllStand, IsSound, replies_of}
 use Rattle.optra_prices.specs.Uses.{touch_use, touch_uses, arc_touches, path_uses, all_uses, HasGroups}

@@ -99,7 +99,6 @@ fn arrive<F: RowFamily>(
     ensures prices { OnOk result (prices_at course.new ≡ prices_at course.old) }
     ensures keeps { OnOk result (KeepsRows course.old course.new) }
 {
-    let _ = node;
     let _ = inst.net.track_count();
     tests_tell_allowed(inst, rows);
     prices_by_used_rows(inst, rows);
@@ -151,8 +150,6 @@ fn step_prices<F: RowFamily>(
     ensures step { OnOk result (IsStep F.Row.cmp (F.rows_of rows.now inst.entry.net.now) inst.entry.bids.now (valuation_at (F.rows_of rows.now inst.entry.net.now) course.old).replies k (prices_at course.old) (prices_at course.new)) }
     ensures keeps { OnOk result (KeepsRows course.old course.new) }
 {
-    let _ = node;
-    let _ = rows;
     let _ = inst.net.track_count();
     let _count = course.numbering.numbers.len();
     clear_uses(&mut course.uses);

@@ -28,8 +28,6 @@ pub(crate) fn number_rows<F: RowFamily>(
     ensures rows { IfOk result (λ numbering. All (λ row. (F.rows_of rows.now net.now).is_row row ≡ true) numbering.rows.items) }
     ensures numbered { IfOk result (λ numbering. All (λ e. Contains numbering.rows.items e.0) entries.now) }
 {
-    let _ = net;
-    let _ = rows;
     let mut numbering = no_numbers(alloc);
     for entry in entries {
         number::<F>(&mut numbering, entry.0)?;

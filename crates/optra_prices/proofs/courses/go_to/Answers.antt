@@ -1,8 +1,7 @@
-use Rattle.std.proofs.Common.{◌≡◌, ℕ, List, sym, ap, ◌∙◌, subst}
-use Rattle.std.specs.Prelude.{ℤ}
+use Rattle.std.proofs.Common.{◌≡◌, ℕ, List, ap, ◌∙◌, subst}
 use Rattle.std.proofs.lemmas.Result.{on_ok_weaker}
 use Rattle.optra_node.specs.Duals.{PriceList}
-use Rattle.optra_prices.specs.Courses.{listed, prices_at}
+use Rattle.optra_prices.specs.Courses.{listed}
 use Rattle.optra_prices.specs.Standings.{Agrees}
 use Rattle.optra_prices.proofs.ListingLemmas.{listed_one}
 use Rattle.optra_prices.proofs.courses.go_to.Goals as goal

@@ -1,13 +1,11 @@
-use Rattle.std.proofs.Common.{◌≡◌, ◌≤◌, ℕ, List, length, refl, sym, ap, ◌∙◌, subst, arith, rules, to_z, of_z}
+use Rattle.std.proofs.Common.{◌≡◌, ◌≤◌, ℕ, List, sym, ap, ◌∙◌, subst, rules, to_z, of_z}
 use Rattle.std.specs.Prelude.{All, ℤ, FitsSigned}
 use Rattle.std.specs.Int.{w128}
-use Rattle.std.proofs.lemmas.Int.{ints, to_z-of_z}
-use Rattle.std.proofs.lemmas.Result.{IfOk-weaker}
+use Rattle.std.proofs.lemmas.Int.{to_z-of_z}
 use Rattle.optra_node.specs.Duals.{capacity_price}
-use Rattle.optra_prices.specs.Courses.{prices_at, valuation_at}
+use Rattle.optra_prices.specs.Courses.{prices_at}
 use Rattle.optra_prices.specs.Listings.{capacity_sum}
-use Rattle.optra_prices.specs.Replies.{Valuation}
-use Rattle.optra_prices.specs.Standings.{AllStand, IsSound, IsTermSize, valuation_of}
+use Rattle.optra_prices.specs.Standings.{IsTermSize, valuation_of}
 use Rattle.optra_prices.specs.Terms.{Setting, setting}
 use Rattle.optra_prices.specs.declared.numbering.BidTable.{BidTable}
 use Rattle.optra_prices.specs.declared.numbering.Standing.{Standing}

@@ -1,17 +1,18 @@
-use Rattle.std.proofs.Common.{◌≡◌, ◌≤◌, ℕ, true, List, [], map, length, replicate, Some, slice_get, refl, sym, ap, ◌∙◌, subst, arith, rules, to_z, of_z}
+use Rattle.std.proofs.Common.{◌≡◌, ℕ, List, [], map, length, replicate, slice_get, sym, ap, ◌∙◌, subst, arith, rules}
 use Rattle.std.specs.Prelude.{All, Contains, ℤ, pos, FitsSigned, slice_index_or}
 use Rattle.std.specs.Int.{w128}
 use Rattle.std.proofs.lemmas.Int.{ints, to_z-of_z}
 use Rattle.std.proofs.lemmas.List.{length-map}
 use Rattle.std.proofs.lemmas.List.Elements.{All-weaker, All-replicate}
-use Rattle.optra_node.specs.Duals.{PriceList, capacity_price}
-use Rattle.optra_prices.specs.Courses.{IsCourse, IsPriced, listed, prices_at}
+use Rattle.optra_node.specs.Duals.{capacity_price}
+use Rattle.optra_prices.specs.Courses.{listed}
 use Rattle.optra_prices.specs.Standings.{AllStand, IsSound, IsTermSize, value_of}
 use Rattle.optra_prices.specs.Tables.{IsRowPrice}
 use Rattle.optra_prices.specs.Terms.{Setting, setting}
 use Rattle.optra_prices.specs.declared.numbering.BidTable.{BidTable}
 use Rattle.optra_prices.specs.declared.numbering.Standing.{Standing}
-use Rattle.optra_prices.proofs.CourseLemmas.{contains_kept, course_priced, map_at}
+use Rattle.optra_prices.proofs.CourseLemmas.{contains_kept, course_priced}
+use Rattle.optra_prices.proofs.ListLemmas.{map_at}
 use Rattle.optra_prices.proofs.ListingLemmas.{listed_none}
 use Rattle.optra_prices.proofs.TableLemmas.{tables_sound, terms_small}
 use Rattle.optra_prices.proofs.ValueOfLemmas.{zeros_at}

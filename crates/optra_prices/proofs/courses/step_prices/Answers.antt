@@ -1,9 +1,7 @@
 use Rattle.std.proofs.Common.{◌≡◌, ℕ, length, replicate, sym, ap, ◌∙◌, subst, arith, rules, to_z, of_z}
-use Rattle.std.specs.Prelude.{All, List, ℤ, pos, ◌≤ℤ◌, slice_index, slice_index_or, FitsSigned}
+use Rattle.std.specs.Prelude.{All, List, pos, ◌≤ℤ◌, slice_index, slice_index_or, FitsSigned}
 use Rattle.std.specs.Int.{w64}
 use Rattle.std.proofs.lemmas.Int.{ints, to_z-of_z}
-use Rattle.optra_walk.specs.Families.{IsUsable}
-use Rattle.optra_prices.specs.Courses.{IsCourse}
 use Rattle.optra_prices.specs.Steps.{step_length, next_price}
 use Rattle.optra_prices.specs.declared.numbering.BidTable.{BidTable}
 use Rattle.optra_prices.specs.declared.numbering.Standing.{Standing}
