@@ -10,6 +10,7 @@ import sys
 
 BIDS = ("bid,bidder,type,origin,destination,depart_from,depart_ideal,depart_to,arrive_from,arrive_ideal,arrive_to,"
         "base,early_depart,late_depart,early_arrive,late_arrive,travel,wait,wait_max")
+STOPS = "bid,station,min_dwell,max_dwell,arrive_from,arrive_to"
 TYPES = ["ic", "re", "fr"]
 EXTRA = [0, 2, 4]
 
@@ -77,7 +78,7 @@ def main(seed, size, folder):
     sections = network(draws, stations, f"{folder}/net")
     made = [bid(draws, stations, sections, number) for number in range(1, 20 * size + 1)]
     write(f"{folder}/bids.csv", [BIDS] + [line for line, _ in made])
-    write(f"{folder}/stops.csv", ["bid,station,min_dwell,max_dwell,arrive_from,arrive_to"] + [stop for _, stop in made if stop])
+    write(f"{folder}/stops.csv", [STOPS] + [stop for _, stop in made if stop])
 
 
 if __name__ == "__main__":

@@ -32,13 +32,13 @@ leads_on g allows node (k ∷ arcs) h =
     let rest = leads_on g allows (to_of g k) arcs h.3 in
     ((h.0, refl, h.2, rest.0), All-cons (λ k. (k < length g.arcs) × (allows k ≡ true)) k arcs (h.0, h.1) rest.1)
 
-leads_back : (g : Graph) (allows : ℕ → Bool) (node : ℕ) (arcs : List ℕ) → LeadsToEnd g (λ _. true) node arcs → All (λ k. allows k ≡ true) arcs → LeadsToEnd g allows node arcs
+pub leads_back : (g : Graph) (allows : ℕ → Bool) (node : ℕ) (arcs : List ℕ) → LeadsToEnd g (λ _. true) node arcs → All (λ k. allows k ≡ true) arcs → LeadsToEnd g allows node arcs
 leads_back g allows node [] h all = h
 leads_back g allows node (k ∷ arcs) h all =
     (h.0, All-head (λ k. allows k ≡ true) k arcs all, h.2, leads_back g allows (to_of g k) arcs h.3 (All-tail (λ k. allows k ≡ true) k arcs all))
 
 -- each arc of a path is one of the graph
-leads_within : (g : Graph) (node : ℕ) (arcs : List ℕ) → LeadsToEnd g (λ _. true) node arcs → All (λ k. k < length g.arcs) arcs
+pub leads_within : (g : Graph) (node : ℕ) (arcs : List ℕ) → LeadsToEnd g (λ _. true) node arcs → All (λ k. k < length g.arcs) arcs
 leads_within g node [] h = All-nil (λ k. k < length g.arcs)
 leads_within g node (k ∷ arcs) h = All-cons (λ k. k < length g.arcs) k arcs h.0 (leads_within g (to_of g k) arcs h.3)
 

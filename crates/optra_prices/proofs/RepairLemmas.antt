@@ -97,7 +97,7 @@ some_is p q = inside (sym p ∙ q)
     inside e = cc
 
 module _ {R : Type 0} (net : Net) (rows : Rows R) (bids : List Bid) (node : List Decision) where
-  worthiest_unique : (placed : List Entry) (number : ℕ) (bid : Bid) (a b : List Leg)
+  pub worthiest_unique : (placed : List Entry) (number : ℕ) (bid : Bid) (a b : List Leg)
       → IsFirstWorthiest net rows bids node placed number bid a → IsFirstWorthiest net rows bids node placed number bid b → a ≡ b
   worthiest_unique placed number bid a b p q =
       let e = between (value_of net bid.path bid.money a) (value_of net bid.path bid.money b) (q.greatest a p.placeable) (p.greatest b q.placeable) in
@@ -177,7 +177,7 @@ pub record FitChoice {R : Type 0} (net : Net) (rows : Rows R) (bids : List Bid) 
   pub fits : FitRows rows (entries_of bids choice)
 
 module _ {R : Type 0} (net : Net) (rows : Rows R) (bids : List Bid) (node : List Decision) where
-  fits_given : (before : List (Option (List Leg))) (number : ℕ) (bid : Bid) (given : Option (List Leg)) → slice_get bids number ≡ Some bid
+  pub fits_given : (before : List (Option (List Leg))) (number : ℕ) (bid : Bid) (given : Option (List Leg)) → slice_get bids number ≡ Some bid
       → IsGiven net rows bids node (entries_of bids before) number bid given → FitChoice net rows bids before → FitChoice net rows bids (slice_set before number given)
   fits_given before number bid given at is fit = record {
     is_choice = zip_set (λ (b : Bid) (o : Option (List Leg)). IfSome o (IsWalk net b.path)) bids before number bid given fit.is_choice at (walk given is);

@@ -12,3 +12,8 @@ pub mod Terms
 pub mod Standings
 pub mod Holdings
 pub mod FiveRows
+pub mod Courses
+pub mod Following
+pub mod Uses
+pub mod Listings
+pub mod Moves

@@ -8,12 +8,17 @@ use optra_node::Prices;
 use optra_walk::Walk;
 use std::marker::Model;
 
+mod courses;
 pub mod deads;
 pub mod duals;
+mod following;
 mod grouping;
 mod holding;
 mod laws;
+mod listing;
+mod loading;
 mod marking;
+mod moving;
 mod numbering;
 mod paths;
 mod searching;
@@ -26,7 +31,7 @@ mod tests;
 mod touching;
 mod using;
 mod valuing;
-mod weighing;
+pub mod weighing;
 
 pub use laws::price_laws;
 pub use paths::price_path;

@@ -5,11 +5,13 @@ ghost use Rattle.optra_prices.specs.Steps.{AreProper};
 ghost use Rattle.optra_prices.specs.Paths.{IsPathResult};
 
 use crate::Priced;
+use crate::courses::{go_back, priced_at, set_out};
+use crate::following::{first_best, follow};
 use optra_graph::Graphs;
 use optra_network::{Cents, NoMemory};
 use optra_node::{Node, Prices};
 use optra_walk::{Instance, RowFamily};
-use std::alloc::{AllocError, Global};
+use std::alloc::Global;
 
 /// The result of the node's price path, with its dual value.
 ///
@@ -37,5 +39,18 @@ pub fn price_path<F: RowFamily, G: Graphs>(
     requires start { AreProper F.Row.cmp (F.rows_of rows.now inst.net.now) start.now }
     ensures { IfOk result (λ priced. IsPathResult F.Row.cmp inst.entry.net.now (F.rows_of rows.now inst.entry.net.now) inst.entry.bids.now node.now start.now steps incumbent priced) }
 {
-    Err(AllocError)
+    let mut course = set_out(alloc, inst, graphs, rows, node, start)?;
+    let mut best = first_best(alloc, &course)?;
+    follow(
+        inst,
+        rows,
+        node,
+        &mut course,
+        &mut best,
+        start,
+        steps,
+        incumbent,
+    )?;
+    go_back(inst, rows, node, &mut course, &best.prices)?;
+    priced_at(alloc, inst, rows, node, &course)
 }

@@ -52,7 +52,7 @@ fn scaled_end(off: Cents, up_to: Cents) -> i64
 }
 
 /// What a start at the minute adds, in thousandths of a cent.
-pub(crate) fn start_value(bid: &Bid, minute: Minute) -> i64
+pub fn start_value(bid: &Bid, minute: Minute) -> i64
     ensures value { result ≡ start_value bid.now minute }
     ensures range { IsArcValue result }
 {
@@ -94,7 +94,7 @@ fn taken(price: i64) -> i64
 }
 
 /// What a leg adds, apart from the prices of the rows that it uses, in thousandths of a cent.
-pub(crate) fn leg_value(net: &Network, bid: &Bid, leg: Leg) -> i64
+pub fn leg_value(net: &Network, bid: &Bid, leg: Leg) -> i64
     ensures value { result ≡ leg_value net.now bid.now leg }
     ensures range { IsArcValue result }
 {

@@ -1,0 +1,6 @@
+pub mod TakingLemmas
+pub mod RoomLemmas
+pub mod PartLemmas
+pub mod WorthLemmas
+pub mod PlaceLemmas
+pub mod TurnLemmas

@@ -1,6 +1,11 @@
 //! Repair: a choice that keeps the rule, made out of what prices tell of the bids.
 #![tactic(auto)]
 
+mod finding;
+mod keeping;
+mod marking;
+mod placing;
 mod repairing;
+mod taking;
 
 pub use repairing::repair;

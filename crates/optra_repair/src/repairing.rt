@@ -1,15 +1,65 @@
 //! The repaired choice.
-ghost use Rattle.std.specs.Prelude.{◌≡◌, ◌≤◌, All, Contains, IfOk, length};
+ghost use Rattle.std.specs.Prelude.{◌≡◌, ◌≢◌, ◌≤◌, ◌<◌, All, Contains, IfOk, length};
+ghost use Rattle.std.specs.List.{AllPairs};
 ghost use Rattle.optra_walk.specs.Choices.{IsChoice};
+ghost use Rattle.optra_walk.specs.Families.{entries_of};
 ghost use Rattle.optra_node.specs.Nodes.{IsNode};
-ghost use Rattle.optra_prices.specs.Repairs.{IsRepair};
+ghost use Rattle.optra_prices.specs.Repairs.{IsRepair, GivesInTurn, empty_choice};
 
+use crate::placing::{Lent, place};
+use crate::taking::taking_order;
+use optra_bid::Bid;
+use optra_dag::Buffers;
 use optra_graph::Graphs;
 use optra_network::NoMemory;
-use optra_node::Node;
+use optra_node::{Node, Summary};
 use optra_prices::Dual;
-use optra_walk::{Choice, Instance, RowFamily};
-use std::alloc::{AllocError, Global};
+use optra_rows::Load;
+use optra_walk::{Choice, Instance, RowFamily, Walk};
+use std::alloc::Global;
+
+/// No walk for any of so many bids.
+fn no_walks(alloc: Global, bids: &[Bid]) -> Result<Vec<Option<Walk>>, NoMemory>
+    ensures { IfOk result (λ walks. walks.items ≡ empty_choice bids.now) }
+{
+    bids.iter().map(|_bid| None).collect(alloc)
+}
+
+/// Places the bids of these positions one after the other.
+fn place_all<F: RowFamily, G: Graphs>(
+    alloc: Global,
+    inst: Instance<'_>,
+    graphs: &G,
+    rows: &F,
+    node: &Node,
+    order: &[u32],
+) -> Result<Vec<Option<Walk>>, NoMemory>
+    requires node { IsNode inst.net.now (length inst.bids.now) node.now }
+    requires network { G.network graphs.now ≡ inst.net.now }
+    requires held { All (λ bid. Contains (G.held graphs.now) bid.path) inst.bids.now }
+    requires within { All (λ number. number < length inst.bids.now) order.now }
+    requires once { AllPairs (λ a b. a ≢ b) order.now }
+    ensures { IfOk result (λ walks. GivesInTurn inst.entry.net.now (F.rows_of rows.now inst.entry.net.now) inst.entry.bids.now node.now order.now (empty_choice inst.entry.bids.now) walks.items) }
+{
+    let bids = inst.bids;
+    let summary = Summary::new(alloc, inst, rows, node)?;
+    let mut load = Load::new(alloc);
+    let mut lent = Lent {
+        parts: Vec::new(alloc),
+        buffers: Buffers::new(alloc),
+    };
+    let mut walks = no_walks(alloc, bids)?;
+    for turn in 0..order.len() {
+        let number = order[turn];
+        let bid = &bids[number as usize];
+        let graph = graphs.graph(bid);
+        let given = place(
+            alloc, &mut lent, &mut load, inst, rows, &summary, number, bid, graph,
+        )?;
+        walks[number as usize] = given;
+    }
+    Ok(walks)
+}
 
 /// The repaired choice at a node, for the replies and terms of a valuation. It keeps the rule.
 ///
@@ -34,7 +84,12 @@ pub fn repair<F: RowFamily, G: Graphs>(
     requires held { All (λ bid. Contains (G.held graphs.now) bid.path) inst.bids.now }
     requires terms { length dual.now.terms ≡ length inst.bids.now }
     requires replies { IsChoice inst.net.now inst.bids.now dual.now.replies }
-    ensures { IfOk result (λ choice. IsRepair inst.entry.net.now (F.rows_of rows.now inst.entry.net.now) inst.entry.bids.now node.now dual.now choice) }
+    ensures repair { IfOk result (λ choice. IsRepair inst.entry.net.now (F.rows_of rows.now inst.entry.net.now) inst.entry.bids.now node.now dual.now choice) }
+    ensures choice { IfOk result (λ choice. IsChoice inst.entry.net.now inst.entry.bids.now choice) }
+    ensures keeps { IfOk result (λ choice. F.KeepsRule rows.now inst.entry.net.now (entries_of inst.entry.bids.now choice)) }
 {
-    Err(AllocError)
+    let _ = inst.net.track_count();
+    let order = taking_order(alloc, dual)?;
+    let walks = place_all(alloc, inst, graphs, rows, node, &order)?;
+    Ok(Choice { walks })
 }

@@ -1,9 +1,11 @@
 -- The greatest bound of the priced leaves so far; and a node without a free leg closes.
-use Rattle.std.proofs.Common.{◌≡◌, ℕ, List, [], ◌∷◌, ◌++◌, Option, None, Some, refl, ap, subst, arith, inl, inr}
+use Rattle.std.proofs.Common.{◌≡◌, ℕ, ◌<◌, List, [], ◌∷◌, ◌++◌, Option, None, Some, refl, sym, ap, subst, arith, inl, inr}
 use Rattle.std.specs.Prelude.{All, Contains, ◌⊎◌}
 use Rattle.std.specs.Prelude.{ℤ, pos, ◌≤ℤ◌, ◌<ℤ◌}
+use Rattle.std.specs.Int.{int_max}
 use Rattle.std.specs.declared.cmp.Ordering.{Ordering}
-use Rattle.std.proofs.lemmas.Int.{ints}
+use Rattle.std.proofs.lemmas.Int.{ints, clamps}
+use Rattle.std.proofs.Math.IntN.{negsuc}
 use Rattle.std.proofs.lemmas.List.Elements.{All-nil, All-push, All-weaker, All-contains, Contains-append_left, Contains-append_right}
 use Rattle.optra_network.specs.Net.{Net, IsProper}
 use Rattle.optra_bid.specs.declared.bids.Bid.{Bid}
@@ -29,14 +31,44 @@ use Rattle.optra_search.specs.Planner.{IsBetter}
 use Rattle.optra_prices.specs.Replies.{Valuation}
 use Rattle.optra_search.specs.Marks.{AreSettled, IsSplitLegOrNone}
 use Rattle.optra_search.specs.Openings.{IsBoundSoFar, IsOutcome}
+use Rattle.optra_search.proofs.FirstLemmas.{compare}
 use Rattle.optra_search.proofs.ResultLemmas.{whole_below, zero_candidate}
 use Rattle.optra_search.proofs.SettledLemmas.{zero_earned}
+
+le_or : (a b : ℤ) → (b ≤ℤ a) ⊎ (a ≤ℤ b)
+le_or (pos m) (pos n) = by (compare m n)
+  where
+    by : (m < n) ⊎ ((m ≡ n) ⊎ (n < m)) → (pos n ≤ℤ pos m) ⊎ (pos m ≤ℤ pos n)
+    by (inl l) = inr (omega (arith, ints))
+    by (inr (inl e)) = inl (omega (arith, ints))
+    by (inr (inr l)) = inl (omega (arith, ints))
+le_or (pos m) (negsuc n) = inl (omega (arith, ints))
+le_or (negsuc m) (pos n) = inr (omega (arith, ints))
+le_or (negsuc m) (negsuc n) = by (compare m n)
+  where
+    by : (m < n) ⊎ ((m ≡ n) ⊎ (n < m)) → (negsuc n ≤ℤ negsuc m) ⊎ (negsuc m ≤ℤ negsuc n)
+    by (inl l) = inl (omega (arith, ints))
+    by (inr (inl e)) = inl (omega (arith, ints))
+    by (inr (inr l)) = inr (omega (arith, ints))
+
+-- the greater of two numbers is the one that is not below the other
+max_sides : (a b : ℤ) → ((b ≤ℤ a) × (int_max a b ≡ a)) ⊎ ((a ≤ℤ b) × (int_max a b ≡ b))
+max_sides a b = by (le_or a b)
+  where
+    by : (b ≤ℤ a) ⊎ (a ≤ℤ b) → ((b ≤ℤ a) × (int_max a b ≡ a)) ⊎ ((a ≤ℤ b) × (int_max a b ≡ b))
+    by (inl l) = inl (l, omega (arith, ints, clamps))
+    by (inr l) = inr (l, omega (arith, ints, clamps))
 
 within_more : {R : Type 0} (net : Net) (rows : Rows R) (bids : List Bid) (b c : ℤ) → b ≤ℤ c → (node : List Decision) (item : Item R) → IsWithin net rows bids b node item → IsWithin net rows bids c node item
 within_more net rows bids b c l node (Split bid leg) h = tt
 within_more net rows bids b c l node (NoWalk bid) h = tt
 within_more net rows bids b c l node (Forced row) h = tt
 within_more net rows bids b c l node (Priced prices) h = let k = h.2 in (h.0, h.1, omega (arith, ints))
+
+-- the choice that serves no bid earns nothing
+pub empty_earns : (net : Net) (bids : List Bid) → revenue_of net bids (empty_choice bids) ≡ pos 0
+empty_earns net [] = refl
+empty_earns net (bid ∷ bids) = empty_earns net bids
 
 module _ {R : Type 0} (net : Net) (rows : Rows R) (bids : List Bid) where
   -- of no leaf the bound so far is 0
@@ -71,6 +103,17 @@ module _ {R : Type 0} (net : Net) (rows : Rows R) (bids : List Bid) where
     }),
   )
 
+  -- the greater of the bound so far and the leaf's own is the next bound
+  pub max_bound : (ps : List (List Decision × Item R)) (b : ℤ) (node : List Decision) (prices : PriceList R) (cents : ℤ) → IsBoundOf net rows bids node prices cents → IsBoundSoFar net rows bids ps b
+      → IsBoundSoFar net rows bids (ps ++ (node, Priced prices) ∷ []) (int_max b cents)
+  max_bound ps b node prices cents is so_far = by (max_sides b cents) (next_bound ps b node prices cents is so_far)
+    where
+      by : ((cents ≤ℤ b) × (int_max b cents ≡ b)) ⊎ ((b ≤ℤ cents) × (int_max b cents ≡ cents))
+          → (cents ≤ℤ b → IsBoundSoFar net rows bids (ps ++ (node, Priced prices) ∷ []) b) × (b ≤ℤ cents → IsBoundSoFar net rows bids (ps ++ (node, Priced prices) ∷ []) cents)
+          → IsBoundSoFar net rows bids (ps ++ (node, Priced prices) ∷ []) (int_max b cents)
+      by (inl p) n = subst (IsBoundSoFar net rows bids (ps ++ (node, Priced prices) ∷ [])) (sym p.1) (n.0 p.0)
+      by (inr p) n = subst (IsBoundSoFar net rows bids (ps ++ (node, Priced prices) ∷ [])) (sym p.1) (n.1 p.0)
+
   -- of a whole tree it is the greatest bound: some leaf is not below 0, since it is one of the choice that serves no bid
   pub whole_bound : (tree : List (Item R)) (b : ℤ) → IsTree tree → All (λ p. SplitsUndecided p.0 p.1) (places tree) → All (λ p. EndsDead net rows bids p.0 p.1) (places tree) → All (HasPrices rows) tree
       → IsBoundSoFar net rows bids (places tree) b → IsGreatestBound net rows bids tree b
@@ -89,15 +132,11 @@ module _ {R : Type 0} (net : Net) (rows : Rows R) (bids : List Bid) where
           let own = within.1 in
           let w = weak_duality net rows bids t.0 t.1 own.terms own.value (empty_choice bids) are t.2.once own.dual choice t.2.of fit in
           let f = below_whole (revenue_of net bids (empty_choice bids)) own.value w in
-          let z = empty_earns bids in
+          let z = empty_earns net bids in
           let c = own.cents_is in
           let l = within.2 in
           let same : within.0 ≡ b = between within.0 b l (omega (arith, ints)) in
           (t.0, t.1, t.2.among, subst (IsBoundOf net rows bids t.0 t.1) same own)
-        where
-          empty_earns : (bids : List Bid) → revenue_of net bids (empty_choice bids) ≡ pos 0
-          empty_earns [] = refl
-          empty_earns (bid ∷ bids) = empty_earns bids
 
 -- a node where all bids are settled closes at the result of its price path, after repair
 pub closes : {R : Type 0} (cmp : R → R → Ordering) (net : Net) → IsProper net → (rows : Rows R) (bids : List Bid) (node : List Decision) (start : PriceList R) (steps : ℕ) (incumbent : ℤ) (result : PathResult R)

@@ -15,3 +15,5 @@ pub mod CrowdLemmas
 pub mod WaitingLemmas
 pub mod BoundLemmas
 pub mod SearchLemmas
+pub mod PricingLemmas
+pub mod ClosingLemmas

@@ -1,5 +1,5 @@
 -- A plan makes a formed and valid certificate, and its numbers are within each other.
-use Rattle.std.proofs.Common.{◌≡◌, ℕ, ◌≤◌, ◌<◌, List, [], ◌∷◌, map, length, Option, None, Some, refl, sym, ap, ◌∙◌, subst, arith, inl, inr}
+use Rattle.std.proofs.Common.{◌≡◌, ℕ, ◌≤◌, ◌<◌, List, [], ◌∷◌, ◌++◌, map, length, Option, None, Some, refl, sym, ap, ◌∙◌, subst, arith, inl, inr}
 use Rattle.std.specs.Prelude.{All, ◌⊎◌, IfSome, IsSomeAnd}
 use Rattle.std.specs.Prelude.{ℤ, ◌≤ℤ◌, ◌<ℤ◌}
 use Rattle.std.specs.declared.cmp.Ordering.{Ordering}
@@ -23,7 +23,7 @@ use Rattle.optra_node.specs.Certificates.{IsFormedWalk, IsFormedItem, SplitsUnde
 use Rattle.optra_node.proofs.DualLemmas.{zip_length}
 use Rattle.optra_node.proofs.TreeLemmas.{bound_above}
 use Rattle.optra_prices.proofs.RepairLemmas.{FitChoice}
-use Rattle.optra_search.specs.Planner.{OpenNode, first_state, priced_open, Planned, IsPlainPlan}
+use Rattle.optra_search.specs.Planner.{OpenNode, State, first_state, Turns, priced_open, Planned, IsPlainPlan}
 use Rattle.optra_search.specs.Laws.{IsCertified, HasNumbers}
 use Rattle.optra_search.proofs.PlacedLemmas.{leaf_of, open_at_end, placed_at_end}
 use Rattle.optra_search.proofs.ResultLemmas.{whole_below}
@@ -52,56 +52,80 @@ choice_formed net proper (bid ∷ bids) (walk ∷ choice) h =
     by None h = tt
     by (Some legs) h = walk_formed net proper bid legs h
 
-module _ {R : Type 0} (cmp : R → R → Ordering) (net : Net) (proper : IsProper net) (rows : Rows R) (bids : List Bid) (steps budget : ℕ) (plan : Planned R)
-    (is : IsPlainPlan cmp net rows bids steps budget plan) where
-  sound : IsSound cmp net rows bids budget is.last
-  sound = turns_sound cmp net proper rows bids steps budget is.last.count (first_state bids) is.last is.turns (first_sound cmp net rows bids budget)
+-- a tree made of the items of a last state, with a priced leaf for each node that is still open
+module _ {R : Type 0} (cmp : R → R → Ordering) (net : Net) (proper : IsProper net) (rows : Rows R) (bids : List Bid) (steps budget : ℕ) (last : State R)
+    (turns : Turns cmp net rows bids steps budget last.count (first_state bids) last) (tree : List (Item R)) (tree_is : tree ≡ last.items ++ map priced_open last.open_nodes) where
+  pub last_sound : IsSound cmp net rows bids budget last
+  last_sound = turns_sound cmp net proper rows bids steps budget last.count (first_state bids) last turns (first_sound cmp net rows bids budget)
 
   -- what holds of each item at its node, and of each leaf of an open node, holds of the tree
-  all_places : (P : List Decision × Item R → Type 0) → All P (places is.last.items) → All (λ w. P (leaf_of w)) is.last.open_nodes → All P (places plan.tree)
-  all_places P a b =
-      subst (λ (tree : List (Item R)). All P (places tree)) (sym is.tree)
-      (subst (All P) (sym (placed_at_end root is.last.items is.last.open_nodes sound.nodes))
-      (All-append P (places is.last.items) (map leaf_of is.last.open_nodes) a (All-map P leaf_of is.last.open_nodes b)))
+  pub tree_places : (P : List Decision × Item R → Type 0) → All P (places last.items) → All (λ w. P (leaf_of w)) last.open_nodes → All P (places tree)
+  tree_places P a b =
+      subst (λ (tree : List (Item R)). All P (places tree)) (sym tree_is)
+      (subst (All P) (sym (placed_at_end root last.items last.open_nodes last_sound.nodes))
+      (All-append P (places last.items) (map leaf_of last.open_nodes) a (All-map P leaf_of last.open_nodes b)))
 
-  all_items : (P : Item R → Type 0) → All P is.last.items → All (λ w. P (priced_open w)) is.last.open_nodes → All P plan.tree
-  all_items P a b =
-      subst (All P) (sym is.tree) (All-append P is.last.items (map priced_open is.last.open_nodes) a (All-map P priced_open is.last.open_nodes b))
+  tree_items : (P : Item R → Type 0) → All P last.items → All (λ w. P (priced_open w)) last.open_nodes → All P tree
+  tree_items P a b =
+      subst (All P) (sym tree_is) (All-append P last.items (map priced_open last.open_nodes) a (All-map P priced_open last.open_nodes b))
 
-  weaken : (P : List Decision × Item R → Type 0) → ((p : List Decision × Item R) → IsSoundPlace net rows bids (revenue_of net bids is.last.incumbent) p.0 p.1 → P p) → All P (places is.last.items)
-  weaken P f = All-weaker (λ (p : List Decision × Item R). IsSoundPlace net rows bids (revenue_of net bids is.last.incumbent) p.0 p.1) P f (places is.last.items) sound.placed_items
+  pub last_places : (P : List Decision × Item R → Type 0) → ((p : List Decision × Item R) → IsSoundPlace net rows bids (revenue_of net bids last.incumbent) p.0 p.1 → P p) → All P (places last.items)
+  last_places P f = All-weaker (λ (p : List Decision × Item R). IsSoundPlace net rows bids (revenue_of net bids last.incumbent) p.0 p.1) P f (places last.items) last_sound.placed_items
 
-  splits : All (λ p. SplitsUndecided p.0 p.1) (places plan.tree)
-  splits = all_places (λ p. SplitsUndecided p.0 p.1) (weaken (λ p. SplitsUndecided p.0 p.1) (λ p h. h.splits)) (λ k d l. tt)
+  pub tree_splits : All (λ p. SplitsUndecided p.0 p.1) (places tree)
+  tree_splits = tree_places (λ p. SplitsUndecided p.0 p.1) (last_places (λ p. SplitsUndecided p.0 p.1) (λ p h. h.splits)) (λ k d l. tt)
 
-  dead : All (λ p. EndsDead net rows bids p.0 p.1) (places plan.tree)
-  dead = all_places (λ p. EndsDead net rows bids p.0 p.1) (weaken (λ p. EndsDead net rows bids p.0 p.1) (λ p h. h.dead)) (λ k d l. tt)
+  pub tree_dead : All (λ p. EndsDead net rows bids p.0 p.1) (places tree)
+  tree_dead = tree_places (λ p. EndsDead net rows bids p.0 p.1) (last_places (λ p. EndsDead net rows bids p.0 p.1) (λ p h. h.dead)) (λ k d l. tt)
 
-  prices : All (HasPrices rows) plan.tree
-  prices =
-      all_items (HasPrices rows) (All-weaker (IsSoundItem cmp net rows bids) (HasPrices rows) (λ item h. h.prices) is.last.items sound.items)
-      (All-weaker (IsSoundOpen cmp net rows bids) (λ w. HasPrices rows (priced_open w)) (λ w h. h.proper.each) is.last.open_nodes sound.waiting)
+  pub tree_prices : All (HasPrices rows) tree
+  tree_prices =
+      tree_items (HasPrices rows) (All-weaker (IsSoundItem cmp net rows bids) (HasPrices rows) (λ item h. h.prices) last.items last_sound.items)
+      (All-weaker (IsSoundOpen cmp net rows bids) (λ w. HasPrices rows (priced_open w)) (λ w h. h.proper.each) last.open_nodes last_sound.waiting)
 
-  formed_items : All (IsFormedItem cmp net (length bids)) plan.tree
-  formed_items =
-      all_items (IsFormedItem cmp net (length bids)) (All-weaker (IsSoundItem cmp net rows bids) (IsFormedItem cmp net (length bids)) (λ item h. h.formed) is.last.items sound.items)
-      (All-weaker (IsSoundOpen cmp net rows bids) (λ w. IsFormedItem cmp net (length bids) (priced_open w)) (λ w h. h.proper.ascending) is.last.open_nodes sound.waiting)
+  pub tree_formed : All (IsFormedItem cmp net (length bids)) tree
+  tree_formed =
+      tree_items (IsFormedItem cmp net (length bids)) (All-weaker (IsSoundItem cmp net rows bids) (IsFormedItem cmp net (length bids)) (λ item h. h.formed) last.items last_sound.items)
+      (All-weaker (IsSoundOpen cmp net rows bids) (λ w. IsFormedItem cmp net (length bids) (priced_open w)) (λ w h. h.proper.ascending) last.open_nodes last_sound.waiting)
 
-  whole : IsTree plan.tree
-  whole = subst IsTree (sym is.tree) (record {
+  pub tree_whole : IsTree tree
+  tree_whole = subst IsTree (sym tree_is) (record {
     each =
-        let a = ap (λ (ps : List (List Decision × Item R)). length ps) (placed_at_end root is.last.items is.last.open_nodes sound.nodes) in
-        let b = length-append (places is.last.items) (map leaf_of is.last.open_nodes) in
-        let c = length-append is.last.items (map priced_open is.last.open_nodes) in
-        let d = same_length is.last.open_nodes in
-        let e = sound.each in
+        let a = ap (λ (ps : List (List Decision × Item R)). length ps) (placed_at_end root last.items last.open_nodes last_sound.nodes) in
+        let b = length-append (places last.items) (map leaf_of last.open_nodes) in
+        let c = length-append last.items (map priced_open last.open_nodes) in
+        let d = same_length last.open_nodes in
+        let e = last_sound.each in
         omega arith;
-    whole = open_at_end root is.last.items is.last.open_nodes sound.nodes;
+    whole = open_at_end root last.items last.open_nodes last_sound.nodes;
   })
     where
       same_length : (ws : List (OpenNode R)) → length (map leaf_of ws) ≡ length (map priced_open ws)
       same_length [] = refl
       same_length (w ∷ ws) = let i = same_length ws in omega arith
+
+module _ {R : Type 0} (cmp : R → R → Ordering) (net : Net) (proper : IsProper net) (rows : Rows R) (bids : List Bid) (steps budget : ℕ) (plan : Planned R)
+    (is : IsPlainPlan cmp net rows bids steps budget plan) where
+  sound : IsSound cmp net rows bids budget is.last
+  sound = last_sound cmp net proper rows bids steps budget is.last is.turns plan.tree is.tree
+
+  all_places : (P : List Decision × Item R → Type 0) → All P (places is.last.items) → All (λ w. P (leaf_of w)) is.last.open_nodes → All P (places plan.tree)
+  all_places = tree_places cmp net proper rows bids steps budget is.last is.turns plan.tree is.tree
+
+  weaken : (P : List Decision × Item R → Type 0) → ((p : List Decision × Item R) → IsSoundPlace net rows bids (revenue_of net bids is.last.incumbent) p.0 p.1 → P p) → All P (places is.last.items)
+  weaken = last_places cmp net proper rows bids steps budget is.last is.turns plan.tree is.tree
+
+  whole : IsTree plan.tree
+  whole = tree_whole cmp net proper rows bids steps budget is.last is.turns plan.tree is.tree
+
+  splits : All (λ p. SplitsUndecided p.0 p.1) (places plan.tree)
+  splits = tree_splits cmp net proper rows bids steps budget is.last is.turns plan.tree is.tree
+
+  dead : All (λ p. EndsDead net rows bids p.0 p.1) (places plan.tree)
+  dead = tree_dead cmp net proper rows bids steps budget is.last is.turns plan.tree is.tree
+
+  prices : All (HasPrices rows) plan.tree
+  prices = tree_prices cmp net proper rows bids steps budget is.last is.turns plan.tree is.tree
 
   fit : FitChoice net rows bids plan.choice
   fit = subst (FitChoice net rows bids) (sym is.choice) sound.choice
@@ -116,7 +140,7 @@ module _ {R : Type 0} (cmp : R → R → Ordering) (net : Net) (proper : IsPrope
       entries = sym (zip_length (λ (bid : Bid) (walk : Option (List Leg)). IfSome walk (IsWalk net bid.path)) bids plan.choice fit.is_choice);
       walks = choice_formed net proper bids plan.choice fit.is_choice;
       whole = whole;
-      items = formed_items;
+      items = tree_formed cmp net proper rows bids steps budget is.last is.turns plan.tree is.tree;
     };
     valid = record {
       walks = fit.is_choice;

@@ -4,13 +4,10 @@ use Rattle.std.specs.Prelude.{All, ◌⊎◌}
 use Rattle.std.specs.Prelude.{ℤ, pos, ◌≤ℤ◌, ◌<ℤ◌}
 use Rattle.std.specs.Int.{int_max}
 use Rattle.std.specs.declared.cmp.Ordering.{Ordering}
-use Rattle.std.proofs.lemmas.Int.{ints, clamps}
-use Rattle.std.proofs.Math.IntN.{negsuc}
-use Rattle.optra_search.proofs.FirstLemmas.{compare}
 use Rattle.optra_network.specs.Net.{Net, IsProper}
 use Rattle.optra_bid.specs.declared.bids.Bid.{Bid}
 use Rattle.optra_walk.specs.declared.Leg.{Leg}
-use Rattle.optra_walk.specs.Choices.{IsChoice, revenue_of}
+use Rattle.optra_walk.specs.Choices.{revenue_of}
 use Rattle.optra_walk.specs.Families.{Rows}
 use Rattle.optra_node.specs.declared.Decision.{Decision}
 use Rattle.optra_node.specs.declared.Item.{Item}
@@ -27,9 +24,8 @@ use Rattle.optra_prices.specs.Deads.{IsDeadAs}
 use Rattle.optra_prices.specs.Paths.{IsPathResult}
 use Rattle.optra_prices.specs.Steps.{AreProper}
 use Rattle.optra_prices.specs.Repairs.{IsRepair, empty_choice}
-use Rattle.optra_prices.proofs.RepairLemmas.{repair_fits}
 use Rattle.optra_search.specs.declared.waiting.Waiting.{Waiting}
-use Rattle.optra_search.specs.Planner.{OpenNode, State, first_state, dead_item, IsBetter, IsDeadTurn, IsPricedTurn, opened, IsTurn, Turns}
+use Rattle.optra_search.specs.Planner.{OpenNode, first_state, dead_item, IsBetter, IsDeadTurn, IsPricedTurn, opened}
 use Rattle.optra_search.specs.Marks.{AreSettled}
 use Rattle.optra_search.specs.Openings.{front, decisions_of, start_below, open_from, Nested, state_of, IsBoundSoFar, IsOutcome, yes_child, no_child}
 use Rattle.optra_search.specs.Searches.{Parts, IsReached, IsEntered}
@@ -38,35 +34,12 @@ use Rattle.optra_search.proofs.ResultLemmas.{result_valued}
 use Rattle.optra_search.proofs.TurnLemmas.{dead_opens}
 use Rattle.optra_search.proofs.PlacedLemmas.{node_of, placed_more}
 use Rattle.optra_search.proofs.SoundLemmas.{IsSoundOpen, IsSound, first_sound, turns_sound}
-use Rattle.optra_search.proofs.BoundLemmas.{first_bound, same_bound, next_bound, closes}
+use Rattle.optra_search.proofs.BoundLemmas.{first_bound, same_bound, max_bound, closes}
 use Rattle.optra_search.proofs.WaitingLemmas.{taken_is, top_within, rest_nested, stack_turn, one_turn, split_opens, split_nested}
 
-le_or : (a b : ℤ) → (b ≤ℤ a) ⊎ (a ≤ℤ b)
-le_or (pos m) (pos n) = by (compare m n)
-  where
-    by : (m < n) ⊎ ((m ≡ n) ⊎ (n < m)) → (pos n ≤ℤ pos m) ⊎ (pos m ≤ℤ pos n)
-    by (inl l) = inr (omega (arith, ints))
-    by (inr (inl e)) = inl (omega (arith, ints))
-    by (inr (inr l)) = inl (omega (arith, ints))
-le_or (pos m) (negsuc n) = inl (omega (arith, ints))
-le_or (negsuc m) (pos n) = inr (omega (arith, ints))
-le_or (negsuc m) (negsuc n) = by (compare m n)
-  where
-    by : (m < n) ⊎ ((m ≡ n) ⊎ (n < m)) → (negsuc n ≤ℤ negsuc m) ⊎ (negsuc m ≤ℤ negsuc n)
-    by (inl l) = inl (omega (arith, ints))
-    by (inr (inl e)) = inl (omega (arith, ints))
-    by (inr (inr l)) = inr (omega (arith, ints))
-
--- the greater of two numbers is the one that is not below the other
-max_sides : (a b : ℤ) → ((b ≤ℤ a) × (int_max a b ≡ a)) ⊎ ((a ≤ℤ b) × (int_max a b ≡ b))
-max_sides a b = by (le_or a b)
-  where
-    by : (b ≤ℤ a) ⊎ (a ≤ℤ b) → ((b ≤ℤ a) × (int_max a b ≡ a)) ⊎ ((a ≤ℤ b) × (int_max a b ≡ b))
-    by (inl l) = inl (l, omega (arith, ints, clamps))
-    by (inr l) = inr (l, omega (arith, ints, clamps))
-
 module _ {R : Type 0} (cmp : R → R → Ordering) (net : Net) (proper : IsProper net) (rows : Rows R) (bids : List Bid) (steps budget : ℕ) where
-  reached_sound : (s : Parts R) → IsReached cmp net rows bids steps budget s → IsSound cmp net rows bids budget (state_of s.node s.waiting s.items s.incumbent s.count)
+  -- what is reached is sound
+  pub reached_sound : (s : Parts R) → IsReached cmp net rows bids steps budget s → IsSound cmp net rows bids budget (state_of s.node s.waiting s.items s.incumbent s.count)
   reached_sound s is = turns_sound cmp net proper rows bids steps budget s.count (first_state bids) (state_of s.node s.waiting s.items s.incumbent s.count) is.turns (first_sound cmp net rows bids budget)
 
   module _ (start : Option (PriceList R)) (s : Parts R) (is : IsEntered cmp net rows bids steps budget start s) where
@@ -147,21 +120,10 @@ module _ {R : Type 0} (cmp : R → R → Ordering) (net : Net) (proper : IsPrope
       closed_next low =
           next_reached (Priced result.prices) result.prices s.waiting new revenue (int_max s.bound (whole_cents result.dual.value))
           (inr (record { lives = lives; result = result; is_result = own_path; repaired = repaired; is_repaired = repair; better = better; item_is = (subst (λ (z : ℤ). whole_cents result.dual.value ≤ℤ z) earned low, refl); prices_are = refl }))
-          refl nested_rest earned (bound_of (whole_cents result.dual.value) own)
+          refl nested_rest earned (max_bound net rows bids (places s.items) s.bound s.node result.prices (whole_cents result.dual.value) own is.reached.bound_is)
         where
           own : IsBoundOf net rows bids s.node result.prices (whole_cents result.dual.value)
           own = let v = result_valued cmp net rows bids s.node (unwrap_or start (start_below (front s.waiting))) steps s.revenue result path in record { terms = result.dual.terms; value = result.dual.value; dual = v.dual; cents_is = refl }
-
-          bound_of : (cents : ℤ) → IsBoundOf net rows bids s.node result.prices cents → IsBoundSoFar net rows bids (places s.items ++ (s.node, Priced result.prices) ∷ []) (int_max s.bound cents)
-          bound_of cents is_own =
-              let n = next_bound net rows bids (places s.items) s.bound s.node result.prices cents is_own is.reached.bound_is in
-              by (max_sides s.bound cents) n
-            where
-              by : ((cents ≤ℤ s.bound) × (int_max s.bound cents ≡ s.bound)) ⊎ ((s.bound ≤ℤ cents) × (int_max s.bound cents ≡ cents))
-                  → (cents ≤ℤ s.bound → IsBoundSoFar net rows bids (places s.items ++ (s.node, Priced result.prices) ∷ []) s.bound) × (s.bound ≤ℤ cents → IsBoundSoFar net rows bids (places s.items ++ (s.node, Priced result.prices) ∷ []) cents)
-                  → IsBoundSoFar net rows bids (places s.items ++ (s.node, Priced result.prices) ∷ []) (int_max s.bound cents)
-              by (inl p) n = subst (IsBoundSoFar net rows bids (places s.items ++ (s.node, Priced result.prices) ∷ [])) (sym p.1) (n.0 p.0)
-              by (inr p) n = subst (IsBoundSoFar net rows bids (places s.items ++ (s.node, Priced result.prices) ∷ [])) (sym p.1) (n.1 p.0)
 
       -- a node that does not close is split
       pub split_next : (bid : ℕ) (leg : Leg) → IsOutcome net rows bids s.node result.dual revenue (Some (bid, leg))

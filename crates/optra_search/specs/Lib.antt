@@ -6,3 +6,4 @@ pub mod Marks
 pub mod Openings
 pub mod Searches
 pub mod Reached
+pub mod Closings

@@ -6,15 +6,18 @@ use optra_node::Item;
 use optra_walk::Choice;
 use std::marker::Model;
 
+mod closing;
 mod earning;
 mod fixing;
 mod freeing;
 mod laws;
 pub mod planning;
+mod pricing;
 mod repairing;
 mod searching;
 mod settling;
 mod splitting;
+mod turning;
 mod waiting;
 
 pub use laws::plan_laws;

@@ -1,13 +1,90 @@
 //! The plan of a search.
-ghost use Rattle.std.specs.Prelude.{◌≡◌, ◌⊎◌, ◌≤◌, true, map, All, Contains, IfOk, OnOk};
+ghost use Rattle.std.specs.Prelude.{◌≡◌, ◌⊎◌, ◌≤◌, ◌∷◌, [], None, true, pos, length, map, All, Contains, IfOk, OnOk};
 ghost use Rattle.optra_bid.specs.Instances.{IsInstance};
+ghost use Rattle.optra_bid.specs.Specs.{IsBetween};
+ghost use Rattle.optra_prices.specs.Repairs.{empty_choice};
 ghost use Rattle.optra_search.specs.Planner.{IsPlainPlan};
+ghost use Rattle.optra_search.specs.Reached.{parts_of};
+ghost use Rattle.optra_search.specs.Closings.{plan_of};
 
+use crate::closing::close_all;
+use crate::searching::Search;
+use crate::turning::take_turns;
+use crate::waiting::Waiting;
 use crate::{Limits, Plan, Repairer};
 use optra_graph::Graphs;
-use optra_network::NoMemory;
-use optra_walk::{Instance, RowFamily};
-use std::alloc::{AllocError, Global};
+use optra_network::{Cents, NoMemory};
+use optra_node::Node;
+use optra_walk::{Choice, Instance, RowFamily};
+use std::alloc::Global;
+
+/// The choice that serves no bid.
+fn empty_choice(alloc: Global, inst: Instance<'_>) -> Result<Choice, NoMemory>
+    ensures { IfOk result (λ choice. choice ≡ empty_choice inst.entry.bids.now) }
+{
+    let mut walks = Vec::with_capacity(alloc, inst.bids.len())?;
+    for _bid in inst.bids {
+        walks.push(None)?;
+    }
+    Ok(Choice { walks })
+}
+
+/// The search before its first turn: the root waits, and no bid is served.
+fn first_search<R: Drop>(alloc: Global, inst: Instance<'_>) -> Result<Search<R>, NoMemory>
+    ensures { IfOk result (λ first. parts_of first ≡ record { node = []; waiting = record { depth = 0; decision = None; start = None } ∷ []; items = []; incumbent = empty_choice inst.entry.bids.now; revenue = pos 0; bound = pos 0; count = 0 }) }
+{
+    let incumbent = empty_choice(alloc, inst)?;
+    let mut waiting = Vec::new(alloc);
+    waiting.push(Waiting {
+        depth: 0,
+        decision: None,
+        start: None,
+    })?;
+    Ok(Search {
+        node: Node::root(alloc),
+        waiting,
+        items: Vec::new(alloc),
+        incumbent,
+        revenue: 0,
+        bound: 0,
+        count: 0,
+    })
+}
+
+/// The plan of a search in which no node waits.
+fn finish<R: Drop>(search: Search<R>) -> Plan<R>
+    requires { IsBetween (pos 0) (pos 1000000000000) search.bound }
+    ensures { result ≡ plan_of (parts_of search) }
+{
+    Plan {
+        choice: search.incumbent,
+        revenue: search.revenue,
+        bound: search.bound as Cents,
+        nodes: search.count,
+        tree: search.items,
+    }
+}
+
+/// The plan by graphs that hold those of the bids.
+fn plan_with<F: RowFamily, G: Graphs, P: Repairer<F, G>>(
+    alloc: Global,
+    inst: Instance<'_>,
+    graphs: &G,
+    rows: &F,
+    limits: Limits,
+    repairer: &P,
+) -> Result<Plan<F::Row>, NoMemory>
+    requires instance { IsInstance inst.net.now inst.bids.now }
+    requires network { G.network graphs.now ≡ inst.net.now }
+    requires held { All (λ bid. Contains (G.held graphs.now) bid.path) inst.bids.now }
+    ensures { IfOk result (λ plan. IsPlainPlan F.Row.cmp inst.entry.net.now (F.rows_of rows.now inst.entry.net.now) inst.entry.bids.now limits.steps limits.budget plan) }
+{
+    let _ = inst.net.track_count();
+    let first = first_search(alloc, inst)?;
+    let last = take_turns(alloc, inst, graphs, rows, limits, repairer, first)?;
+    let closed = close_all(alloc, inst, graphs, rows, last)?;
+    Ok(finish(closed))
+}
 
 /// The plan of the plain planner: its choice, revenue, bound, count of nodes and tree are exactly those of its turns.
 ///
@@ -39,5 +116,7 @@ pub fn plan<F: RowFamily, G: Graphs, P: Repairer<F, G>>(
     ensures network { G.network graphs.new ≡ G.network graphs.old }
     ensures keeps { G.keeps graphs.new ≡ G.keeps graphs.old }
 {
-    Err(AllocError)
+    graphs.prepare(alloc, inst.bids)?;
+    let plan = plan_with(alloc, inst, graphs, rows, limits, repairer)?;
+    Ok(plan)
 }

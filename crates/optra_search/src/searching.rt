@@ -24,7 +24,7 @@ pub(crate) struct Search<R> {
 }
 
 /// The prices at which the next node below starts; zero prices where there is none.
-fn start_under<'a, R>(waiting: &'a [Waiting<R>], zero: &'a Prices<R>) -> &'a Prices<R>
+pub(crate) fn start_under<'a, R>(waiting: &'a [Waiting<R>], zero: &'a Prices<R>) -> &'a Prices<R>
     requires { zero.now ≡ [] }
     ensures { result.now ≡ start_below (front waiting.now) }
 {
@@ -84,7 +84,11 @@ pub(crate) fn close_or_split<R: Drop>(
 }
 
 /// The node becomes a leaf with the prices.
-fn close<R: Drop>(search: Search<R>, prices: Prices<R>, cents: i128) -> Result<Search<R>, NoMemory>
+pub(crate) fn close<R: Drop>(
+    search: Search<R>,
+    prices: Prices<R>,
+    cents: i128,
+) -> Result<Search<R>, NoMemory>
     ensures { IfOk result (λ after. parts_of after ≡ settled_as (parts_of search) None prices cents) }
 {
     let mut search = search;

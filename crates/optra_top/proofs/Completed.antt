@@ -24,7 +24,7 @@ reply-held command s contents others reply holds replied =
 
 -- contents that are refused have no other reply
 refused-alone : (command : Command) (contents : List (List ℕ)) (line : List ℕ) (reply : Reply) → MayReply command contents (refused line) → MayReply command contents reply → reply ≡ refused line
-refused-alone (plan form) contents line reply refuses replies = plan-refused-alone contents line reply refuses replies
+refused-alone (plan form) contents line reply refuses replies = plan-refused-alone form.limits contents line reply refuses replies
 
 not_both : (line : List ℕ) (status : ℕ) (text : List ℕ) (puts : List (List ℕ × List ℕ)) → answered status text puts ≡ refused line → ⊥
 not_both line status text puts is = cc

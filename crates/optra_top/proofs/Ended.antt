@@ -7,12 +7,12 @@ use Rattle.optra_outside.specs.declared.shelves.ShelfError.{ShelfError}
 use Rattle.optra_outside.specs.declared.shelves.ShelfError.TheVariants.{Absent as NotThere, Failed, TooLong as Overlong, NoMemory as NoRoom}
 use Rattle.optra_top.specs.declared.faults.Fault.{Fault}
 use Rattle.optra_top.specs.declared.faults.Fault.TheVariants.{Table, Read, Absent, TooLong, Write, NoMemory}
-use Rattle.optra_text.specs.FaultLines.{read_line, memory_line}
+use Rattle.optra_text.specs.FaultLines.{read_line, write_line, memory_line}
 use Rattle.optra_top.specs.Lines.{status_of, line_of}
 use Rattle.optra_top.specs.Replies.{Reply}
 use Rattle.optra_top.specs.Commands.{Command, files_of, MayReply}
 use Rattle.optra_top.specs.Gathering.{HoldsAll, Refuses}
-use Rattle.optra_top.specs.Ending.{Replies, IsMissing, IsSilent, Says, RunLeaves}
+use Rattle.optra_top.specs.Ending.{Replies, IsMissing, IsWriteFault, IsSilent, Says, RunLeaves}
 use Rattle.optra_top.specs.Faults.{EndsBy, FaultOf, Refusing}
 
 missing : (command : Command) (s s' : ShelfState) (o : PenState) (at : ℕ) (why : ShelfError) (name : List ℕ) → Refuses s s' (files_of command) at why → get_or (files_of command) at [] ≡ name → GetLeaves s s' → IsMissing command s s' o o why name
@@ -72,3 +72,12 @@ said-memory command s s' o o' e e' (Read name) is ends says = absurd (omega arit
 said-memory command s s' o o' e e' (Absent name) is ends says = absurd (omega arith)
 said-memory command s s' o o' e e' (TooLong name) is ends says = absurd (omega arith)
 said-memory command s s' o o' e e' Write is ends says = absurd (omega arith)
+
+-- status 7 is a fault of writing alone
+pub said-write : (command : Command) (s s' : ShelfState) (o o' e e' : PenState) (fault : Fault) → status_of fault ≡ 7 → EndsBy command s s' o o' fault → Says e e' (line_of fault) → IsWriteFault command s s' o o' × Says e e' write_line
+said-write command s s' o o' e e' Write is ends says = (ends, says)
+said-write command s s' o o' e e' (Table fault) is ends says = absurd (omega arith)
+said-write command s s' o o' e e' (Read name) is ends says = absurd (omega arith)
+said-write command s s' o o' e e' (Absent name) is ends says = absurd (omega arith)
+said-write command s s' o o' e e' (TooLong name) is ends says = absurd (omega arith)
+said-write command s s' o o' e e' NoMemory is ends says = absurd (omega arith)

@@ -4,11 +4,4 @@ pub mod PlanRefusals
 pub mod Ended
 pub mod Completed
 pub mod Put
-mod NetworkFacts
-mod MinuteLemmas
-mod ChoiceLemmas
-mod PriceLemmas
-mod KeepLemmas
-mod RouteFacts
-mod OfferLemmas
-mod PlannedLemmas
+mod PlanLemmas

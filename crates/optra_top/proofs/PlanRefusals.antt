@@ -11,24 +11,25 @@ use Rattle.optra_tables.specs.Stops.{bids_of}
 use Rattle.optra_text.specs.FaultLines.{refusal_line}
 use Rattle.optra_tables.specs.declared.TableFault.{TableFault}
 use Rattle.optra_top.specs.Replies.{Reply, refused, answered}
+use Rattle.optra_top.specs.Words.{PlanLimits}
 use Rattle.optra_top.specs.PlanCommand.{PlanReplies, ReplyTo, Tables, content_at, meaning_of, net_files}
 use Rattle.optra_top.specs.declared.faults.Fault.{Fault}
 use Rattle.optra_top.specs.Faults.{IsUnread, Refusing}
 
-refused-alone : (read : Result Tables TableFault) (line : List ℕ) (reply : Reply) → ReplyTo read (refused line) → ReplyTo read reply → reply ≡ refused line
-refused-alone (Err fault) line (refused other) refuses replies = ap (λ l. refused l) (replies ∙ sym refuses)
-refused-alone (Err fault) line (answered status text puts) refuses replies = absurd replies
-refused-alone (Ok tables) line reply refuses replies = absurd refuses
+refused-alone : (limits : PlanLimits) (read : Result Tables TableFault) (line : List ℕ) (reply : Reply) → ReplyTo limits read (refused line) → ReplyTo limits read reply → reply ≡ refused line
+refused-alone limits (Err fault) line (refused other) refuses replies = ap (λ l. refused l) (replies ∙ sym refuses)
+refused-alone limits (Err fault) line (answered status text puts) refuses replies = absurd replies
+refused-alone limits (Ok tables) line reply refuses replies = absurd refuses
 
-pub plan-refused-alone : (contents : List (List ℕ)) (line : List ℕ) (reply : Reply) → PlanReplies contents (refused line) → PlanReplies contents reply → reply ≡ refused line
-plan-refused-alone contents line reply refuses replies = refused-alone (meaning_of contents) line reply refuses replies
+pub plan-refused-alone : (limits : PlanLimits) (contents : List (List ℕ)) (line : List ℕ) (reply : Reply) → PlanReplies limits contents (refused line) → PlanReplies limits contents reply → reply ≡ refused line
+plan-refused-alone limits contents line reply refuses replies = refused-alone limits (meaning_of contents) line reply refuses replies
 
 -- tables that were not read say why, or memory ran out
-pub Refusing-unread : (contents : List (List ℕ)) (error : ReadError) (fault : Fault) → IsUnread error fault → Fails error (meaning_of contents) → Refusing (λ reply. PlanReplies contents reply) fault
-Refusing-unread contents (unread.Fault first) fault is fails =
-    let P : Result Tables TableFault → Type 0 = λ read. ReplyTo read (refused (refusal_line first)) in
+pub Refusing-unread : (limits : PlanLimits) (contents : List (List ℕ)) (error : ReadError) (fault : Fault) → IsUnread error fault → Fails error (meaning_of contents) → Refusing (λ reply. PlanReplies limits contents reply) fault
+Refusing-unread limits contents (unread.Fault first) fault is fails =
+    let P : Result Tables TableFault → Type 0 = λ read. ReplyTo limits read (refused (refusal_line first)) in
     rw is (subst P (sym fails) refl)
-Refusing-unread contents unread.NoMemory fault is fails = rw is tt
+Refusing-unread limits contents unread.NoMemory fault is fails = rw is tt
 
 -- the network's first fault is that of the tables
 pub Fails-net : (contents : List (List ℕ)) (error : ReadError) → Fails error (network_of (net_files contents)) → Fails error (meaning_of contents)

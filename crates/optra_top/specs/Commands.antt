@@ -1,6 +1,6 @@
 -- What the words ask for: which files are got, and what may be replied to their contents. A command more is an arm more
 -- in each definition here.
-use Rattle.std.specs.Prelude.{ℕ, List, Option, map, String, string_bytes}
+use Rattle.std.specs.Prelude.{ℕ, ◌≤◌, List, Option, map, String, string_bytes}
 use Rattle.std.specs.declared.alloc.Global.{Global}
 use Rattle.std.specs.Option.{option_map}
 use Rattle.optra_top.specs.Words.{PlanForm, plan_form_of, plan_files}
@@ -20,8 +20,12 @@ asked words = command_of (map string_bytes words)
 
 -- the files that it gets, in order
 abbrev pub files_of : Command → List (List ℕ)
-files_of (plan form) = plan_files form
+files_of (plan form) = plan_files form.net form.bids form.stops
 
 -- what it may reply to their contents
 abbrev pub MayReply : Command → List (List ℕ) → Reply → Type 0
-MayReply (plan form) contents reply = PlanReplies contents reply
+MayReply (plan form) contents reply = PlanReplies form.limits contents reply
+
+-- a plan has a budget of at least one node
+abbrev pub HasBudget : Command → Type 0
+HasBudget (plan form) = 1 ≤ form.limits.budget

@@ -1,4 +1,5 @@
--- What the commands are, what they reply, and how they end; and the rule of the plan.
+-- What the commands are, what they reply, and how they end; and what a plan promises.
+pub mod Options
 pub mod Words
 pub mod WordsRead
 pub mod Replies
@@ -11,7 +12,3 @@ pub mod TablesRead
 pub mod Commands
 pub mod Ending
 pub mod Faults
-pub mod PathRule
-pub mod Minutes
-pub mod Prices
-pub mod Searches

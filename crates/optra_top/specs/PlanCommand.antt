@@ -1,9 +1,12 @@
 -- What the plan command replies: the tables mean a network and bids, or they have a first fault; and a plan of these is printed.
-use Rattle.std.specs.Prelude.{◌≡◌, ◌⊎◌, ℕ, ℤ, List, [], map, Option, Result, Ok, Err, slice_index_or}
+use Rattle.std.specs.Prelude.{◌≡◌, ◌⊎◌, ℕ, ℤ, List, [], map, Result, Ok, Err, slice_index_or}
 use Rattle.std.specs.Prelude.{◌<ℤ◌}
 use Rattle.optra_network.specs.Net.{Net}
 use Rattle.optra_bid.specs.declared.bids.Bid.{Bid}
-use Rattle.optra_walk.specs.declared.Leg.{Leg}
+use Rattle.optra_rows.specs.Headways.{headway_rows}
+use Rattle.optra_rows.specs.TouchedLemmas.{row_cmp}
+use Rattle.optra_rows.specs.declared.HRow.{HRow}
+use Rattle.optra_search.specs.Planner.{Planned, IsPlainPlan}
 use Rattle.optra_tables.specs.declared.TableFault.{TableFault}
 use Rattle.optra_tables.specs.Outcomes.{◌>>=◌}
 use Rattle.optra_tables.specs.Networks.{Files, network_of}
@@ -12,6 +15,7 @@ use Rattle.optra_tables.specs.Stops.{bids_of}
 use Rattle.optra_text.specs.FaultLines.{refusal_line}
 use Rattle.optra_text.specs.PlanTexts.{plan_text_of}
 use Rattle.optra_top.specs.Replies.{Reply, refused, answered}
+use Rattle.optra_top.specs.Words.{PlanLimits}
 use Rattle.optra_top.specs.Plans.{IsPlan}
 
 -- a network and its bids
@@ -44,24 +48,25 @@ meaning_of contents = do
 abbrev pub IsStatusOf : ℤ → ℤ → ℕ → Type 0
 IsStatusOf revenue bound status = ((status ≡ 0) × (revenue ≡ bound)) ⊎ ((status ≡ 1) × (revenue <ℤ bound))
 
--- The text is that of a plan of these bids. It tells which one.
-pub record PrintsPlan (tables : Tables) (status : ℕ) (text : List ℕ) : Type 0 where
+-- The text is that of the plan of the search by headway rows, with this many steps and this budget. There is one such plan,
+-- so what is printed is a function of the tables and these two numbers.
+pub record PrintsPlan (limits : PlanLimits) (tables : Tables) (status : ℕ) (text : List ℕ) : Type 0 where
   pub bids : List Bid
   pub are_those : map parts_of bids ≡ tables.bids
-  pub walks : List (Option (List Leg))
-  pub revenue : ℤ
-  pub bound : ℤ
-  pub plan : IsPlan tables.net bids walks revenue bound
-  pub printed : text ≡ plan_text_of tables.net bids walks revenue bound 1
-  pub ends : IsStatusOf revenue bound status
+  pub planned : Planned HRow
+  pub by_search : IsPlainPlan row_cmp tables.net (headway_rows tables.net) bids limits.steps limits.budget planned
+  pub plan : IsPlan tables.net bids planned.choice planned.revenue planned.bound
+  pub printed : text ≡ plan_text_of tables.net bids planned.choice planned.revenue planned.bound planned.nodes
+  pub ends : IsStatusOf planned.revenue planned.bound status
+  pub spent : status ≡ 1 → planned.nodes ≡ limits.budget
 
 -- the reply to what the contents mean
-abbrev pub ReplyTo : Result Tables TableFault → Reply → Type 0
-ReplyTo (Err fault) (refused line) = line ≡ refusal_line fault
-ReplyTo (Err fault) (answered status text puts) = ⊥
-ReplyTo (Ok tables) (refused line) = ⊥
-ReplyTo (Ok tables) (answered status text puts) = PrintsPlan tables status text × (puts ≡ [])
+abbrev pub ReplyTo : PlanLimits → Result Tables TableFault → Reply → Type 0
+ReplyTo limits (Err fault) (refused line) = line ≡ refusal_line fault
+ReplyTo limits (Err fault) (answered status text puts) = ⊥
+ReplyTo limits (Ok tables) (refused line) = ⊥
+ReplyTo limits (Ok tables) (answered status text puts) = PrintsPlan limits tables status text × (puts ≡ [])
 
 -- the reply to the contents of the seven files
-abbrev pub PlanReplies : List (List ℕ) → Reply → Type 0
-PlanReplies contents reply = ReplyTo (meaning_of contents) reply
+abbrev pub PlanReplies : PlanLimits → List (List ℕ) → Reply → Type 0
+PlanReplies limits contents reply = ReplyTo limits (meaning_of contents) reply

@@ -4,11 +4,13 @@
 mod answering;
 mod faults;
 mod gathering;
-mod path_planning;
+mod options;
 mod performing;
 mod planning;
 mod putting;
+mod repairing;
 mod running;
+mod searching;
 mod wording;
 
 pub use running::{run, run_without_faults};

@@ -1,5 +1,6 @@
 //! A command from its words to its end: it gets its files, answers to their contents, puts files and prints its text.
 ghost use Rattle.std.specs.Prelude.{◌≡◌, ◌<◌, [], length, map, string_bytes, slice_index_or, IfOk, IfErr};
+ghost use Rattle.optra_top.specs.Commands.{HasBudget};
 ghost use Rattle.optra_top.specs.WordsRead.{command_read};
 ghost use Rattle.optra_top.specs.Ending.{IsDone};
 ghost use Rattle.optra_top.specs.Faults.{EndsBy, FaultOf};
@@ -19,6 +20,7 @@ pub fn perform<S: Shelf, O: Pen>(
     shelf: &mut S,
     out: &mut O,
 ) -> Result<u8, Fault>
+    requires { HasBudget (command_read words) }
     ensures ok { IfOk result (λ status.
         IsDone (command_read words.entry) (S.state shelf.old) (S.state shelf.new) (O.state out.old) (O.state out.new) status) }
     ensures err { IfErr result (λ fault.

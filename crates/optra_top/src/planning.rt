@@ -1,5 +1,5 @@
 //! The plan command: from the contents of its files to what is printed.
-ghost use Rattle.std.specs.Prelude.{◌≡◌, ◌<◌, ◌++◌, [], ◌∷◌, length, map, string_bytes, vec_items, OnOk, IfOk, IfErr, Ok, nat_eq};
+ghost use Rattle.std.specs.Prelude.{◌≡◌, ◌<◌, ◌≤◌, ◌++◌, [], ◌∷◌, length, map, string_bytes, vec_items, OnOk, IfOk, IfErr, Ok, nat_eq};
 ghost use Rattle.std.specs.Prelude.{◌≤ℤ◌};
 ghost use Rattle.optra_bid.specs.Instances.{IsInstance};
 ghost use Rattle.optra_tables.specs.Outcomes.{Gives};
@@ -10,32 +10,35 @@ ghost use Rattle.optra_top.specs.Replies.{answered};
 ghost use Rattle.optra_top.specs.Putting.{texts_of};
 ghost use Rattle.optra_top.specs.PlanCommand.{meaning_of, content_at, net_files, IsStatusOf, PrintsPlan, PlanReplies};
 ghost use Rattle.optra_top.specs.TablesRead.{tables_seen};
+ghost use Rattle.optra_top.specs.WordsRead.{limits_read};
 ghost use Rattle.optra_top.specs.Faults.{Refusing};
 ghost use Rattle.optra_top.specs.Ending.{IsDoneStatus};
 
 use crate::answering::Answer;
 use crate::faults::Fault;
-use crate::path_planning::plan_paths;
+use crate::searching::search_plan;
 use optra_bid::Bid;
 use optra_network::{Cents, Network, NoMemory};
+use optra_search::Limits;
 use optra_tables::{NetFiles, ReadError, read_bids, read_network};
 use optra_text::{PlanView, plan_text};
 use optra_walk::Instance;
 use std::alloc::{AllocError, Global};
 
-/// Reads the tables and plans.
-pub fn plan(alloc: Global, contents: &[Vec<u8>]) -> Result<Answer, Fault>
-    requires { length contents.now ≡ 7 }
-    ensures ok { IfOk result (λ answer. PlanReplies (map vec_items contents.now) (answered answer.status answer.text.items (texts_of answer.puts.items))) }
+/// Reads the tables and plans, within the limits.
+pub fn plan(alloc: Global, contents: &[Vec<u8>], limits: Limits) -> Result<Answer, Fault>
+    requires files { length contents.now ≡ 7 }
+    requires budget { 1 ≤ limits.budget }
+    ensures ok { IfOk result (λ answer. PlanReplies (limits_read limits) (map vec_items contents.now) (answered answer.status answer.text.items (texts_of answer.puts.items))) }
     ensures done { IfOk result (λ answer. IsDoneStatus answer.status) }
-    ensures err { IfErr result (λ fault. Refusing (λ reply. PlanReplies (map vec_items contents.now) reply) fault) }
+    ensures err { IfErr result (λ fault. Refusing (λ reply. PlanReplies (limits_read limits) (map vec_items contents.now) reply) fault) }
 {
     let tables = read_tables(alloc, contents)?;
     let inst = Instance {
         net: &tables.net,
         bids: &tables.bids,
     };
-    let Ok(answer) = plan_instance(alloc, inst) else {
+    let Ok(answer) = plan_instance(alloc, inst, limits) else {
         return Err(Fault::NoMemory);
     };
     Ok(answer)
@@ -82,19 +85,20 @@ fn content(contents: &[Vec<u8>], place: usize) -> &[u8]
     &contents[place]
 }
 
-// Plans the bids on their network.
-fn plan_instance(alloc: Global, inst: Instance<'_>) -> Result<Answer, NoMemory>
-    requires { IsInstance inst.net.now inst.bids.now }
-    ensures plan { IfOk result (λ answer. PrintsPlan (record { net = inst.entry.net.now; bids = map parts_of inst.entry.bids.now }) answer.status answer.text.items) }
+// Plans the bids on their network by the search, and prints the plan.
+fn plan_instance(alloc: Global, inst: Instance<'_>, limits: Limits) -> Result<Answer, NoMemory>
+    requires instance { IsInstance inst.net.now inst.bids.now }
+    requires budget { 1 ≤ limits.budget }
+    ensures plan { IfOk result (λ answer. PrintsPlan (limits_read limits) (record { net = inst.entry.net.now; bids = map parts_of inst.entry.bids.now }) answer.status answer.text.items) }
     ensures puts { IfOk result (λ answer. answer.puts.items ≡ []) }
 {
-    let plan = plan_paths(alloc, inst)?;
+    let plan = search_plan(alloc, inst, limits)?;
     let view = PlanView {
         inst,
         choice: &plan.choice,
         revenue: plan.revenue,
         bound: plan.bound,
-        nodes: 1,
+        nodes: plan.nodes,
     };
     let text = plan_text(alloc, view)?;
     Ok(Answer {
@@ -119,7 +123,7 @@ pub fn plan_file_names(
     bids: &str,
     stops: &str,
 ) -> Result<Vec<String>, AllocError>
-    ensures { IfOk result (λ names. map string_bytes names.items ≡ plan_files (record { net = net.now; bids = bids.now; stops = stops.now })) }
+    ensures { IfOk result (λ names. map string_bytes names.items ≡ plan_files net.now bids.now stops.now) }
 {
     let mut names = Vec::with_capacity(alloc, 7)?;
     add_name(alloc, &mut names, net, "/stations.csv")?;

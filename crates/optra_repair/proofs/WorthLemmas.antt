@@ -1,0 +1,41 @@
+-- What a search over the parts of arcs leaves.
+use Rattle.std.proofs.Common.{◌≡◌, ℕ, List, None, Some, All, length, get_or, arith, subst, sym}
+use Rattle.std.specs.Prelude.{ℤ, pos, ◌≤ℤ◌, ◌<ℤ◌, ◌<◌}
+use Rattle.std.proofs.lemmas.Int.{ints}
+use Rattle.optra_network.specs.Net.{Net}
+use Rattle.optra_bid.specs.Specs.{Path}
+use Rattle.optra_walk.specs.declared.Leg.{Leg}
+use Rattle.optra_walk.specs.Walks.{IsWalk}
+use Rattle.optra_dag.specs.Paths.{Graph, IsPath, IsFirstBest}
+use Rattle.optra_graph.specs.Timed.{Timed, IsGraphOf, IsRoute, walk_of}
+use Rattle.optra_prices.proofs.ArcLemmas.{leads_on}
+use Rattle.optra_repair.specs.declared.marking.ArcPart.{ArcPart}
+use Rattle.optra_repair.specs.Parts.{allows_at, weight_at, IsWorthWalk}
+
+-- a path of allowed arcs is a route
+pub path_route : (t : Timed) (parts : List ArcPart) (arcs : List ℕ) → IsPath t.dag (allows_at parts) arcs → IsRoute t arcs
+path_route t parts arcs path = record { some = path.some; leads = (leads_on t.dag (allows_at parts) 0 arcs path.leads).0 }
+
+module _ (t : Timed) (dag : Graph) (parts : List ArcPart) (same : dag ≡ t.dag) where
+  best_in : (sum : ℤ) (best : List ℕ) → IsFirstBest dag (allows_at parts) (weight_at parts) sum best → IsFirstBest t.dag (allows_at parts) (weight_at parts) sum best
+  best_in sum best is = subst (λ (g : Graph). IsFirstBest g (allows_at parts) (weight_at parts) sum best) same is
+
+  -- without a path no path is worth anything
+  pub none_worth : ((path : List ℕ) → IsPath dag (allows_at parts) path → ⊥) → IsWorthWalk t parts None
+  none_worth none path is = absurd (none path (subst (λ (g : Graph). IsPath g (allows_at parts) path) (sym same) is))
+
+  -- where the first best path isn't worth anything, none is
+  pub little_worth : (sum : ℤ) (best : List ℕ) → IsFirstBest dag (allows_at parts) (weight_at parts) sum best → sum ≤ℤ pos 0 → IsWorthWalk t parts None
+  little_worth sum best is little path here = let m = (best_in sum best is).greatest path here in omega (arith, ints)
+
+  -- else its walk is worth something
+  pub some_worth : (sum : ℤ) (best : List ℕ) (legs : List Leg) → IsFirstBest dag (allows_at parts) (weight_at parts) sum best → pos 0 <ℤ sum → legs ≡ walk_of t best → IsWorthWalk t parts (Some legs)
+  some_worth sum best legs is above e = (best, sum, best_in sum best is, above, e)
+
+  -- its arcs lead from the start to an end
+  pub best_path : (sum : ℤ) (best : List ℕ) → IsFirstBest dag (allows_at parts) (weight_at parts) sum best → IsPath t.dag (allows_at parts) best
+  best_path sum best is = (best_in sum best is).path
+
+-- it is a walk of the bid
+pub worth_is_walk : (net : Net) (path : Path) (t : Timed) (parts : List ArcPart) (legs : List Leg) → IsGraphOf net path t → IsWorthWalk t parts (Some legs) → IsWalk net path legs
+worth_is_walk net path t parts legs is_graph (arcs, total, best, above, e) = subst (IsWalk net path) (sym e) (is_graph.sound arcs (path_route t parts arcs best.path))

@@ -1,0 +1,66 @@
+//! Keeping a walk where it fits as a whole.
+ghost use Rattle.std.specs.Prelude.{◌≡◌, ℕ, ◌+◌, ◌≤◌, ◌<◌, IfOk, All, length, take, slice_get, IfSome};
+ghost use Rattle.optra_walk.specs.Families.{IsUsable};
+ghost use Rattle.optra_rows.specs.Loads.{total_of, HasRoom};
+ghost use Rattle.optra_repair.specs.Placings.{AreWithin, AddsLegs, IsPut, use_of_legs};
+
+use optra_network::{Network, NoMemory, TypeId};
+use optra_rows::Load;
+use optra_walk::{Leg, RowFamily};
+
+/// Adds the legs in turn, up to the first that doesn't fit any more, and tells how many were added.
+fn add_fitting<F: RowFamily>(
+    load: &mut Load<F>,
+    net: &Network,
+    rows: &F,
+    kind: TypeId,
+    legs: &[Leg],
+) -> Result<usize, NoMemory>
+    requires usable { All (IsUsable net.now kind) legs.now }
+    requires within { AreWithin (F.rows_of rows.now net.now) (total_of F.Row.cmp load.old.totals) }
+    ensures count { IfOk result (λ n. n ≤ length legs.now) }
+    ensures adds { IfOk result (λ n. AddsLegs (F.rows_of rows.now net.now) kind (take n legs.now) (total_of F.Row.cmp load.old.totals) (total_of F.Row.cmp load.new.totals)) }
+    ensures within { IfOk result (λ n. AreWithin (F.rows_of rows.now net.now) (total_of F.Row.cmp load.new.totals)) }
+    ensures stopped { IfOk result (λ n. IfSome (slice_get legs.now n) (λ leg. HasRoom (F.rows_of rows.now net.now) (total_of F.Row.cmp load.new.totals) kind leg → ⊥)) }
+{
+    let _ = net.track_count();
+    for k in 0..legs.len() {
+        if !load.fits(net, rows, kind, legs[k]) {
+            return Ok(k);
+        }
+        load.add(net, rows, kind, legs[k])?;
+    }
+    Ok(legs.len())
+}
+
+/// Takes legs away that were added.
+fn take_back<F: RowFamily>(load: &mut Load<F>, net: &Network, rows: &F, kind: TypeId, legs: &[Leg])
+    requires usable { All (IsUsable net.now kind) legs.now }
+    requires enough { (row : F.Row) → use_of_legs (F.rows_of rows.now net.now) kind legs.now row ≤ total_of F.Row.cmp load.old.totals row }
+    ensures { AddsLegs (F.rows_of rows.now net.now) kind legs.now (total_of F.Row.cmp load.new.totals) (total_of F.Row.cmp load.old.totals) }
+{
+    for k in 0..legs.len() {
+        load.take(net, rows, kind, legs[k]);
+    }
+}
+
+/// Adds the legs of a walk where they fit together, and tells whether they do.
+pub(crate) fn keep<F: RowFamily>(
+    load: &mut Load<F>,
+    net: &Network,
+    rows: &F,
+    kind: TypeId,
+    legs: &[Leg],
+) -> Result<bool, NoMemory>
+    requires usable { All (IsUsable net.now kind) legs.now }
+    requires within { AreWithin (F.rows_of rows.now net.now) (total_of F.Row.cmp load.old.totals) }
+    ensures { IfOk result (λ kept. IsPut (F.rows_of rows.now net.now) kind legs.now kept (total_of F.Row.cmp load.old.totals) (total_of F.Row.cmp load.new.totals)) }
+{
+    let _ = net.track_count();
+    let added = add_fitting(load, net, rows, kind, legs)?;
+    if added == legs.len() {
+        return Ok(true);
+    }
+    take_back(load, net, rows, kind, &legs[..added]);
+    Ok(false)
+}

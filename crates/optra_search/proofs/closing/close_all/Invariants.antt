@@ -1,0 +1,14 @@
+-- What waits may become leaves, and what waited has become leaves.
+use Rattle.std.proofs.Common.{length}
+use Rattle.optra_search.specs.Reached.{parts_of}
+use Rattle.optra_search.specs.Closings.{MayClose, HasClosed}
+use Rattle.optra_search.proofs.closing.close_all.Given as goal
+
+abbrev pub invariant-waiting : goal.invariant-waiting
+invariant-waiting g l = record {
+  closing : MayClose g.F.Row.Ord.cmp l.inst.net.now (g.F.RowFamily.rows_of l.rows l.inst.net.now) l.inst.bids.now (parts_of l.search);
+  closed : HasClosed (parts_of l.initial.search) (parts_of l.search);
+}
+
+abbrev pub decreases-waiting : goal.decreases-waiting
+decreases-waiting g l = length l.search.waiting.items

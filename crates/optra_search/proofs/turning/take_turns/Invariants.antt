@@ -1,0 +1,11 @@
+-- The turns so far have led here, and each of them counted a node.
+use Rattle.std.proofs.Common.{◌≡◌}
+use Rattle.optra_search.specs.Searches.{IsReached}
+use Rattle.optra_search.specs.Reached.{parts_of}
+use Rattle.optra_search.proofs.turning.take_turns.Given as goal
+
+abbrev pub invariant-turns : goal.invariant-turns
+invariant-turns g l = record {
+  reached : IsReached g.F.Row.Ord.cmp l.inst.net.now (g.F.RowFamily.rows_of l.rows l.inst.net.now) l.inst.bids.now l.limits.steps l.limits.budget (parts_of l.search);
+  count : l.search.count ≡ l._taken;
+}

@@ -1,0 +1,88 @@
+//! The end of a search: each node that still waits becomes a leaf with its start prices.
+ghost use Rattle.std.specs.Prelude.{◌≡◌, ◌≤◌, ◌++◌, ◌∷◌, [], length, All, Contains, IfOk, unwrap_or};
+ghost use Rattle.optra_search.specs.Openings.{front, start_below};
+ghost use Rattle.optra_search.specs.Reached.{parts_of};
+ghost use Rattle.optra_search.specs.Closings.{MayClose, HasClosed};
+
+use crate::searching::{Search, close, start_under};
+use crate::settling::{whole_cents, zero_prices};
+use crate::waiting::{Waiting, enter};
+use optra_graph::Graphs;
+use optra_network::NoMemory;
+use optra_node::Prices;
+use optra_prices::duals::dual;
+use optra_walk::{Instance, RowFamily};
+use std::alloc::Global;
+
+/// The prices at which a node starts, copied where they are those of the next one below.
+fn own_start<R: Copy>(
+    alloc: Global,
+    start: Option<Prices<R>>,
+    waiting: &[Waiting<R>],
+) -> Result<Prices<R>, NoMemory>
+    ensures { IfOk result (λ prices. prices ≡ unwrap_or start (start_below (front waiting.now))) }
+{
+    match start {
+        Some(prices) => Ok(prices),
+        None => {
+            let zero = zero_prices(alloc);
+            let below = start_under(waiting, &zero);
+            let entries = Vec::from_slice(alloc, &below.entries)?;
+            Ok(Prices { entries })
+        }
+    }
+}
+
+/// The node that was on top of the stack becomes a leaf with its start prices.
+fn close_open<F: RowFamily, G: Graphs>(
+    alloc: Global,
+    inst: Instance<'_>,
+    graphs: &G,
+    rows: &F,
+    search: Search<F::Row>,
+    top: Waiting<F::Row>,
+) -> Result<Search<F::Row>, NoMemory>
+    requires few { length inst.bids.now ≤ 1000 }
+    requires network { G.network graphs.now ≡ inst.net.now }
+    requires held { All (λ bid. Contains (G.held graphs.now) bid.path) inst.bids.now }
+    requires closing { MayClose F.Row.cmp inst.net.now (F.rows_of rows.now inst.net.now) inst.bids.now (record (parts_of search) { waiting = search.waiting.items ++ top ∷ [] }) }
+    ensures closing { IfOk result (λ after. MayClose F.Row.cmp inst.entry.net.now (F.rows_of rows.now inst.entry.net.now) inst.entry.bids.now (parts_of after)) }
+    ensures closed { IfOk result (λ after. HasClosed (record (parts_of search) { waiting = search.waiting.items ++ top ∷ [] }) (parts_of after)) }
+    ensures rest { IfOk result (λ after. after.waiting.items ≡ search.waiting.items) }
+{
+    let mut search = search;
+    let Waiting {
+        depth,
+        decision,
+        start,
+    } = top;
+    enter(&mut search.node, depth, decision)?;
+    let prices = own_start(alloc, start, &search.waiting)?;
+    let dual = dual(alloc, inst, graphs, rows, &search.node, &prices)?;
+    let cents = whole_cents(dual.value);
+    let after = close(search, prices, cents)?;
+    Ok(after)
+}
+
+/// Each node that waits becomes a leaf with its start prices, from the top of the stack down.
+pub(crate) fn close_all<F: RowFamily, G: Graphs>(
+    alloc: Global,
+    inst: Instance<'_>,
+    graphs: &G,
+    rows: &F,
+    search: Search<F::Row>,
+) -> Result<Search<F::Row>, NoMemory>
+    requires few { length inst.bids.now ≤ 1000 }
+    requires network { G.network graphs.now ≡ inst.net.now }
+    requires held { All (λ bid. Contains (G.held graphs.now) bid.path) inst.bids.now }
+    requires closing { MayClose F.Row.cmp inst.net.now (F.rows_of rows.now inst.net.now) inst.bids.now (parts_of search) }
+    ensures closing { IfOk result (λ after. MayClose F.Row.cmp inst.entry.net.now (F.rows_of rows.now inst.entry.net.now) inst.entry.bids.now (parts_of after)) }
+    ensures closed { IfOk result (λ after. HasClosed (parts_of search) (parts_of after)) }
+    ensures none { IfOk result (λ after. after.waiting.items ≡ []) }
+{
+    let mut search = search;
+    'waiting: while let Some(top) = search.waiting.pop() {
+        search = close_open(alloc, inst, graphs, rows, search, top)?;
+    }
+    Ok(search)
+}

@@ -1,0 +1,184 @@
+//! Pricing a node that is not dead: its price path, repair, and what becomes of it.
+ghost use Rattle.std.specs.Prelude.{◌≡◌, ◌+◌, ◌<◌, ◌≤◌, ◌≤ℤ◌, ◌<ℤ◌, ◌-◌, ◌^◌, None, length, All, Contains, IfOk, MatchBool, unwrap_or};
+ghost use Rattle.optra_bid.specs.Instances.{IsInstance};
+ghost use Rattle.optra_walk.specs.Choices.{IsChoice, revenue_of};
+ghost use Rattle.optra_node.specs.Nodes.{IsNode};
+ghost use Rattle.optra_node.specs.Duals.{whole_cents};
+ghost use Rattle.optra_prices.specs.Deads.{IsDeadAs};
+ghost use Rattle.optra_prices.specs.Paths.{IsPathResult};
+ghost use Rattle.optra_prices.specs.Steps.{AreProper};
+ghost use Rattle.optra_search.specs.Planner.{IsBetter};
+ghost use Rattle.optra_search.specs.Marks.{AreOverfilled, AreSettled};
+ghost use Rattle.optra_search.specs.Openings.{front, start_below, IsOutcome};
+ghost use Rattle.optra_search.specs.Searches.{IsReached, IsEntered};
+ghost use Rattle.optra_search.specs.Reached.{parts_of};
+
+use crate::searching::{Search, close_or_split, start_of};
+use crate::settling::{better, whole_cents, zero_prices};
+use crate::splitting::split_leg;
+use crate::{Limits, Repairer};
+use optra_graph::Graphs;
+use optra_network::{Cents, NoMemory};
+use optra_node::{Node, Prices};
+use optra_prices::{Dual, Priced, price_path, step};
+use optra_walk::{Choice, Instance, Leg, RowFamily, Walk};
+use std::alloc::Global;
+
+/// The rows of which the replies use more than the capacity, each with some price.
+fn overfilled<F: RowFamily>(
+    alloc: Global,
+    inst: Instance<'_>,
+    rows: &F,
+    replies: &[Option<Walk>],
+) -> Result<Prices<F::Row>, NoMemory>
+    requires { IsChoice inst.net.now inst.bids.now replies.now }
+    ensures { IfOk result (AreOverfilled (F.rows_of rows.now inst.entry.net.now) inst.entry.bids.now replies.now) }
+{
+    let zero = zero_prices(alloc);
+    let listed = step(alloc, inst, rows, &zero, replies, 0)?;
+    Ok(listed)
+}
+
+/// Whether a dual value in whole cents, rounded down, is at most the revenue.
+fn is_low(value: i128, revenue: Cents) -> bool
+    ensures { MatchBool result (whole_cents value ≤ℤ revenue) (revenue <ℤ whole_cents value) }
+{
+    whole_cents(value) <= i128::from(revenue)
+}
+
+/// The leg on which the node is split, by its dual value and replies at the result of its price path. `None` where the
+/// dual value in whole cents, rounded down, is at most the revenue: then the node becomes a leaf.
+fn outcome<F: RowFamily, G: Graphs>(
+    alloc: Global,
+    inst: Instance<'_>,
+    graphs: &G,
+    rows: &F,
+    node: &Node,
+    dual: &Dual,
+    revenue: Cents,
+) -> Result<Option<(u32, Leg)>, NoMemory>
+    requires instance { IsInstance inst.net.now inst.bids.now }
+    requires network { G.network graphs.now ≡ inst.net.now }
+    requires held { All (λ bid. Contains (G.held graphs.now) bid.path) inst.bids.now }
+    requires node { IsNode inst.net.now (length inst.bids.now) node.now }
+    requires replies { IsChoice inst.net.now inst.bids.now dual.now.replies }
+    requires closes { AreSettled inst.net.now (F.rows_of rows.now inst.net.now) inst.bids.now node.now → whole_cents dual.now.value ≤ℤ revenue }
+    ensures { IfOk result (λ split. IsOutcome inst.entry.net.now (F.rows_of rows.now inst.entry.net.now) inst.entry.bids.now node.now dual.now revenue split) }
+{
+    if is_low(dual.value, revenue) {
+        return Ok(None);
+    }
+    let listed = overfilled(alloc, inst, rows, &dual.replies)?;
+    let found = split_leg(
+        alloc,
+        inst,
+        graphs,
+        rows,
+        node,
+        &dual.replies,
+        &listed.entries,
+    )?;
+    Ok(found)
+}
+
+/// The result of the price path of the node that was entered.
+fn path_result<F: RowFamily, G: Graphs>(
+    alloc: Global,
+    inst: Instance<'_>,
+    graphs: &G,
+    rows: &F,
+    steps: u32,
+    search: &Search<F::Row>,
+    start: &Option<Prices<F::Row>>,
+) -> Result<Priced<F::Row>, NoMemory>
+    requires few { length inst.bids.now ≤ 1000 }
+    requires node { IsNode inst.net.now (length inst.bids.now) search.now.node }
+    requires network { G.network graphs.now ≡ inst.net.now }
+    requires held { All (λ bid. Contains (G.held graphs.now) bid.path) inst.bids.now }
+    requires start { AreProper F.Row.cmp (F.rows_of rows.now inst.net.now) (unwrap_or start.now (start_below (front search.now.waiting.items))) }
+    ensures { IfOk result (λ priced. IsPathResult F.Row.cmp inst.entry.net.now (F.rows_of rows.now inst.entry.net.now) inst.entry.bids.now search.now.node (unwrap_or start.now (start_below (front search.now.waiting.items))) steps search.now.revenue priced) }
+{
+    let zero = zero_prices(alloc);
+    let from = start_of(start, &search.waiting, &zero);
+    let priced = price_path(
+        alloc,
+        inst,
+        graphs,
+        rows,
+        &search.node,
+        from,
+        steps,
+        search.revenue,
+    )?;
+    Ok(priced)
+}
+
+/// Counts the node, and takes the repaired choice as the incumbent where it earns more.
+fn improve<R>(inst: Instance<'_>, search: Search<R>, repaired: Choice) -> Search<R>
+    requires few { length inst.bids.now ≤ 1000 }
+    requires earned { search.revenue ≡ revenue_of inst.net.now inst.bids.now search.incumbent }
+    requires choice { IsChoice inst.net.now inst.bids.now repaired }
+    requires room { search.count < 2 ^ 64 - 1 }
+    ensures parts { parts_of result ≡ record (parts_of search) { incumbent = result.incumbent; revenue = result.revenue; count = search.count + 1 } }
+    ensures better { IsBetter inst.entry.net.now inst.entry.bids.now search.incumbent repaired result.incumbent }
+    ensures earned { result.revenue ≡ revenue_of inst.entry.net.now inst.entry.bids.now result.incumbent }
+{
+    let Search {
+        node,
+        waiting,
+        items,
+        incumbent,
+        revenue,
+        bound,
+        count,
+    } = search;
+    let (incumbent, revenue) = better(inst.net, inst.bids, incumbent, revenue, repaired);
+    Search {
+        node,
+        waiting,
+        items,
+        incumbent,
+        revenue,
+        bound,
+        count: count + 1,
+    }
+}
+
+/// The turn of an entered node that is not dead. Its price path runs from its start prices with the incumbent's revenue,
+/// repair may better the incumbent, and the node becomes a leaf or is split.
+pub(crate) fn price_node<F: RowFamily, G: Graphs, P: Repairer<F, G>>(
+    alloc: Global,
+    inst: Instance<'_>,
+    graphs: &G,
+    rows: &F,
+    limits: Limits,
+    repairer: &P,
+    search: Search<F::Row>,
+    start: Option<Prices<F::Row>>,
+) -> Result<Search<F::Row>, NoMemory>
+    requires instance { IsInstance inst.net.now inst.bids.now }
+    requires network { G.network graphs.now ≡ inst.net.now }
+    requires held { All (λ bid. Contains (G.held graphs.now) bid.path) inst.bids.now }
+    requires entered { IsEntered F.Row.cmp inst.net.now (F.rows_of rows.now inst.net.now) inst.bids.now limits.steps limits.budget start (parts_of search) }
+    requires lives { IsDeadAs F.Row.cmp inst.net.now (F.rows_of rows.now inst.net.now) inst.bids.now search.node None }
+    ensures reached { IfOk result (λ after. IsReached F.Row.cmp inst.entry.net.now (F.rows_of rows.now inst.entry.net.now) inst.entry.bids.now limits.steps limits.budget (parts_of after)) }
+    ensures count { IfOk result (λ after. after.count ≡ search.count + 1) }
+{
+    let _ = inst.net.track_count();
+    let priced = path_result(alloc, inst, graphs, rows, limits.steps, &search, &start)?;
+    let Priced { prices, dual } = priced;
+    let repaired = repairer.repair(alloc, inst, graphs, rows, &search.node, &dual)?;
+    let search = improve(inst, search, repaired);
+    let split = outcome(
+        alloc,
+        inst,
+        graphs,
+        rows,
+        &search.node,
+        &dual,
+        search.revenue,
+    )?;
+    let cents = whole_cents(dual.value);
+    let after = close_or_split(search, split, prices, cents)?;
+    Ok(after)
+}
