@@ -9,3 +9,6 @@ mod repairing;
 mod taking;
 
 pub use repairing::repair;
+
+#[cfg(test)]
+mod tests;
