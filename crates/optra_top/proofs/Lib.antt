@@ -5,3 +5,5 @@ pub mod Ended
 pub mod Completed
 pub mod Put
 mod PlanLemmas
+mod BidLemmas
+mod TextLemmas

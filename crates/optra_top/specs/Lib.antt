@@ -8,6 +8,7 @@ pub mod Putting
 pub mod Lines
 pub mod Plans
 pub mod PlanCommand
+pub mod PlanLaws
 pub mod TablesRead
 pub mod Commands
 pub mod Ending

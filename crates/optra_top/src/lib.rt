@@ -4,6 +4,7 @@
 mod answering;
 mod faults;
 mod gathering;
+mod laws;
 mod options;
 mod performing;
 mod planning;
@@ -13,6 +14,7 @@ mod running;
 mod searching;
 mod wording;
 
+pub use laws::one_text;
 pub use running::{run, run_without_faults};
 
 #[cfg(test)]

@@ -1,0 +1,77 @@
+-- A bid is told by its parts.
+use Rattle.std.proofs.Common.{◌≡◌, ℕ, ◌≤◌, ℤ, ◌≤ℤ◌, List, [], ◌∷◌, map, refl, ap, subst}
+use Rattle.std.specs.Prelude.{All}
+use Rattle.std.proofs.Math.Bridge.{le_prop}
+use Rattle.std.proofs.Math.Dec.{T_prop}
+use Rattle.optra_bid.specs.Specs.{Path, IsWindow, IsStop, IsBetween, IsMoney, AreBounds}
+use Rattle.optra_bid.specs.declared.Window.{Window}
+use Rattle.optra_bid.specs.declared.Stop.{Stop}
+use Rattle.optra_bid.specs.declared.Money.{Money}
+use Rattle.optra_bid.specs.declared.bids.Bid.{Bid}
+use Rattle.optra_tables.specs.Bids.{Parts, parts_of}
+
+one_between : (low high cents : ℤ) (a b : IsBetween low high cents) → a ≡ b
+one_between low high cents a b i = (record { le = T_prop _ a.0.le b.0.le i }, record { le = T_prop _ a.1.le b.1.le i })
+
+one_window : (window : Window) (a b : IsWindow window) → a ≡ b
+one_window window a b i = record { early = le_prop a.early b.early i; late = le_prop a.late b.late i; day = le_prop a.day b.day i }
+
+one_stop : (stop : Stop) (a b : IsStop stop) → a ≡ b
+one_stop stop a b i = record {
+  arrive = le_prop a.arrive b.arrive i;
+  day = le_prop a.day b.day i;
+  dwell = le_prop a.dwell b.dwell i;
+  dwell_max = le_prop a.dwell_max b.dwell_max i;
+  spread = le_prop a.spread b.spread i;
+}
+
+one_money : (money : Money) (a b : IsMoney money) → a ≡ b
+one_money money a b i = record {
+  base = one_between _ _ _ a.base b.base i;
+  early_depart = one_between _ _ _ a.early_depart b.early_depart i;
+  late_depart = one_between _ _ _ a.late_depart b.late_depart i;
+  early_arrive = one_between _ _ _ a.early_arrive b.early_arrive i;
+  late_arrive = one_between _ _ _ a.late_arrive b.late_arrive i;
+  travel = one_between _ _ _ a.travel b.travel i;
+  wait = one_between _ _ _ a.wait b.wait i;
+}
+
+never_two : {X : Type 0} (a b : X → ⊥) → a ≡ b
+never_two a b i x = let same : a x ≡ b x = absurd (a x) in same i
+
+one_bounds : (path : Path) (money : Money) (a b : AreBounds path money) → a ≡ b
+one_bounds path money a b i = record {
+  ends = never_two a.ends b.ends i;
+  depart = one_window _ a.depart b.depart i;
+  arrive = one_window _ a.arrive b.arrive i;
+  wait_max = le_prop a.wait_max b.wait_max i;
+  few = le_prop a.few b.few i;
+  stops = λ j d l. one_stop _ (a.stops j d l) (b.stops j d l) i;
+  amounts = one_money _ a.amounts b.amounts i;
+}
+
+-- the bid of these parts
+abbrev bid_from : (parts : Parts) → AreBounds parts.path parts.money → Bid
+bid_from parts bounds = record { name = parts.name; bidder = parts.bidder; path = parts.path; money = parts.money; bounds = bounds }
+
+same_bid : (p q : Parts) → p ≡ q → (a : AreBounds p.path p.money) (b : AreBounds q.path q.money) → bid_from p a ≡ bid_from q b
+same_bid p q e a = subst (λ (q : Parts). (b : AreBounds q.path q.money) → bid_from p a ≡ bid_from q b) e (λ b. ap (bid_from p) (one_bounds p.path p.money a b))
+
+bid-from_parts : (a b : Bid) → parts_of a ≡ parts_of b → a ≡ b
+bid-from_parts a b e = same_bid (parts_of a) (parts_of b) e a.bounds b.bounds
+
+heads : {X : Type 0} (x y : X) (xs ys : List X) → x ∷ xs ≡ y ∷ ys → x ≡ y
+heads x y xs ys e = cc
+
+tails : {X : Type 0} (x y : X) (xs ys : List X) → x ∷ xs ≡ y ∷ ys → xs ≡ ys
+tails x y xs ys e = cc
+
+-- bids of the same parts are the same
+pub bids-from_parts : (bids others : List Bid) → map parts_of bids ≡ map parts_of others → bids ≡ others
+bids-from_parts [] [] e = refl
+bids-from_parts [] (b ∷ others) e = absurd (cc)
+bids-from_parts (a ∷ bids) [] e = absurd (cc)
+bids-from_parts (a ∷ bids) (b ∷ others) e =
+    let first = bid-from_parts a b (heads (parts_of a) (parts_of b) (map parts_of bids) (map parts_of others) e) in
+    let rest = bids-from_parts bids others (tails (parts_of a) (parts_of b) (map parts_of bids) (map parts_of others) e) in
+    λ i. first i ∷ rest i
