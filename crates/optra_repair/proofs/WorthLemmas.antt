@@ -1,6 +1,6 @@
 -- What a search over the parts of arcs leaves.
-use Rattle.std.proofs.Common.{◌≡◌, ℕ, List, None, Some, All, length, get_or, arith, subst, sym}
-use Rattle.std.specs.Prelude.{ℤ, pos, ◌≤ℤ◌, ◌<ℤ◌, ◌<◌}
+use Rattle.std.proofs.Common.{◌≡◌, ℕ, List, None, Some, arith, subst, sym}
+use Rattle.std.specs.Prelude.{ℤ, pos, ◌≤ℤ◌, ◌<ℤ◌}
 use Rattle.std.proofs.lemmas.Int.{ints}
 use Rattle.optra_network.specs.Net.{Net}
 use Rattle.optra_bid.specs.Specs.{Path}

@@ -1,14 +1,8 @@
 -- How much of the rows is used by what is placed.
-use Rattle.std.specs.Prelude.{◌≡◌, ℕ, ◌+◌, ◌≤◌, ◌<◌, Bool, true, false, List, [], ◌∷◌, map, Option, None, Some, All, slice_get, length}
-use Rattle.std.specs.List.{AllPairs}
-use Rattle.optra_network.specs.Net.{Net}
+use Rattle.std.specs.Prelude.{◌≡◌, ℕ, ◌+◌, ◌≤◌, Bool, true, false, List, [], map, Option, None, Some}
 use Rattle.optra_network.specs.declared.TypeId.{TypeId}
-use Rattle.optra_bid.specs.declared.bids.Bid.{Bid}
 use Rattle.optra_walk.specs.declared.Leg.{Leg}
-use Rattle.optra_walk.specs.Choices.{IsChoice}
-use Rattle.optra_walk.specs.Families.{Rows, Entry, load_of, entries_of}
-use Rattle.optra_node.specs.declared.Decision.{Decision}
-use Rattle.optra_prices.specs.Repairs.{GivesInTurn, empty_choice}
+use Rattle.optra_walk.specs.Families.{Rows, Entry, load_of}
 
 -- the totals are how much of each row the legs use
 abbrev pub AreTotals : {R : Type 0} → Rows R → (R → ℕ) → List Entry → Type 0

@@ -1,5 +1,5 @@
 //! Keeping a walk where it fits as a whole.
-ghost use Rattle.std.specs.Prelude.{◌≡◌, ℕ, ◌+◌, ◌≤◌, ◌<◌, IfOk, All, length, take, slice_get, IfSome};
+ghost use Rattle.std.specs.Prelude.{◌≤◌, IfOk, All, length, take, slice_get, IfSome};
 ghost use Rattle.optra_walk.specs.Families.{IsUsable};
 ghost use Rattle.optra_rows.specs.Loads.{total_of, HasRoom};
 ghost use Rattle.optra_repair.specs.Placings.{AreWithin, AddsLegs, IsPut, use_of_legs};

@@ -1,6 +1,6 @@
 -- A leg that fits keeps the totals within the capacities.
-use Rattle.std.proofs.Common.{◌≡◌, length, None, IfSome, sym, refl, subst, arith}
-use Rattle.std.proofs.lemmas.Option.{slice_get_past, slice_get-get_or}
+use Rattle.std.proofs.Common.{length, IfSome, sym, refl, subst, arith}
+use Rattle.std.proofs.lemmas.Option.{slice_get_past}
 use Rattle.optra_walk.specs.declared.Leg.{Leg}
 use Rattle.optra_rows.specs.Loads.{HasRoom, total_of}
 use Rattle.optra_rows.proofs.FitLemmas.{room_below}

@@ -1,5 +1,4 @@
 -- Where a leg did not fit after those before it, the legs don't fit together.
-use Rattle.std.proofs.Common.{sym}
 use Rattle.std.proofs.lemmas.List.Elements.{All-contains}
 use Rattle.optra_walk.specs.Families.{IsUsable}
 use Rattle.optra_rows.specs.Loads.{total_of}

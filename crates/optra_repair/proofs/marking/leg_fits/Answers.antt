@@ -1,7 +1,4 @@
 -- A usable leg is formed.
-use Rattle.std.proofs.Common.{ap, sym, subst}
-use Rattle.optra_node.specs.Nodes.{IsFormedLeg}
-use Rattle.optra_node.specs.Summaries.{Summed}
 use Rattle.optra_prices.proofs.TermLemmas.{usable_formed}
 use Rattle.optra_repair.proofs.marking.leg_fits.Goals as goal
 

@@ -2,11 +2,9 @@
 use Rattle.std.proofs.Common.{true, false, List, None, Some, sym, subst}
 use Rattle.std.specs.Prelude.{All}
 use Rattle.optra_network.specs.declared.TypeId.{TypeId}
-use Rattle.optra_walk.specs.declared.Leg.{Leg}
 use Rattle.optra_walk.specs.Families.{IsUsable}
 use Rattle.optra_walk.proofs.UsableLemmas.{walk_usable}
 use Rattle.optra_rows.specs.Loads.{total_of}
-use Rattle.optra_prices.specs.Arcs.{IsArcValue}
 use Rattle.optra_repair.specs.declared.marking.ArcPart.{ArcPart}
 use Rattle.optra_repair.specs.Parts.{IsWorthWalk}
 use Rattle.optra_repair.proofs.PartLemmas.{parts_range}

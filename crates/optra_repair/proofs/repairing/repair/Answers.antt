@@ -1,11 +1,11 @@
 -- The order is that in which the bids are taken, and what is placed in it keeps the rows and so the rule.
-use Rattle.std.proofs.Common.{◌≡◌, ◌≢◌, ℕ, List, length, Option, sym, ap, ◌∙◌, subst}
+use Rattle.std.proofs.Common.{◌≢◌, ℕ, List, length, Option, sym, ◌∙◌, subst}
 use Rattle.std.specs.Prelude.{IfSome}
 use Rattle.std.specs.List.{AllPairs}
 use Rattle.optra_bid.specs.declared.bids.Bid.{Bid}
 use Rattle.optra_walk.specs.declared.Leg.{Leg}
 use Rattle.optra_walk.specs.Walks.{IsWalk}
-use Rattle.optra_walk.specs.Families.{Rows, entries_of}
+use Rattle.optra_walk.specs.Families.{entries_of}
 use Rattle.optra_walk.proofs.UsableLemmas.{choice_usable}
 use Rattle.optra_node.proofs.DualLemmas.{zip_length}
 use Rattle.optra_prices.proofs.RepairLemmas.{repair_fits}
