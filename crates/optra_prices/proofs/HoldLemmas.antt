@@ -1,24 +1,22 @@
 -- What a map holds of rows while uses are added, and the prices that it gives.
-use Rattle.std.proofs.Common.{◌≡◌, ℕ, zero, suc, ◌+◌, ◌≤◌, ◌<◌, Bool, true, false, cond, List, [], ◌∷◌, ◌++◌, map, length, take, get_or, sum_by, Option, Some, None, slice_get, refl, sym, ap, ◌∙◌, subst, arith, inl, inr}
-use Rattle.std.specs.Prelude.{◌⊎◌, ◌↔◌, All, Contains, MatchOption, ℤ, pos, negsuc, ◌+ℤ◌, ◌-ℤ◌, ◌*ℤ◌, ◌≤ℤ◌}
-use Rattle.std.specs.List.{AllByRecursion}
+use Rattle.std.proofs.Common.{◌≡◌, ℕ, zero, suc, ◌+◌, ◌<◌, Bool, true, false, cond, List, [], ◌∷◌, map, length, take, get_or, Option, Some, None, slice_get, refl, sym, ap, ◌∙◌, subst, arith, inl, inr}
+use Rattle.std.specs.Prelude.{◌↔◌, All, Contains, MatchOption, ℤ, pos, negsuc, ◌+ℤ◌, ◌-ℤ◌, ◌*ℤ◌, ◌≤ℤ◌}
 use Rattle.std.specs.List.Sorted.{IsStrictlySortedBy}
 use Rattle.std.specs.Int.{is_positive}
 use Rattle.std.specs.BTreeMap.{BTreeMap, get, is_at}
 use Rattle.std.specs.Map.{keys_of, lookup}
 use Rattle.std.specs.declared.cmp.Ordering.{Ordering}
-use Rattle.std.specs.declared.cmp.Ordering.TheVariants.{Less, Equal, Greater}
+use Rattle.std.specs.declared.cmp.Ordering.TheVariants.{Less, Equal}
 use Rattle.std.specs.Ordering.{is_eq, eq_by_cmp}
 use Rattle.std.specs.Cmp.{IsTotalOrder}
 use Rattle.std.proofs.lemmas.Int.{ints, clamps}
 use Rattle.std.proofs.lemmas.Cmp.{tied_itself, eq_by_cmp_equiv}
 use Rattle.std.proofs.lemmas.Bool.{cases_lt}
 use Rattle.std.proofs.lemmas.List.Sums.{sum_by-cons, sum_by_push, sum_by-append, sum_by_more}
-use Rattle.std.proofs.lemmas.List.{take_all}
 use Rattle.std.proofs.lemmas.List.Elements.{All-nil, All-cons}
-use Rattle.std.proofs.lemmas.Map.{NonePasses, lookup-none}
+use Rattle.std.proofs.lemmas.Map.{NonePasses}
 use Rattle.std.proofs.lemmas.Map.Entries.{none_past_head}
-use Rattle.std.proofs.lemmas.Map.Keys.{sorted_head, sorted_tail, IsDistinct-from_sorted}
+use Rattle.std.proofs.lemmas.Map.Keys.{sorted_tail, IsDistinct-from_sorted}
 use Rattle.std.proofs.lemmas.Option.{none-some, same_Some}
 use Rattle.optra_bid.specs.declared.bids.Bid.{Bid}
 use Rattle.optra_walk.specs.declared.Leg.{Leg}
@@ -28,9 +26,9 @@ use Rattle.optra_network.specs.declared.TypeId.{TypeId}
 use Rattle.optra_node.proofs.SumLemmas.{sum_by-map}
 use Rattle.optra_node.proofs.RowLemmas.{equal_is}
 use Rattle.optra_node.proofs.LoadLemmas.{contains_cases}
-use Rattle.std.proofs.Math.IntN.{*ℤ-zero, zero-*ℤ}
-use Rattle.optra_prices.specs.Steps.{price_within, next_price, step_length, reply_load, AreProper, IsStep}
-use Rattle.optra_prices.specs.Holdings.{Holds, Adds, entries_one, stepped, more_used, Bumps, part_of, next_held}
+use Rattle.std.proofs.Math.IntN.{*ℤ-zero}
+use Rattle.optra_prices.specs.Steps.{price_within, next_price}
+use Rattle.optra_prices.specs.Holdings.{Holds, Adds, entries_one, stepped, more_used, Bumps, part_of}
 use Rattle.optra_prices.specs.declared.holding.Held.{Held}
 use Rattle.optra_prices.proofs.NumberLemmas.{take_push}
 use Rattle.optra_node.specs.Certificates.{AreAscending}
@@ -134,11 +132,11 @@ module _ {R : Type 0} (cmp : R → R → Ordering) (total : IsTotalOrder cmp) (a
   ]
 
   -- ---- the prices that are made
-  abbrev pub next_of : (R × Held → ℤ) → R → Option Held → ℤ
+  abbrev pub next_of : {V : Type 0} → (R × V → ℤ) → R → Option V → ℤ
   next_of next row None = pos 0
   next_of next row (Some held) = next (row, held)
 
-  key_none : (next : R × Held → ℤ) (es : List (R × Held)) (row : R) → NonePasses (is_at (cmp row)) es → All (λ e. eq_by_cmp cmp row e.0 ≡ false) (stepped next es)
+  key_none : {V : Type 0} (next : R × V → ℤ) (es : List (R × V)) (row : R) → NonePasses (is_at (cmp row)) es → All (λ e. eq_by_cmp cmp row e.0 ≡ false) (stepped next es)
   key_none next [] row none = All-nil (λ (x : R × ℤ). eq_by_cmp cmp row x.0 ≡ false)
   key_none next (e ∷ es) row none = by (is_positive (next e)) (key_none next es row none.1)
     where
@@ -150,7 +148,7 @@ module _ {R : Type 0} (cmp : R → R → Ordering) (total : IsTotalOrder cmp) (a
   zero_next z e l = grind (arith, ints)
 
   -- the price of a row in the list that is made
-  pub stepped_price : (next : R × Held → ℤ) → ((e : R × Held) → pos 0 ≤ℤ next e) → (es : List (R × Held)) → IsStrictlySortedBy cmp (keys_of es) → (row : R)
+  pub stepped_price : {V : Type 0} (next : R × V → ℤ) → ((e : R × V) → pos 0 ≤ℤ next e) → (es : List (R × V)) → IsStrictlySortedBy cmp (keys_of es) → (row : R)
       → price_of (eq_by_cmp cmp) (stepped next es) row ≡ next_of next row (lookup (is_at (cmp row)) es)
   stepped_price next low [] up row = refl
   stepped_price next low (e ∷ es) up row = by (is_eq (cmp row e.0)) refl (is_positive (next e)) refl (stepped_price next low es (sorted_tail cmp e.0 (keys_of es) up) row)

@@ -18,3 +18,8 @@ pub mod ValueOfLemmas
 pub mod HoldLemmas
 pub mod StepLemmas
 pub mod PathLemmas
+pub mod UseLemmas
+pub mod CourseLemmas
+pub mod MoveLemmas
+pub mod ListingLemmas
+pub mod LoadingLemmas

@@ -1,6 +1,7 @@
 -- Lists by their elements.
-use Rattle.std.proofs.Common.{◌≡◌, ℕ, zero, suc, ◌<◌, List, [], ◌∷◌, length, Some, slice_get, refl, subst, arith}
+use Rattle.std.proofs.Common.{◌≡◌, ℕ, zero, suc, ◌<◌, List, [], ◌∷◌, map, length, Some, slice_get, refl, ap, subst, arith}
 use Rattle.std.specs.Prelude.{All}
+use Rattle.std.proofs.lemmas.Option.{none-some, same_Some}
 
 -- two lists of one length that agree wherever both have an element are one list
 pub same_list : {X : Type 0} (xs ys : List X) → length xs ≡ length ys → ((k : ℕ) (x y : X) → slice_get xs k ≡ Some x → slice_get ys k ≡ Some y → x ≡ y) → xs ≡ ys
@@ -26,3 +27,9 @@ all_at P (y ∷ xs) zero x h e =
     let first : P y = h zero y (omega arith) in
     subst P q first
 all_at P (y ∷ xs) (suc k) x h e = all_at P xs k x (λ j d l. h (suc j) d (omega arith)) e
+
+-- a place of a list that is made from another
+pub map_at : {X Y : Type 0} (f : X → Y) (xs : List X) (k : ℕ) (x : X) → slice_get xs k ≡ Some x → slice_get (map f xs) k ≡ Some (f x)
+map_at f [] k x e = absurd (none-some x e)
+map_at f (y ∷ xs) zero x e = ap (λ z. Some (f z)) (same_Some y x e)
+map_at f (y ∷ xs) (suc k) x e = map_at f xs k x e

@@ -1,24 +1,23 @@
 -- The list of prices after a step.
-use Rattle.std.proofs.Common.{◌≡◌, ℕ, zero, suc, ◌+◌, ◌*◌, ◌/◌, ◌≤◌, ◌<◌, Bool, true, false, cond, List, [], ◌∷◌, ◌++◌, map, length, get_or, Option, Some, None, slice_get, refl, sym, ap, ◌∙◌, subst, arith, inl, inr}
+use Rattle.std.proofs.Common.{◌≡◌, ℕ, zero, suc, ◌+◌, ◌*◌, ◌≤◌, Bool, true, false, cond, List, [], ◌∷◌, ◌++◌, length, get_or, Option, Some, None, slice_get, refl, sym, ap, ◌∙◌, subst, arith}
 use Rattle.std.specs.Prelude.{All, MatchOption, ℤ, pos, negsuc, ◌+ℤ◌, ◌-ℤ◌, ◌*ℤ◌, ◌≤ℤ◌}
 use Rattle.std.specs.List.{AllByRecursion, AllPairs}
 use Rattle.std.specs.List.Sorted.{IsStrictlySortedBy}
 use Rattle.std.specs.Int.{is_positive, int_max, int_div_euclid}
-use Rattle.std.specs.BTreeMap.{BTreeMap, get, is_at, IsOrdered}
-use Rattle.std.specs.Map.{keys_of, lookup}
+use Rattle.std.specs.BTreeMap.{BTreeMap, get, IsOrdered}
+use Rattle.std.specs.Map.{keys_of}
 use Rattle.std.specs.declared.cmp.Ordering.{Ordering}
-use Rattle.std.specs.declared.cmp.Ordering.TheVariants.{Less, Equal, Greater}
-use Rattle.std.specs.Ordering.{is_eq, eq_by_cmp}
+use Rattle.std.specs.declared.cmp.Ordering.TheVariants.{Less}
+use Rattle.std.specs.Ordering.{eq_by_cmp}
 use Rattle.std.specs.Cmp.{IsTotalOrder}
 use Rattle.std.proofs.lemmas.Int.{ints, clamps}
 use Rattle.std.proofs.lemmas.List.{append_assoc}
 use Rattle.std.proofs.lemmas.Map.Entries.{btree_map_get_place}
 use Rattle.std.proofs.lemmas.Map.Keys.{sorted_head, sorted_tail}
-use Rattle.std.proofs.lemmas.Option.{same_Some, none-some, slice_get_within, slice_get-get_or}
-use Rattle.std.proofs.lemmas.List.Elements.{All-cons, All-nil}
+use Rattle.std.proofs.lemmas.Option.{slice_get-get_or}
+use Rattle.std.proofs.lemmas.List.Elements.{All-cons}
 use Rattle.std.proofs.lemmas.Nat.{mul-le}
 use Rattle.std.proofs.Math.Nat.{div-le_self}
-use Rattle.std.proofs.Math.IntN.{pos-*ℤ-pos}
 use Rattle.optra_bid.specs.Specs.{IsBetween}
 use Rattle.optra_bid.specs.declared.bids.Bid.{Bid}
 use Rattle.optra_walk.specs.declared.Leg.{Leg}
@@ -26,7 +25,7 @@ use Rattle.optra_walk.specs.Families.{Rows, TellsApart, load_of, entries_of}
 use Rattle.optra_node.specs.Duals.{PriceList, IsPrice, ArePrices, price_of}
 use Rattle.optra_node.specs.Certificates.{AreAscending}
 use Rattle.optra_node.proofs.LoadLemmas.{all_head, all_tail}
-use Rattle.optra_prices.specs.Steps.{AreProper, IsStep, step_length, next_price, price_within, reply_load}
+use Rattle.optra_prices.specs.Steps.{IsStep, step_length, next_price, reply_load}
 use Rattle.optra_prices.specs.Holdings.{Holds, stepped, next_held}
 use Rattle.optra_prices.specs.declared.holding.Held.{Held}
 use Rattle.optra_prices.proofs.HoldLemmas.{next_of, stepped_price, next_none, next_low, next_high}
@@ -54,7 +53,7 @@ spent_within (pos n) (negsuc m) h k =
 spent_within (negsuc n) d h k = absurd (let low = h.0 in omega (arith, ints))
 
 -- one more entry of the map
-pub stepped_turn : {R : Type 0} (next : R × Held → ℤ) (out after whole : PriceList R) (e : R × Held) (rest : List (R × Held)) (price : ℤ) → out ++ stepped next (e ∷ rest) ≡ whole → price ≡ next e
+pub stepped_turn : {R V : Type 0} (next : R × V → ℤ) (out after whole : PriceList R) (e : R × V) (rest : List (R × V)) (price : ℤ) → out ++ stepped next (e ∷ rest) ≡ whole → price ≡ next e
     → after ≡ out ++ cond (is_positive price) ((e.0, price) ∷ []) [] → after ++ stepped next rest ≡ whole
 stepped_turn {R} next out after whole e rest price before is added = ap (λ (xs : PriceList R). xs ++ stepped next rest) added ∙ by (is_positive price) refl
   where
@@ -67,7 +66,7 @@ stepped_turn {R} next out after whole e rest price before is added = ap (λ (xs 
         ∙ ap (λ (b : Bool). out ++ cond b ((e.0, next e) ∷ stepped next rest) (stepped next rest)) (sym p ∙ ap is_positive is) ∙ before
 
 -- what is true of the rows of a map is true of the prices that are made
-stepped_keys : {R : Type 0} (next : R × Held → ℤ) (P : R → Type 0) (es : List (R × Held)) → AllByRecursion P (keys_of es) → All (λ (x : R × ℤ). P x.0) (stepped next es)
+stepped_keys : {R V : Type 0} (next : R × V → ℤ) (P : R → Type 0) (es : List (R × V)) → AllByRecursion P (keys_of es) → All (λ (x : R × ℤ). P x.0) (stepped next es)
 stepped_keys next P [] all = λ k d l. absurd (omega arith)
 stepped_keys {R} next P (e ∷ es) all = by (is_positive (next e)) (stepped_keys next P es all.1)
   where
@@ -81,7 +80,7 @@ pairs_cons P x xs first rest zero (suc j) d l m = first j d (omega arith)
 pairs_cons P x xs first rest (suc i) zero d l m = absurd (omega arith)
 pairs_cons P x xs first rest (suc i) (suc j) d l m = rest i j d (omega arith) (omega arith)
 
-pub stepped_ascends : {R : Type 0} (cmp : R → R → Ordering) (next : R × Held → ℤ) (es : List (R × Held)) → IsStrictlySortedBy cmp (keys_of es) → AreAscending cmp (stepped next es)
+pub stepped_ascends : {R V : Type 0} (cmp : R → R → Ordering) (next : R × V → ℤ) (es : List (R × V)) → IsStrictlySortedBy cmp (keys_of es) → AreAscending cmp (stepped next es)
 stepped_ascends cmp next [] up = λ i j d l m. absurd (omega arith)
 stepped_ascends {R} cmp next (e ∷ es) up = by (is_positive (next e)) (stepped_ascends cmp next es (sorted_tail cmp e.0 (keys_of es) up))
   where
@@ -92,12 +91,12 @@ stepped_ascends {R} cmp next (e ∷ es) up = by (is_positive (next e)) (stepped_
 positive_least : (z : ℤ) → is_positive z ≡ true → pos 1 ≤ℤ z
 positive_least z e = grind (arith, ints)
 
-pub stepped_prices : {R : Type 0} (rows : Rows R) (next : R × Held → ℤ) → ((e : R × Held) → next e ≤ℤ pos 2000000000000) → (es : List (R × Held)) → All (λ (e : R × Held). rows.is_row e.0 ≡ true) es → ArePrices rows (stepped next es)
+pub stepped_prices : {R V : Type 0} (rows : Rows R) (next : R × V → ℤ) → ((e : R × V) → next e ≤ℤ pos 2000000000000) → (es : List (R × V)) → All (λ (e : R × V). rows.is_row e.0 ≡ true) es → ArePrices rows (stepped next es)
 stepped_prices rows next high [] all = λ k d l. absurd (omega arith)
-stepped_prices {R} rows next high (e ∷ es) all = by (is_positive (next e)) refl (stepped_prices rows next high es (all_tail (λ (e : R × Held). rows.is_row e.0 ≡ true) e es all))
+stepped_prices {R} {V} rows next high (e ∷ es) all = by (is_positive (next e)) refl (stepped_prices rows next high es (all_tail (λ (e : R × V). rows.is_row e.0 ≡ true) e es all))
   where
     by : (b : Bool) → is_positive (next e) ≡ b → ArePrices rows (stepped next es) → ArePrices rows (cond b ((e.0, next e) ∷ stepped next es) (stepped next es))
-    by true p i = All-cons (IsPrice rows) (e.0, next e) (stepped next es) (record { is_row = all_head (λ (e : R × Held). rows.is_row e.0 ≡ true) e es all; least = positive_least (next e) p; most = high e }) i
+    by true p i = All-cons (IsPrice rows) (e.0, next e) (stepped next es) (record { is_row = all_head (λ (e : R × V). rows.is_row e.0 ≡ true) e es all; least = positive_least (next e) p; most = high e }) i
     by false p i = i
 
 -- what is held of the entries of a map

@@ -1,21 +1,20 @@
 -- Sums of terms, replies one after the other, and prices by number.
-use Rattle.std.proofs.Common.{◌≡◌, ◌≢◌, ℕ, zero, suc, ◌+◌, ◌*◌, ◌≤◌, ◌<◌, Bool, true, false, cond, List, [], ◌∷◌, ◌++◌, map, length, take, set, get_or, replicate, Option, Some, None, slice_get, refl, sym, ap, ◌∙◌, subst, arith, inl, inr}
-use Rattle.std.specs.Prelude.{◌⊎◌, All, ℤ, pos, neg_ℤ, ◌+ℤ◌, ◌≤ℤ◌, slice_index_or}
+use Rattle.std.proofs.Common.{◌≡◌, ◌≢◌, ℕ, zero, suc, ◌+◌, ◌*◌, ◌<◌, Bool, false, cond, List, [], ◌∷◌, ◌++◌, length, take, set, get_or, replicate, Option, Some, slice_get, refl, sym, ap, ◌∙◌, subst, arith, inl, inr}
+use Rattle.std.specs.Prelude.{All, ℤ, pos, neg_ℤ, ◌+ℤ◌, ◌≤ℤ◌, slice_index_or}
 use Rattle.std.specs.declared.cmp.Ordering.{Ordering}
 use Rattle.std.specs.declared.cmp.Ordering.TheVariants.{Less, Equal, Greater}
 use Rattle.std.specs.Ordering.{is_eq, eq_by_cmp, ordering_reverse}
 use Rattle.std.specs.Cmp.{IsTotalOrder}
 use Rattle.std.proofs.lemmas.Int.{ints}
 use Rattle.std.proofs.lemmas.Bool.{cases_eq, cases_Bool}
-use Rattle.std.proofs.lemmas.Cmp.{tied_itself, tied_back}
+use Rattle.std.proofs.lemmas.Cmp.{tied_itself}
 use Rattle.std.proofs.lemmas.Option.{none-some, same_Some, slice_get_within, get_or_from_slice_get}
 use Rattle.std.proofs.lemmas.List.Sums.{fold_more}
 use Rattle.std.proofs.lemmas.List.{length-take, get_or-take}
 use Rattle.std.proofs.lemmas.List.Elements.{All-set}
 use Rattle.optra_bid.specs.Specs.{IsBetween}
 use Rattle.optra_walk.specs.declared.Leg.{Leg}
-use Rattle.optra_dag.specs.Paths.{IsPath}
-use Rattle.optra_graph.specs.Timed.{Timed, IsRoute}
+use Rattle.optra_graph.specs.Timed.{IsRoute}
 use Rattle.optra_node.specs.Duals.{PriceList, price_of, sum_of}
 use Rattle.optra_node.specs.Certificates.{AreAscending}
 use Rattle.optra_node.proofs.RowLemmas.{equal_is}
@@ -25,7 +24,6 @@ use Rattle.optra_prices.specs.Tables.{IsRowPrice, allows_by, weight_by}
 use Rattle.optra_prices.specs.Standings.{Stands, Agrees, SetsPrice, IsTermSize, replies_of, terms_of}
 use Rattle.optra_prices.specs.declared.numbering.BidTable.{BidTable}
 use Rattle.optra_prices.specs.declared.numbering.Standing.{Standing}
-use Rattle.optra_prices.proofs.ListLemmas.{all_at}
 use Rattle.optra_prices.proofs.NumberLemmas.{take_push}
 use Rattle.optra_prices.proofs.PriceListLemmas.{price_none}
 use Rattle.optra_prices.proofs.ArcLemmas.{leads_on}
@@ -75,21 +73,21 @@ path_route table prices standing stands some = by stands.found
     by (inr (inr found)) = record { some = found.best.path.some; leads = (leads_on table.graph.now.dag (allows_by table.arcs.items) 0 standing.path.items found.best.path.leads).0 }
 
 -- a place of a list after one was set
-set_at : (xs : List ℤ) (k j : ℕ) (x : ℤ) → k < length xs → j ≡ k → slice_index_or (set xs k x) j (pos 0) ≡ x
+pub set_at : (xs : List ℤ) (k j : ℕ) (x : ℤ) → k < length xs → j ≡ k → slice_index_or (set xs k x) j (pos 0) ≡ x
 set_at [] k j x l e = absurd (omega arith)
 set_at (z ∷ xs) zero zero x l e = refl
 set_at (z ∷ xs) zero (suc j) x l e = absurd (omega arith)
 set_at (z ∷ xs) (suc k) zero x l e = absurd (omega arith)
 set_at (z ∷ xs) (suc k) (suc j) x l e = set_at xs k j x (omega arith) (omega arith)
 
-set_elsewhere : (xs : List ℤ) (k j : ℕ) (x : ℤ) → j ≢ k → slice_index_or (set xs k x) j (pos 0) ≡ slice_index_or xs j (pos 0)
+pub set_elsewhere : (xs : List ℤ) (k j : ℕ) (x : ℤ) → j ≢ k → slice_index_or (set xs k x) j (pos 0) ≡ slice_index_or xs j (pos 0)
 set_elsewhere [] k j x apart = refl
 set_elsewhere (z ∷ xs) zero zero x apart = absurd (apart refl)
 set_elsewhere (z ∷ xs) zero (suc j) x apart = refl
 set_elsewhere (z ∷ xs) (suc k) zero x apart = refl
 set_elsewhere (z ∷ xs) (suc k) (suc j) x apart = set_elsewhere xs k j x (λ e. apart (ap suc e))
 
-zeros_at : (n k : ℕ) → slice_index_or (replicate n (pos 0)) k (pos 0) ≡ pos 0
+pub zeros_at : (n k : ℕ) → slice_index_or (replicate n (pos 0)) k (pos 0) ≡ pos 0
 zeros_at zero k = refl
 zeros_at (suc n) zero = refl
 zeros_at (suc n) (suc k) = zeros_at n k
@@ -170,7 +168,7 @@ pub sets_range : {R : Type 0} (cmp : R → R → Ordering) (numbered : List R) (
 sets_range cmp numbered e prices after (inl (m, at, is)) p all = subst (All IsRowPrice) (sym is) (All-set IsRowPrice prices m e.1 p all)
 sets_range cmp numbered e prices after (inr (none, is)) p all = subst (All IsRowPrice) (sym is) all
 
-set_count : (xs : List ℤ) (k : ℕ) (x : ℤ) → length (set xs k x) ≡ length xs
+pub set_count : (xs : List ℤ) (k : ℕ) (x : ℤ) → length (set xs k x) ≡ length xs
 set_count [] k x = refl
 set_count (z ∷ xs) zero x = refl
 set_count (z ∷ xs) (suc k) x = ap suc (set_count xs k x)

@@ -26,8 +26,8 @@ abbrev pub entries_one : Bid → Option (List Leg) → List Entry
 entries_one bid None = []
 entries_one bid (Some legs) = map (λ leg. (bid.path.kind, leg)) legs
 
--- the rows of the map with a price above zero, at their next prices
-abbrev pub stepped : {R : Type 0} → (R × Held → ℤ) → List (R × Held) → PriceList R
+-- the rows with a price above zero, by the price of each entry
+abbrev pub stepped : {R V : Type 0} → (R × V → ℤ) → List (R × V) → PriceList R
 stepped next [] = []
 stepped next (e ∷ es) = cond (is_positive (next e)) ((e.0, next e) ∷ stepped next es) (stepped next es)
 

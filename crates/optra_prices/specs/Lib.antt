@@ -13,3 +13,6 @@ pub mod Standings
 pub mod Holdings
 pub mod Courses
 pub mod Following
+pub mod Uses
+pub mod Listings
+pub mod Moves

@@ -4,16 +4,24 @@ ghost use Rattle.optra_node.specs.Nodes.{IsNode};
 ghost use Rattle.optra_prices.specs.Steps.{AreProper, IsStep};
 ghost use Rattle.optra_prices.specs.Tables.{IsRowPrice};
 ghost use Rattle.optra_prices.specs.Terms.{setting};
+ghost use Rattle.optra_prices.specs.Moves.{HasMoved};
 ghost use Rattle.optra_prices.specs.Courses.{listed, prices_at, valuation_at, IsCourse, IsPriced, KeepsRows, AreNumbered};
 
 use crate::Priced;
+use crate::duals::{assemble, entries};
+use crate::listing::{capacities_of, capacity_sum, in_order, list_prices, number_rows};
+use crate::loading::add_uses;
+use crate::moving::{clear_prices, clear_uses, move_prices};
 use crate::numbering::{BidTable, Numbering, Standing};
+use crate::sessions::{first_standings, make_tables, settle};
+use crate::stepping::step_length;
+use crate::valuing::{dual_value, put_prices};
 use optra_dag::Buffers;
 use optra_graph::Graphs;
 use optra_network::NoMemory;
-use optra_node::{Node, Prices};
+use optra_node::{Node, Prices, prices_by_used_rows, tests_tell_allowed};
 use optra_walk::{Instance, RowFamily};
-use std::alloc::{AllocError, Global};
+use std::alloc::Global;
 
 /// Prices under way at a node.
 #[derive(Drop)]
@@ -52,7 +60,58 @@ pub(crate) fn set_out<'g, F: RowFamily, G: Graphs>(
     ensures zero { IfOk result (λ course. prices_at course ≡ []) }
     ensures numbered { IfOk result (λ course. AreNumbered course start.now) }
 {
-    Err(AllocError)
+    let _ = inst.net.track_count();
+    tests_tell_allowed(inst, rows);
+    prices_by_used_rows(inst, rows);
+    let mut numbering = number_rows(alloc, inst.net, rows, entries(start))?;
+    let tables = make_tables(alloc, inst, graphs, rows, node, &mut numbering)?;
+    let order = in_order(alloc, &numbering.numbers)?;
+    let capacities = capacities_of(alloc, inst.net, rows, &numbering.rows)?;
+    let prices = vec![in alloc; 0; numbering.rows.len()]?;
+    let uses = vec![in alloc; 0; numbering.rows.len()]?;
+    let mut buffers = Buffers::new(alloc);
+    let standings = first_standings(alloc, &mut buffers, &tables, &prices)?;
+    let value = dual_value(0, &standings);
+    let _count = numbering.numbers.len();
+    Ok(Course {
+        numbering,
+        order,
+        capacities,
+        tables,
+        buffers,
+        prices,
+        uses,
+        standings,
+        value,
+    })
+}
+
+/// Searches the bids again where prices have changed, and values the node.
+fn arrive<F: RowFamily>(
+    inst: Instance<'_>,
+    rows: &F,
+    node: &Node,
+    course: &mut Course<'_, F::Row>,
+) -> Result<(), NoMemory>
+    requires few { length inst.bids.now ≤ 1000 }
+    requires course { HasMoved F.Row.cmp (setting inst.net.now (F.rows_of rows.now inst.net.now) (F.rows_used rows.now inst.net.now) inst.bids.now node.now) course.old }
+    ensures priced { OnOk result (IsPriced F.Row.cmp (setting inst.entry.net.now (F.rows_of rows.now inst.entry.net.now) (F.rows_used rows.now inst.entry.net.now) inst.entry.bids.now node.now) course.new) }
+    ensures prices { OnOk result (prices_at course.new ≡ prices_at course.old) }
+    ensures keeps { OnOk result (KeepsRows course.old course.new) }
+{
+    let _ = inst.net.track_count();
+    tests_tell_allowed(inst, rows);
+    prices_by_used_rows(inst, rows);
+    let _count = course.numbering.numbers.len();
+    settle(
+        &mut course.buffers,
+        &course.tables,
+        &course.prices,
+        &mut course.standings,
+    )?;
+    let capacity = capacity_sum(&course.order, &course.prices, &course.capacities);
+    course.value = dual_value(capacity, &course.standings);
+    Ok(())
 }
 
 /// Goes to listed prices, whose rows have numbers.
@@ -72,7 +131,32 @@ pub(crate) fn go_to<F: RowFamily>(
     ensures prices { OnOk result (prices_at course.new ≡ start.now) }
     ensures keeps { OnOk result (KeepsRows course.old course.new) }
 {
-    Err(AllocError)
+    let _count = course.numbering.numbers.len();
+    clear_prices(&mut course.prices);
+    put_prices::<F>(&course.numbering, &mut course.prices, entries(start));
+    arrive(inst, rows, node, course)
+}
+
+/// Moves the prices by step `k`, from 0, by the replies.
+fn step_prices<F: RowFamily>(
+    inst: Instance<'_>,
+    rows: &F,
+    node: &Node,
+    course: &mut Course<'_, F::Row>,
+    k: u32,
+) -> Result<(), NoMemory>
+    requires course { IsCourse F.Row.cmp (setting inst.net.now (F.rows_of rows.now inst.net.now) (F.rows_used rows.now inst.net.now) inst.bids.now node.now) course.old }
+    ensures moved { OnOk result (HasMoved F.Row.cmp (setting inst.entry.net.now (F.rows_of rows.now inst.entry.net.now) (F.rows_used rows.now inst.entry.net.now) inst.entry.bids.now node.now) course.new) }
+    ensures step { OnOk result (IsStep F.Row.cmp (F.rows_of rows.now inst.entry.net.now) inst.entry.bids.now (valuation_at (F.rows_of rows.now inst.entry.net.now) course.old).replies k (prices_at course.old) (prices_at course.new)) }
+    ensures keeps { OnOk result (KeepsRows course.old course.new) }
+{
+    let _ = inst.net.track_count();
+    let _count = course.numbering.numbers.len();
+    clear_uses(&mut course.uses);
+    add_uses(&mut course.uses, &course.tables, &course.standings)?;
+    let by = step_length(inst.bids, k);
+    move_prices(by, &mut course.prices, &course.uses, &course.capacities);
+    Ok(())
 }
 
 /// Makes step `k`, from 0, by the replies.
@@ -90,7 +174,8 @@ pub(crate) fn go_on<F: RowFamily>(
     ensures step { OnOk result (IsStep F.Row.cmp (F.rows_of rows.now inst.entry.net.now) inst.entry.bids.now (valuation_at (F.rows_of rows.now inst.entry.net.now) course.old).replies k (prices_at course.old) (prices_at course.new)) }
     ensures keeps { OnOk result (KeepsRows course.old course.new) }
 {
-    Err(AllocError)
+    step_prices(inst, rows, node, course, k)?;
+    arrive(inst, rows, node, course)
 }
 
 /// Goes back to prices by number.
@@ -110,7 +195,8 @@ pub(crate) fn go_back<F: RowFamily>(
     ensures prices { OnOk result (prices_at course.new ≡ listed course.old.order.items prices.now) }
     ensures keeps { OnOk result (KeepsRows course.old course.new) }
 {
-    Err(AllocError)
+    course.prices.copy_from_slice(prices);
+    arrive(inst, rows, node, course)
 }
 
 /// The prices, and the dual value at them.
@@ -126,5 +212,13 @@ pub(crate) fn priced_at<F: RowFamily>(
     ensures prices { IfOk result (λ priced. priced.prices ≡ prices_at course.now) }
     ensures dual { IfOk result (λ priced. priced.dual ≡ valuation_at (F.rows_of rows.now inst.entry.net.now) course.now) }
 {
-    Err(AllocError)
+    let _ = inst.net.track_count();
+    let _count = course.numbering.numbers.len();
+    let entries = list_prices(alloc, &course.order, &course.prices)?;
+    let capacity = capacity_sum(&course.order, &course.prices, &course.capacities);
+    let dual = assemble(alloc, capacity, &course.tables, &course.standings)?;
+    Ok(Priced {
+        prices: Prices { entries },
+        dual,
+    })
 }

@@ -115,7 +115,11 @@ pub(crate) fn next_price(length: i64, price: i64, used: u64, capacity: u32) -> i
 }
 
 /// Adds a price above zero to a list.
-fn push_price<R: Copy>(out: &mut Vec<(R, i64)>, row: R, price: i64) -> Result<(), NoMemory>
+pub(crate) fn push_price<R: Copy>(
+    out: &mut Vec<(R, i64)>,
+    row: R,
+    price: i64,
+) -> Result<(), NoMemory>
     ensures { OnOk result (out.new.items ≡ out.old.items ++ cond (is_positive price) ((row, price) ∷ []) []) }
 {
     if price > 0 {

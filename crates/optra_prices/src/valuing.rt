@@ -1,5 +1,5 @@
 //! Dual values and replies of what stands.
-ghost use Rattle.std.specs.Prelude.{◌≡◌, ◌≤◌, ◌<◌, ◌*◌, [], List, ℤ, All, IfOk, length, pos, ◌*ℤ◌, ◌+ℤ◌};
+ghost use Rattle.std.specs.Prelude.{◌≡◌, ◌≤◌, ◌<◌, ◌*◌, [], List, ℤ, All, IfOk, length, replicate, pos, ◌*ℤ◌, ◌+ℤ◌};
 ghost use Rattle.std.specs.List.{list_any};
 ghost use Rattle.optra_bid.specs.Specs.{IsBetween};
 ghost use Rattle.optra_node.specs.Duals.{ArePrices, capacity_price, sum_of};
@@ -16,7 +16,7 @@ use optra_walk::{RowFamily, Walk};
 use std::alloc::Global;
 
 /// A price times a capacity.
-fn capacity_product(price: i64, capacity: u32) -> i128
+pub(crate) fn capacity_product(price: i64, capacity: u32) -> i128
     requires price { IsRowPrice price }
     requires capacity { capacity ≤ 65535 }
     ensures value { result ≡ price *ℤ pos capacity }
@@ -132,10 +132,27 @@ pub(crate) fn row_prices<F: RowFamily>(
     ensures count { IfOk result (λ prices. length prices.items ≡ length numbering.now.rows.items) }
 {
     let mut prices = vec![in alloc; 0; numbering.rows.len()]?;
-    for entry in entries {
-        put_row_price::<F>(numbering, &mut prices, *entry);
-    }
+    put_prices::<F>(numbering, &mut prices, entries);
     Ok(prices)
+}
+
+/// Sets the listed prices of rows that have numbers, where all prices were 0.
+pub(crate) fn put_prices<F: RowFamily>(
+    numbering: &Numbering<F::Row>,
+    prices: &mut Vec<i64>,
+    entries: &[(F::Row, i64)],
+)
+    requires numbering { IsNumbering F.Row.cmp numbering.now.numbers numbering.now.rows.items }
+    requires ascending { AreAscending F.Row.cmp entries.now }
+    requires range { All (λ entry. IsRowPrice entry.1) entries.now }
+    requires zero { prices.old.items ≡ replicate (length numbering.now.rows.items) (pos 0) }
+    ensures agrees { Agrees F.Row.cmp numbering.now.rows.items prices.new.items entries.now }
+    ensures range { All IsRowPrice prices.new.items }
+    ensures count { length prices.new.items ≡ length numbering.now.rows.items }
+{
+    for entry in entries {
+        put_row_price::<F>(numbering, prices, *entry);
+    }
 }
 
 /// Sets the price of a row, where the row has a number.

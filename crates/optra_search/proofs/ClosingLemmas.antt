@@ -1,7 +1,7 @@
 -- The end of a search: nodes that wait become leaves, and then the search is a plan.
-use Rattle.std.proofs.Common.{◌≡◌, ℕ, ◌+◌, ◌*◌, ◌≤◌, ◌<◌, List, [], ◌∷◌, ◌++◌, map, length, Option, None, Some, unwrap_or, refl, sym, ap, ◌∙◌, subst, arith, append_assoc}
-use Rattle.std.specs.Prelude.{All, ◌⊎◌}
-use Rattle.std.specs.Prelude.{ℤ, pos, ◌≤ℤ◌, ◌<ℤ◌}
+use Rattle.std.proofs.Common.{◌≡◌, ℕ, ◌*◌, ◌≤◌, List, [], ◌∷◌, ◌++◌, map, length, None, unwrap_or, refl, sym, ap, ◌∙◌, subst, arith, append_assoc}
+use Rattle.std.specs.Prelude.{All}
+use Rattle.std.specs.Prelude.{pos, ◌≤ℤ◌}
 use Rattle.std.specs.Int.{int_max}
 use Rattle.std.specs.declared.cmp.Ordering.{Ordering}
 use Rattle.std.proofs.lemmas.Int.{ints}
@@ -9,8 +9,6 @@ use Rattle.std.proofs.lemmas.List.Elements.{All-weaker}
 use Rattle.optra_network.specs.Net.{Net, IsProper}
 use Rattle.optra_bid.specs.Specs.{IsBetween}
 use Rattle.optra_bid.specs.declared.bids.Bid.{Bid}
-use Rattle.optra_walk.specs.declared.Leg.{Leg}
-use Rattle.optra_walk.specs.Choices.{revenue_of}
 use Rattle.optra_walk.specs.Families.{Rows}
 use Rattle.optra_node.specs.declared.Decision.{Decision}
 use Rattle.optra_node.specs.declared.Item.{Item}
@@ -18,7 +16,6 @@ use Rattle.optra_node.specs.declared.Item.TheVariants.{Priced}
 use Rattle.optra_node.specs.Nodes.{IsNode}
 use Rattle.optra_node.specs.Duals.{PriceList, whole_cents}
 use Rattle.optra_node.specs.Trees.{root, places, open_after}
-use Rattle.optra_node.specs.Certificates.{IsBoundOf}
 use Rattle.optra_node.proofs.SumLemmas.{sum_of-cons}
 use Rattle.optra_node.proofs.LoadLemmas.{all_head, all_tail}
 use Rattle.optra_prices.specs.Replies.{Valuation, IsValuation}
@@ -28,7 +25,7 @@ use Rattle.optra_search.specs.Planner.{OpenNode, State, IsOver, priced_open, IsP
 use Rattle.optra_search.specs.Openings.{front, decisions_of, start_below, open_from, Nested, state_of, IsBoundSoFar}
 use Rattle.optra_search.specs.Searches.{Parts, IsReached}
 use Rattle.optra_search.specs.Reached.{settled_as}
-use Rattle.optra_search.specs.Closings.{waiting_of, tree_of, MayBePriced, MayClose, HasClosed, plan_of}
+use Rattle.optra_search.specs.Closings.{waiting_of, MayBePriced, MayClose, HasClosed, plan_of}
 use Rattle.optra_search.proofs.PlacedLemmas.{open_more, placed_more}
 use Rattle.optra_search.proofs.BoundLemmas.{max_bound, whole_bound}
 use Rattle.optra_search.proofs.WaitingLemmas.{taken_is, rest_stays, rest_nested}

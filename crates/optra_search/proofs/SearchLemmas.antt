@@ -7,7 +7,7 @@ use Rattle.std.specs.declared.cmp.Ordering.{Ordering}
 use Rattle.optra_network.specs.Net.{Net, IsProper}
 use Rattle.optra_bid.specs.declared.bids.Bid.{Bid}
 use Rattle.optra_walk.specs.declared.Leg.{Leg}
-use Rattle.optra_walk.specs.Choices.{IsChoice, revenue_of}
+use Rattle.optra_walk.specs.Choices.{revenue_of}
 use Rattle.optra_walk.specs.Families.{Rows}
 use Rattle.optra_node.specs.declared.Decision.{Decision}
 use Rattle.optra_node.specs.declared.Item.{Item}
@@ -24,9 +24,8 @@ use Rattle.optra_prices.specs.Deads.{IsDeadAs}
 use Rattle.optra_prices.specs.Paths.{IsPathResult}
 use Rattle.optra_prices.specs.Steps.{AreProper}
 use Rattle.optra_prices.specs.Repairs.{IsRepair, empty_choice}
-use Rattle.optra_prices.proofs.RepairLemmas.{repair_fits}
 use Rattle.optra_search.specs.declared.waiting.Waiting.{Waiting}
-use Rattle.optra_search.specs.Planner.{OpenNode, State, first_state, dead_item, IsBetter, IsDeadTurn, IsPricedTurn, opened, IsTurn, Turns}
+use Rattle.optra_search.specs.Planner.{OpenNode, first_state, dead_item, IsBetter, IsDeadTurn, IsPricedTurn, opened}
 use Rattle.optra_search.specs.Marks.{AreSettled}
 use Rattle.optra_search.specs.Openings.{front, decisions_of, start_below, open_from, Nested, state_of, IsBoundSoFar, IsOutcome, yes_child, no_child}
 use Rattle.optra_search.specs.Searches.{Parts, IsReached, IsEntered}

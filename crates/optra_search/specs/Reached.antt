@@ -1,5 +1,5 @@
 -- The parts of a search, and what they are after a node was priced.
-use Rattle.std.specs.Prelude.{ℕ, ◌+◌, List, [], ◌∷◌, ◌++◌, length, Option, None, Some}
+use Rattle.std.specs.Prelude.{ℕ, [], ◌∷◌, ◌++◌, length, Option, None, Some}
 use Rattle.std.specs.Prelude.{ℤ}
 use Rattle.std.specs.Int.{int_max}
 use Rattle.optra_walk.specs.declared.Leg.{Leg}

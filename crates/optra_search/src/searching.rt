@@ -84,7 +84,11 @@ pub(crate) fn close_or_split<R: Drop>(
 }
 
 /// The node becomes a leaf with the prices.
-pub(crate) fn close<R: Drop>(search: Search<R>, prices: Prices<R>, cents: i128) -> Result<Search<R>, NoMemory>
+pub(crate) fn close<R: Drop>(
+    search: Search<R>,
+    prices: Prices<R>,
+    cents: i128,
+) -> Result<Search<R>, NoMemory>
     ensures { IfOk result (λ after. parts_of after ≡ settled_as (parts_of search) None prices cents) }
 {
     let mut search = search;

@@ -1,8 +1,8 @@
 -- The search from its first turn to the plan.
-use Rattle.std.proofs.Common.{◌≡◌, pos, sym, ap, subst}
-use Rattle.optra_search.specs.Searches.{Parts, IsReached}
+use Rattle.std.proofs.Common.{pos, sym, subst}
+use Rattle.optra_search.specs.Searches.{IsReached}
 use Rattle.optra_search.specs.Reached.{parts_of}
-use Rattle.optra_search.specs.Planner.{IsPlainPlan, Planned}
+use Rattle.optra_search.specs.Planner.{IsPlainPlan}
 use Rattle.optra_search.proofs.BoundLemmas.{empty_earns}
 use Rattle.optra_search.proofs.SearchLemmas.{first_reached_is}
 use Rattle.optra_search.proofs.ClosingLemmas.{closing_first, closed_plan, closed_range}

@@ -1,9 +1,8 @@
 -- A node that does not close has a split leg.
-use Rattle.std.proofs.Common.{subst, sym, ap, List, Option, rules, FitsSigned}
-use Rattle.std.specs.Prelude.{ℤ, ◌<ℤ◌}
+use Rattle.std.proofs.Common.{subst, rules, FitsSigned}
+use Rattle.std.specs.Prelude.{◌<ℤ◌}
 use Rattle.std.specs.Int.{w64, w128}
 use Rattle.std.proofs.lemmas.Int.{to_z-of_z}
-use Rattle.optra_walk.specs.declared.Leg.{Leg}
 use Rattle.optra_node.specs.Duals.{whole_cents}
 use Rattle.optra_prices.specs.Replies.{Valuation}
 use Rattle.optra_search.specs.Marks.{IsSplitLegOrNone}

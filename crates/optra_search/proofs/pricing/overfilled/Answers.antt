@@ -1,7 +1,4 @@
 -- A step from zero prices lists the overfilled rows.
-use Rattle.std.proofs.Common.{subst}
-use Rattle.optra_node.specs.Duals.{PriceList}
-use Rattle.optra_prices.specs.Steps.{IsStep}
 use Rattle.optra_search.proofs.CrowdLemmas.{overfilled}
 use Rattle.optra_search.proofs.pricing.overfilled.Goals as goal
 

@@ -1,6 +1,6 @@
 -- One turn.
 use Rattle.std.proofs.Common.{sym, subst}
-use Rattle.optra_search.specs.Searches.{Parts, IsReached, IsEntered}
+use Rattle.optra_search.specs.Searches.{IsReached}
 use Rattle.optra_search.specs.Reached.{parts_of}
 use Rattle.optra_search.proofs.SearchLemmas.{top_depth, entered_top, entered_node, dead_next}
 use Rattle.optra_search.proofs.turning.turn.Goals as goal

@@ -2,7 +2,7 @@ use Rattle.std.proofs.Common.{◌≡◌, length, take}
 use Rattle.std.specs.Prelude.{All}
 use Rattle.optra_prices.specs.Tables.{IsRowPrice}
 use Rattle.optra_prices.specs.Standings.{Agrees}
-use Rattle.optra_prices.proofs.valuing.row_prices.Given as goal
+use Rattle.optra_prices.proofs.valuing.put_prices.Given as goal
 
 abbrev pub invariant-loop-entry : goal.invariant-loop-entry
 invariant-loop-entry g l = record {

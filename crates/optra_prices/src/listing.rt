@@ -1,0 +1,117 @@
+//! Rows with numbers in ascending order, and their prices and capacities.
+ghost use Rattle.std.specs.Prelude.{◌≡◌, ◌≤◌, ◌*◌, true, All, Contains, IfOk, length, map, slice_index, slice_index_or, pos};
+ghost use Rattle.optra_bid.specs.Specs.{IsBetween};
+ghost use Rattle.optra_node.specs.Duals.{ArePrices};
+ghost use Rattle.optra_prices.specs.Courses.{listed};
+ghost use Rattle.optra_prices.specs.Listings.{capacity_sum};
+ghost use Rattle.optra_prices.specs.Tables.{IsNumbering, IsRowPrice};
+
+use crate::duals::no_numbers;
+use crate::numbering::Numbering;
+use crate::stepping::push_price;
+use crate::touching::number;
+use crate::valuing::capacity_product;
+use optra_network::{Network, NoMemory};
+use optra_walk::RowFamily;
+use std::alloc::Global;
+use std::collections::BTreeMap;
+
+/// Numbers of the listed rows.
+pub(crate) fn number_rows<F: RowFamily>(
+    alloc: Global,
+    net: &Network,
+    rows: &F,
+    entries: &[(F::Row, i64)],
+) -> Result<Numbering<F::Row>, NoMemory>
+    requires { ArePrices (F.rows_of rows.now net.now) entries.now }
+    ensures numbering { IfOk result (λ numbering. IsNumbering F.Row.cmp numbering.numbers numbering.rows.items) }
+    ensures rows { IfOk result (λ numbering. All (λ row. (F.rows_of rows.now net.now).is_row row ≡ true) numbering.rows.items) }
+    ensures numbered { IfOk result (λ numbering. All (λ e. Contains numbering.rows.items e.0) entries.now) }
+{
+    let mut numbering = no_numbers(alloc);
+    for entry in entries {
+        number::<F>(&mut numbering, entry.0)?;
+    }
+    Ok(numbering)
+}
+
+/// The rows that have numbers, ascending.
+pub(crate) fn in_order<R: Copy + Ord>(
+    alloc: Global,
+    numbers: &BTreeMap<R, u32>,
+) -> Result<Vec<(R, u32)>, NoMemory>
+    ensures { IfOk result (λ order. order.items ≡ numbers.now.entries) }
+{
+    let mut order = Vec::with_capacity(alloc, numbers.len())?;
+    for (row, number) in numbers {
+        order.push((*row, *number))?;
+    }
+    Ok(order)
+}
+
+/// The capacities of rows.
+pub(crate) fn capacities_of<F: RowFamily>(
+    alloc: Global,
+    net: &Network,
+    rows: &F,
+    numbered: &[F::Row],
+) -> Result<Vec<u32>, NoMemory>
+    requires { All (λ row. (F.rows_of rows.now net.now).is_row row ≡ true) numbered.now }
+    ensures { IfOk result (λ capacities. capacities.items ≡ map (F.rows_of rows.now net.now).capacity numbered.now) }
+{
+    let mut capacities = Vec::with_capacity(alloc, numbered.len())?;
+    for row in numbered {
+        capacities.push(rows.cap(net, *row))?;
+    }
+    Ok(capacities)
+}
+
+/// The price of the row with this number.
+fn price_by(prices: &[i64], number: u32) -> i64
+    requires { All IsRowPrice prices.now }
+    ensures value { result ≡ slice_index_or prices.now number (pos 0) }
+    ensures range { IsRowPrice result }
+{
+    prices.get(number as usize).copied().unwrap_or(0)
+}
+
+/// The capacity of the row with this number.
+fn capacity_by(capacities: &[u32], number: u32) -> u32
+    requires { All (λ capacity. capacity ≤ 65535) capacities.now }
+    ensures value { result ≡ slice_index capacities.now number }
+    ensures range { result ≤ 65535 }
+{
+    capacities.get(number as usize).copied().unwrap_or(0)
+}
+
+/// The list of prices above zero.
+pub(crate) fn list_prices<R: Copy>(
+    alloc: Global,
+    order: &[(R, u32)],
+    prices: &[i64],
+) -> Result<Vec<(R, i64)>, NoMemory>
+    requires { All IsRowPrice prices.now }
+    ensures { IfOk result (λ entries. entries.items ≡ listed order.now prices.now) }
+{
+    let mut entries = Vec::new(alloc);
+    for entry in order {
+        push_price(&mut entries, entry.0, price_by(prices, entry.1))?;
+    }
+    Ok(entries)
+}
+
+/// The price of all capacity.
+pub(crate) fn capacity_sum<R: Copy>(order: &[(R, u32)], prices: &[i64], capacities: &[u32]) -> i128
+    requires prices { All IsRowPrice prices.now }
+    requires capacities { All (λ capacity. capacity ≤ 65535) capacities.now }
+    ensures value { result ≡ capacity_sum order.now prices.now capacities.now }
+    ensures range { IsBetween (pos 0) (pos 2417851639229258349412352000000000000) result }
+{
+    let mut total: i128 = 0;
+    for entry in order {
+        let price = price_by(prices, entry.1);
+        let capacity = capacity_by(capacities, entry.1);
+        total += capacity_product(price, capacity);
+    }
+    total
+}
