@@ -3,7 +3,7 @@
 //! On the track from A to B a train of type y departs 4 minutes after one of type x, z 4 minutes after y and 7 after x,
 //! and each other 1 minute after the one before. There are three bids: x1 departs at minute 0, y1 at 3 and z1 at 6. Every
 //! two of these use a pair row together, and no two a window minute.
-ghost use Rattle.std.specs.Prelude.{◌≡◌, ◌<◌, IfOk, length};
+ghost use Rattle.std.specs.Prelude.{◌≡◌, IfOk, length};
 ghost use Rattle.optra_bid.specs.Instances.{IsInstance};
 ghost use Rattle.optra_node.specs.Nodes.{IsNode};
 

@@ -1,5 +1,5 @@
 //! Instances of the tests of trees and of nodes, read from the rows of their tables.
-ghost use Rattle.std.specs.Prelude.{◌≡◌, IfOk};
+ghost use Rattle.std.specs.Prelude.{IfOk};
 ghost use Rattle.optra_bid.specs.Instances.{IsInstance};
 
 use optra_bid::Bid;
