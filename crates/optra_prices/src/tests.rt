@@ -9,11 +9,11 @@ ghost use Rattle.std.specs.Ordering.{nat_cmp};
 
 use crate::deads::dead;
 use crate::duals::dual;
-use crate::{Dead, step};
+use crate::{Dead, price_path, step};
 use optra_bid::{Bid, Name, RawBid};
 use optra_graph::{FreshGraphs, Graphs};
 use optra_network::{
-    Builder, Minute, NetFault, NetRefusal, Network, StationId, TrackId, TypeId, is_name,
+    Builder, Cents, Minute, NetFault, NetRefusal, Network, StationId, TrackId, TypeId, is_name,
 };
 use optra_node::{Decision, Node, Prices, is_formed_leg};
 use optra_walk::{Action, Instance, Leg, RowFamily, Walk};
@@ -159,11 +159,7 @@ fn are_on(net: &Network, bids: &[Bid]) -> bool
 }
 
 /// The graphs of at most 1,000 bids.
-fn prepared<'n>(
-    alloc: Global,
-    net: &'n Network,
-    bids: &[Bid],
-) -> Result<FreshGraphs<'n>, Fail>
+fn prepared<'n>(alloc: Global, net: &'n Network, bids: &[Bid]) -> Result<FreshGraphs<'n>, Fail>
     ensures few { IfOk result (λ _. length bids.now ≤ 1000) }
     ensures network { IfOk result (λ graphs. graphs.network ≡ net.now) }
     ensures held { IfOk result (λ graphs. All (λ bid. Contains graphs.held bid.path) bids.now) }
@@ -443,15 +439,50 @@ fn check_steps(
     Ok(())
 }
 
-/// The steps at bids on the network.
-fn check_path(
+/// The price path of at most 15 steps from zero prices, whose last prices are too high for either bid.
+fn check_result(
     rt: &impl Abort,
     alloc: Global,
-    net: &Network,
-    bids: &[Bid],
-) -> Result<(), Fail> {
+    inst: Instance<'_>,
+    graphs: &FreshGraphs<'_>,
+    incumbent: Cents,
+    want: i64,
+) -> Result<(), Fail>
+    requires few { length inst.bids.now ≤ 1000 }
+    requires network { graphs.now.network ≡ inst.net.now }
+    requires held { All (λ bid. Contains graphs.now.held bid.path) inst.bids.now }
+{
+    let root = Node::root(alloc);
+    let zero = Prices {
+        entries: Vec::new(alloc),
+    };
+    let found = price_path(alloc, inst, graphs, &FiveRows, &root, &zero, 15, incumbent)?;
+    check_prices(rt, &found.prices, want);
+    assert_eq!(rt; found.dual.value, 5 * i128::from(want));
+    Ok(())
+}
+
+/// The path goes on to the last step, or ends after the first one.
+fn check_results(
+    rt: &impl Abort,
+    alloc: Global,
+    inst: Instance<'_>,
+    graphs: &FreshGraphs<'_>,
+) -> Result<(), Fail>
+    requires few { length inst.bids.now ≤ 1000 }
+    requires network { graphs.now.network ≡ inst.net.now }
+    requires held { All (λ bid. Contains graphs.now.held bid.path) inst.bids.now }
+{
+    check_result(rt, alloc, inst, graphs, 0, 200173)?;
+    check_result(rt, alloc, inst, graphs, 1250, 250000)
+}
+
+/// The steps and the price path at bids on the network.
+fn check_path(rt: &impl Abort, alloc: Global, net: &Network, bids: &[Bid]) -> Result<(), Fail> {
     let graphs = prepared(alloc, net, bids)?;
-    check_steps(rt, alloc, Instance { net, bids }, &graphs)
+    let inst = Instance { net, bids };
+    check_steps(rt, alloc, inst, &graphs)?;
+    check_results(rt, alloc, inst, &graphs)
 }
 
 #[test]
