@@ -1,7 +1,6 @@
 -- The plan of the search keeps the promise of a plan.
-use Rattle.std.proofs.Common.{◌≡◌, ℤ, ◌≤ℤ◌, List, Option, map, sym, ◌∙◌, subst}
+use Rattle.std.proofs.Common.{◌≡◌, ◌≤ℤ◌, List, Option, sym, ◌∙◌, subst}
 use Rattle.optra_network.specs.Net.{Net}
-use Rattle.optra_network.specs.declared.TrackUse.{TrackUse}
 use Rattle.optra_bid.specs.declared.bids.Bid.{Bid}
 use Rattle.optra_walk.specs.declared.Leg.{Leg}
 use Rattle.optra_walk.specs.Choices.{uses_of, KeepsHeadways, IsConflictFree, revenue_of}

@@ -1,5 +1,5 @@
 -- The command of words that were read.
-use Rattle.std.specs.Prelude.{Option, ◌≤◌}
+use Rattle.std.specs.Prelude.{Option}
 use Rattle.std.specs.Option.{option_map}
 use Rattle.optra_search.specs.declared.Limits.{Limits}
 use Rattle.optra_top.specs.Words.{PlanLimits}
