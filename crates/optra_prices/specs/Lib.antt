@@ -13,6 +13,7 @@ pub mod Standings
 pub mod Holdings
 pub mod FiveRows
 pub mod Courses
+pub mod Keepings
 pub mod Following
 pub mod Uses
 pub mod Listings

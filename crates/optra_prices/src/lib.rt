@@ -14,6 +14,7 @@ pub mod duals;
 mod following;
 mod grouping;
 mod holding;
+pub mod keeping;
 mod laws;
 mod listing;
 mod loading;

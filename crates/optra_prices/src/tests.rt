@@ -159,11 +159,7 @@ fn are_on(net: &Network, bids: &[Bid]) -> bool
 }
 
 /// The graphs of at most 1,000 bids.
-fn prepared<'n>(
-    alloc: Global,
-    net: &'n Network,
-    bids: &[Bid],
-) -> Result<FreshGraphs<'n>, Fail>
+fn prepared<'n>(alloc: Global, net: &'n Network, bids: &[Bid]) -> Result<FreshGraphs<'n>, Fail>
     ensures few { IfOk result (λ _. length bids.now ≤ 1000) }
     ensures network { IfOk result (λ graphs. graphs.network ≡ net.now) }
     ensures held { IfOk result (λ graphs. All (λ bid. Contains graphs.held bid.path) bids.now) }
@@ -444,12 +440,7 @@ fn check_steps(
 }
 
 /// The steps at bids on the network.
-fn check_path(
-    rt: &impl Abort,
-    alloc: Global,
-    net: &Network,
-    bids: &[Bid],
-) -> Result<(), Fail> {
+fn check_path(rt: &impl Abort, alloc: Global, net: &Network, bids: &[Bid]) -> Result<(), Fail> {
     let graphs = prepared(alloc, net, bids)?;
     check_steps(rt, alloc, Instance { net, bids }, &graphs)
 }
