@@ -6,12 +6,18 @@ ghost use Rattle.optra_prices.specs.Paths.{IsPathResult};
 ghost use Rattle.optra_prices.specs.Keepings.{AreKept};
 
 use crate::Priced;
+use crate::allowing::allow_all;
+use crate::courses::{Course, set_out_over};
+use crate::duals::{entries, no_numbers};
+use crate::listing::number_more;
 use crate::numbering::{BidTable, Numbering};
+use crate::paths::go_along;
+use crate::sessions::make_tables;
 use optra_graph::Graphs;
 use optra_network::{Cents, NoMemory};
 use optra_node::{Node, Prices};
 use optra_walk::{Instance, RowFamily};
-use std::alloc::{AllocError, Global};
+use std::alloc::Global;
 
 /// Rows by number, and for each bid what its arcs add and which rows they touch. They are made once for a plan, and serve
 /// at each of its nodes.
@@ -34,7 +40,23 @@ pub fn keep_arcs<'g, F: RowFamily, G: Graphs>(
     requires held { All (λ bid. Contains (G.held graphs.now) bid.path) inst.bids.now }
     ensures { IfOk result (AreKept F.Row.cmp inst.entry.net.now (F.rows_of rows.now inst.entry.net.now) (F.rows_used rows.now inst.entry.net.now) inst.entry.bids.now) }
 {
-    Err(AllocError)
+    let node = Node::root(alloc);
+    let mut numbering = no_numbers(alloc);
+    let tables = make_tables(alloc, inst, graphs, rows, &node, &mut numbering)?;
+    Ok(ArcTables { numbering, tables })
+}
+
+/// The tables of a course that is done.
+fn put_back<'g, R: Copy + Ord>(course: Course<'g, R>) -> ArcTables<'g, R>
+    ensures numbering { result.numbering ≡ course.entry.numbering }
+    ensures tables { result.tables.items ≡ course.entry.tables.items }
+{
+    let Course {
+        numbering,
+        tables,
+        ..
+    } = course;
+    ArcTables { numbering, tables }
 }
 
 /// As [`crate::price_path`], over tables that are kept; the tables are handed back.
@@ -55,5 +77,19 @@ pub fn price_path_over<'g, F: RowFamily>(
     ensures kept { IfOk result (λ both. AreKept F.Row.cmp inst.entry.net.now (F.rows_of rows.now inst.entry.net.now) (F.rows_used rows.now inst.entry.net.now) inst.entry.bids.now both.0) }
     ensures path { IfOk result (λ both. IsPathResult F.Row.cmp inst.entry.net.now (F.rows_of rows.now inst.entry.net.now) inst.entry.bids.now node.now start.now steps incumbent both.1) }
 {
-    Err(AllocError)
+    let mut kept = kept;
+    number_more(inst.net, rows, &mut kept.numbering, entries(start))?;
+    allow_all(alloc, inst, rows, node, &mut kept)?;
+    let mut course = set_out_over(alloc, inst, rows, node, kept)?;
+    let priced = go_along(
+        alloc,
+        inst,
+        rows,
+        node,
+        &mut course,
+        start,
+        steps,
+        incumbent,
+    )?;
+    Ok((put_back(course), priced))
 }

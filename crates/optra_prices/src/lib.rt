@@ -8,6 +8,7 @@ use optra_node::Prices;
 use optra_walk::Walk;
 use std::marker::Model;
 
+mod allowing;
 mod courses;
 pub mod deads;
 pub mod duals;
