@@ -24,3 +24,4 @@ pub mod CourseLemmas
 pub mod MoveLemmas
 pub mod ListingLemmas
 pub mod LoadingLemmas
+pub mod AllowLemmas

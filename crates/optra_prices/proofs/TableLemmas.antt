@@ -20,7 +20,8 @@ abbrev pub IsTableOf : {R : Type 0} → Setting R → List R → ℕ → Bid →
 IsTableOf s numbered number bid table = AreBidArcs s number bid table.graph.now numbered table.arcs.items table.groups.starts.items table.groups.touches.items table.forced
 
 module _ {R : Type 0} (s : Setting R) where
-  table_kept : (numbered after : List R) → Extends numbered after → (number : ℕ) (bid : Bid) (table : BidTable) → IsTableOf s numbered number bid table → IsTableOf s after number bid table
+  -- a table serves while rows get numbers
+  pub table_kept : (numbered after : List R) → Extends numbered after → (number : ℕ) (bid : Bid) (table : BidTable) → IsTableOf s numbered number bid table → IsTableOf s after number bid table
   table_kept numbered after extends number bid table is = record {
     graph = is.graph;
     count = is.count;
@@ -95,19 +96,19 @@ pub record StandMixed (tables : List BidTable) (old prices : List ℤ) (n : ℕ)
 pub mixed_first : (tables : List BidTable) (old prices : List ℤ) (standings : List Standing) → AllStand tables old standings → StandMixed tables old prices 0 standings
 mixed_first tables old prices standings stand = record { count_is = stand.count_is; done = λ number table standing l t s. absurd (omega arith); left = λ number table standing l t s. stand.each number table standing t s }
 
-set_same : {X : Type 0} (xs : List X) (k : ℕ) (x y : X) → k < length xs → slice_get (set xs k x) k ≡ Some y → x ≡ y
+pub set_same : {X : Type 0} (xs : List X) (k : ℕ) (x y : X) → k < length xs → slice_get (set xs k x) k ≡ Some y → x ≡ y
 set_same [] k x y l e = absurd (omega arith)
 set_same (z ∷ xs) zero x y l e = same_Some x y e
 set_same (z ∷ xs) (suc k) x y l e = set_same xs k x y (omega arith) e
 
-set_other : {X : Type 0} (xs : List X) (k j : ℕ) (x : X) → j ≢ k → slice_get (set xs k x) j ≡ slice_get xs j
+pub set_other : {X : Type 0} (xs : List X) (k j : ℕ) (x : X) → j ≢ k → slice_get (set xs k x) j ≡ slice_get xs j
 set_other [] k j x apart = refl
 set_other (z ∷ xs) zero zero x apart = absurd (apart refl)
 set_other (z ∷ xs) zero (suc j) x apart = refl
 set_other (z ∷ xs) (suc k) zero x apart = refl
 set_other (z ∷ xs) (suc k) (suc j) x apart = set_other xs k j x (λ e. apart (ap suc e))
 
-set_length : {X : Type 0} (xs : List X) (k : ℕ) (x : X) → length (set xs k x) ≡ length xs
+pub set_length : {X : Type 0} (xs : List X) (k : ℕ) (x : X) → length (set xs k x) ≡ length xs
 set_length [] k x = refl
 set_length (z ∷ xs) zero x = refl
 set_length (z ∷ xs) (suc k) x = ap suc (set_length xs k x)

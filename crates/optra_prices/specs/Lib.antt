@@ -13,6 +13,8 @@ pub mod Standings
 pub mod Holdings
 pub mod FiveRows
 pub mod Courses
+pub mod Keepings
+pub mod Allowing
 pub mod Following
 pub mod Uses
 pub mod Listings

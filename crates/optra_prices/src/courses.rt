@@ -1,14 +1,16 @@
 //! Prices under way at a node: rows by number, a table for each bid, and what is known of each bid at the prices.
-ghost use Rattle.std.specs.Prelude.{◌≡◌, ◌≤◌, [], All, Contains, IfOk, OnOk, length};
+ghost use Rattle.std.specs.Prelude.{◌≡◌, ◌≤◌, true, [], All, Contains, IfOk, OnOk, length};
 ghost use Rattle.optra_node.specs.Nodes.{IsNode};
 ghost use Rattle.optra_prices.specs.Steps.{AreProper, IsStep};
-ghost use Rattle.optra_prices.specs.Tables.{IsRowPrice};
+ghost use Rattle.optra_prices.specs.Tables.{IsNumbering, IsRowPrice};
 ghost use Rattle.optra_prices.specs.Terms.{setting};
+ghost use Rattle.optra_prices.specs.Standings.{AreTables};
 ghost use Rattle.optra_prices.specs.Moves.{HasMoved};
 ghost use Rattle.optra_prices.specs.Courses.{listed, prices_at, valuation_at, IsCourse, IsPriced, KeepsRows, AreNumbered};
 
 use crate::Priced;
 use crate::duals::{assemble, entries};
+use crate::keeping::ArcTables;
 use crate::listing::{capacities_of, capacity_sum, in_order, list_prices, number_rows};
 use crate::loading::add_uses;
 use crate::moving::{clear_prices, clear_uses, move_prices};
@@ -42,29 +44,26 @@ pub(crate) struct Course<'g, R: Copy + Ord> {
     pub(crate) value: i128,
 }
 
-/// The node at zero prices. Each row that a bid's arc touches gets a number, and each row of `start`.
-pub(crate) fn set_out<'g, F: RowFamily, G: Graphs>(
+/// The node at zero prices, over tables of arcs at the node.
+pub(crate) fn set_out_over<'g, F: RowFamily>(
     alloc: Global,
     inst: Instance<'_>,
-    graphs: &'g G,
     rows: &F,
     node: &Node,
-    start: &Prices<F::Row>,
+    kept: ArcTables<'g, F::Row>,
 ) -> Result<Course<'g, F::Row>, NoMemory>
     requires few { length inst.bids.now ≤ 1000 }
-    requires node { IsNode inst.net.now (length inst.bids.now) node.now }
-    requires network { G.network graphs.now ≡ inst.net.now }
-    requires held { All (λ bid. Contains (G.held graphs.now) bid.path) inst.bids.now }
-    requires start { AreProper F.Row.cmp (F.rows_of rows.now inst.net.now) start.now }
+    requires numbering { IsNumbering F.Row.cmp kept.numbering.numbers kept.numbering.rows.items }
+    requires rows { All (λ row. (F.rows_of rows.now inst.net.now).is_row row ≡ true) kept.numbering.rows.items }
+    requires tables { AreTables (setting inst.net.now (F.rows_of rows.now inst.net.now) (F.rows_used rows.now inst.net.now) inst.bids.now node.now) (length inst.bids.now) kept.numbering.rows.items kept.tables.items }
     ensures priced { IfOk result (λ course. IsPriced F.Row.cmp (setting inst.entry.net.now (F.rows_of rows.now inst.entry.net.now) (F.rows_used rows.now inst.entry.net.now) inst.entry.bids.now node.now) course) }
     ensures zero { IfOk result (λ course. prices_at course ≡ []) }
-    ensures numbered { IfOk result (λ course. AreNumbered course start.now) }
+    ensures keeps { IfOk result (λ course. course.numbering ≡ kept.entry.numbering) }
 {
     let _ = inst.net.track_count();
     tests_tell_allowed(inst, rows);
     prices_by_used_rows(inst, rows);
-    let mut numbering = number_rows(alloc, inst.net, rows, entries(start))?;
-    let tables = make_tables(alloc, inst, graphs, rows, node, &mut numbering)?;
+    let ArcTables { numbering, tables } = kept;
     let order = in_order(alloc, &numbering.numbers)?;
     let capacities = capacities_of(alloc, inst.net, rows, &numbering.rows)?;
     let prices = vec![in alloc; 0; numbering.rows.len()]?;
@@ -84,6 +83,30 @@ pub(crate) fn set_out<'g, F: RowFamily, G: Graphs>(
         standings,
         value,
     })
+}
+
+/// The node at zero prices. Each row that a bid's arc touches gets a number, and each row of `start`.
+pub(crate) fn set_out<'g, F: RowFamily, G: Graphs>(
+    alloc: Global,
+    inst: Instance<'_>,
+    graphs: &'g G,
+    rows: &F,
+    node: &Node,
+    start: &Prices<F::Row>,
+) -> Result<Course<'g, F::Row>, NoMemory>
+    requires few { length inst.bids.now ≤ 1000 }
+    requires node { IsNode inst.net.now (length inst.bids.now) node.now }
+    requires network { G.network graphs.now ≡ inst.net.now }
+    requires held { All (λ bid. Contains (G.held graphs.now) bid.path) inst.bids.now }
+    requires start { AreProper F.Row.cmp (F.rows_of rows.now inst.net.now) start.now }
+    ensures priced { IfOk result (λ course. IsPriced F.Row.cmp (setting inst.entry.net.now (F.rows_of rows.now inst.entry.net.now) (F.rows_used rows.now inst.entry.net.now) inst.entry.bids.now node.now) course) }
+    ensures zero { IfOk result (λ course. prices_at course ≡ []) }
+    ensures numbered { IfOk result (λ course. AreNumbered course start.now) }
+{
+    let mut numbering = number_rows(alloc, inst.net, rows, entries(start))?;
+    let tables = make_tables(alloc, inst, graphs, rows, node, &mut numbering)?;
+    let course = set_out_over(alloc, inst, rows, node, ArcTables { numbering, tables })?;
+    Ok(course)
 }
 
 /// Searches the bids again where prices have changed, and values the node.

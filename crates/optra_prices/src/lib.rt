@@ -8,12 +8,14 @@ use optra_node::Prices;
 use optra_walk::Walk;
 use std::marker::Model;
 
+mod allowing;
 mod courses;
 pub mod deads;
 pub mod duals;
 mod following;
 mod grouping;
 mod holding;
+pub mod keeping;
 mod laws;
 mod listing;
 mod loading;

@@ -1,10 +1,10 @@
 //! Rows with numbers in ascending order, and their prices and capacities.
-ghost use Rattle.std.specs.Prelude.{◌≡◌, ◌≤◌, ◌*◌, true, All, Contains, IfOk, length, map, slice_index, slice_index_or, pos};
+ghost use Rattle.std.specs.Prelude.{◌≡◌, ◌≤◌, ◌*◌, true, All, Contains, IfOk, OnOk, length, map, slice_index, slice_index_or, pos};
 ghost use Rattle.optra_bid.specs.Specs.{IsBetween};
 ghost use Rattle.optra_node.specs.Duals.{ArePrices};
 ghost use Rattle.optra_prices.specs.Courses.{listed};
 ghost use Rattle.optra_prices.specs.Listings.{capacity_sum};
-ghost use Rattle.optra_prices.specs.Tables.{IsNumbering, IsRowPrice};
+ghost use Rattle.optra_prices.specs.Tables.{IsNumbering, Extends, IsRowPrice};
 
 use crate::duals::no_numbers;
 use crate::numbering::Numbering;
@@ -15,6 +15,27 @@ use optra_network::{Network, NoMemory};
 use optra_walk::RowFamily;
 use std::alloc::Global;
 use std::collections::BTreeMap;
+
+/// Gives each listed row a number, where it has none yet.
+pub(crate) fn number_more<F: RowFamily>(
+    net: &Network,
+    rows: &F,
+    numbering: &mut Numbering<F::Row>,
+    entries: &[(F::Row, i64)],
+) -> Result<(), NoMemory>
+    requires prices { ArePrices (F.rows_of rows.now net.now) entries.now }
+    requires numbering { IsNumbering F.Row.cmp numbering.old.numbers numbering.old.rows.items }
+    requires rows { All (λ row. (F.rows_of rows.now net.now).is_row row ≡ true) numbering.old.rows.items }
+    ensures numbering { OnOk result (IsNumbering F.Row.cmp numbering.new.numbers numbering.new.rows.items) }
+    ensures rows { OnOk result (All (λ row. (F.rows_of rows.now net.now).is_row row ≡ true) numbering.new.rows.items) }
+    ensures extends { OnOk result (Extends numbering.old.rows.items numbering.new.rows.items) }
+    ensures numbered { OnOk result (All (λ e. Contains numbering.new.rows.items e.0) entries.now) }
+{
+    for entry in entries {
+        number::<F>(numbering, entry.0)?;
+    }
+    Ok(())
+}
 
 /// Numbers of the listed rows.
 pub(crate) fn number_rows<F: RowFamily>(
@@ -29,9 +50,7 @@ pub(crate) fn number_rows<F: RowFamily>(
     ensures numbered { IfOk result (λ numbering. All (λ e. Contains numbering.rows.items e.0) entries.now) }
 {
     let mut numbering = no_numbers(alloc);
-    for entry in entries {
-        number::<F>(&mut numbering, entry.0)?;
-    }
+    number_more(net, rows, &mut numbering, entries)?;
     Ok(numbering)
 }
 

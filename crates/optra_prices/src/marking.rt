@@ -55,7 +55,12 @@ pub(crate) fn has_yes<F: RowFamily>(summary: &Summary<'_, F>, number: u32) -> bo
 }
 
 /// Whether an allowed walk may take the arc.
-fn mark_at<F: RowFamily>(summary: &Summary<'_, F>, number: u32, graph: &TimeGraph, k: u32) -> bool
+pub(crate) fn mark_at<F: RowFamily>(
+    summary: &Summary<'_, F>,
+    number: u32,
+    graph: &TimeGraph,
+    k: u32,
+) -> bool
     requires bid { number < length summary.now.bids }
     requires legs { HasFormedLegs summary.now.net graph.now }
     requires within { k < length graph.now.dag.arcs }

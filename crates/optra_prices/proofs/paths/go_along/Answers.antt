@@ -8,18 +8,17 @@ use Rattle.optra_prices.specs.Courses.{listed, prices_at, valuation_at}
 use Rattle.optra_prices.specs.Following.{IsFollowed}
 use Rattle.optra_prices.specs.declared.Priced.{Priced}
 use Rattle.optra_prices.proofs.PathLemmas.{ok_by, following_first, result_is}
-use Rattle.optra_prices.proofs.paths.price_path.Goals as goal
+use Rattle.optra_prices.proofs.paths.go_along.Goals as goal
 
 pub follow-requires-clause-following : goal.follow-requires-clause-following
 follow-requires-clause-following g c =
     let net = c.args.inst.net.now in
     let f = c.args.rows.now in
     let s : Setting g.row.F-Row.Denot = setting net (g.F.RowFamily.rows_of f net) (g.F.RowFamily.rows_used f net) c.args.inst.bids.now c.args.node.now in
-    let set = c.in_ok-course.ensures in
-    following_first g.F.Row.Ord.cmp s c.args.start.now c.args.steps (to_z w64 (of_z w64 c.args.incumbent)) c.in_ok-course.course c.in_ok-best.best set.priced set.zero set.numbered c.in_ok-best.ensures.prices c.in_ok-best.ensures.value
+    following_first g.F.Row.Ord.cmp s c.args.start.now c.args.steps (to_z w64 (of_z w64 c.args.incumbent)) c.args.course.now c.in_ok-best.best c.requires.priced c.requires.zero c.requires.numbered c.in_ok-best.ensures.prices c.in_ok-best.ensures.value
 
-pub returns : goal.returns
-returns g c =
+pub returns-clause-path : goal.returns-clause-path
+returns-clause-path g c =
     let net = c.args.inst.net.now in
     let f = c.args.rows.now in
     let rows = g.F.RowFamily.rows_of f net in

@@ -1,0 +1,85 @@
+//! Which arcs may be taken at a node, told anew in tables that were made at another node.
+ghost use Rattle.std.specs.Prelude.{◌≡◌, ◌<◌, ◌≤◌, List, OnOk, length};
+ghost use Rattle.optra_node.specs.declared.Decision.{Decision};
+ghost use Rattle.optra_node.specs.Nodes.{IsNode};
+ghost use Rattle.optra_prices.specs.Marks.{HasFormedLegs};
+ghost use Rattle.optra_prices.specs.Terms.{setting};
+ghost use Rattle.optra_prices.specs.Standings.{AreTables};
+ghost use Rattle.optra_prices.specs.Allowing.{IsToldAnew, AreToldAnew, IsTableAnew};
+
+use crate::keeping::ArcTables;
+use crate::marking::{has_yes, mark_at};
+use crate::numbering::{ArcTerm, BidTable};
+use optra_graph::TimeGraph;
+use optra_network::NoMemory;
+use optra_node::{Node, Summary};
+use optra_walk::{Instance, RowFamily};
+use std::alloc::Global;
+
+/// Tells anew whether the arc may be taken.
+fn allow_arc<F: RowFamily>(
+    summary: &Summary<'_, F>,
+    number: u32,
+    graph: &TimeGraph,
+    k: u32,
+    arc: &mut ArcTerm,
+)
+    requires bid { number < length summary.now.bids }
+    requires legs { HasFormedLegs summary.now.net graph.now }
+    requires within { k < length graph.now.dag.arcs }
+    ensures { IsToldAnew summary.now.net (F.rows_of summary.now.family summary.now.net) summary.now.bids summary.now.node number graph.now k arc.old arc.new }
+{
+    arc.allowed = mark_at(summary, number, graph, k);
+}
+
+/// Tells anew which arcs of a bid's graph may be taken.
+fn allow_arcs<F: RowFamily>(
+    summary: &Summary<'_, F>,
+    number: u32,
+    graph: &TimeGraph,
+    arcs: &mut Vec<ArcTerm>,
+)
+    requires bid { number < length summary.now.bids }
+    requires legs { HasFormedLegs summary.now.net graph.now }
+    requires count { length arcs.old.items ≡ length graph.now.dag.arcs }
+    ensures { AreToldAnew summary.now.net (F.rows_of summary.now.family summary.now.net) summary.now.bids summary.now.node number graph.now arcs.old.items arcs.new.items }
+{
+    let count = graph.dag().arcs();
+    for k in 0..count {
+        allow_arc(summary, number, graph, k, &mut arcs[k as usize]);
+    }
+}
+
+/// Brings a bid's table to the summary's node.
+fn allow_table<F: RowFamily>(summary: &Summary<'_, F>, number: u32, table: &mut BidTable<'_>)
+    requires bid { number < length summary.now.bids }
+    requires legs { HasFormedLegs summary.now.net table.old.graph.now }
+    requires count { length table.old.arcs.items ≡ length table.old.graph.now.dag.arcs }
+    ensures { IsTableAnew summary.now.net (F.rows_of summary.now.family summary.now.net) summary.now.bids summary.now.node number table.old table.new }
+{
+    allow_arcs(summary, number, table.graph, &mut table.arcs);
+    table.forced = has_yes(summary, number);
+}
+
+/// Brings the tables of all bids to a node.
+pub(crate) fn allow_all<F: RowFamily>(
+    alloc: Global,
+    inst: Instance<'_>,
+    rows: &F,
+    node: &Node,
+    kept: &mut ArcTables<'_, F::Row>,
+) -> Result<(), NoMemory>
+    requires few { length inst.bids.now ≤ 1000 }
+    requires node { IsNode inst.net.now (length inst.bids.now) node.now }
+    requires tables { (before : List Decision) × AreTables (setting inst.net.now (F.rows_of rows.now inst.net.now) (F.rows_used rows.now inst.net.now) inst.bids.now before) (length inst.bids.now) kept.old.numbering.rows.items kept.old.tables.items }
+    ensures numbering { OnOk result (kept.new.numbering ≡ kept.old.numbering) }
+    ensures tables { OnOk result (AreTables (setting inst.entry.net.now (F.rows_of rows.now inst.entry.net.now) (F.rows_used rows.now inst.entry.net.now) inst.entry.bids.now node.now) (length inst.entry.bids.now) kept.old.numbering.rows.items kept.new.tables.items) }
+{
+    let _ = inst.net.track_count();
+    let summary = Summary::new(alloc, inst, rows, node)?;
+    let bids = inst.bids;
+    for number in 0..bids.len() {
+        allow_table(&summary, number as u32, &mut kept.tables[number]);
+    }
+    Ok(())
+}
