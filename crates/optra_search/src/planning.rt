@@ -15,6 +15,7 @@ use crate::{Limits, Plan, Repairer};
 use optra_graph::Graphs;
 use optra_network::{Cents, NoMemory};
 use optra_node::Node;
+use optra_prices::keeping::keep_arcs;
 use optra_walk::{Choice, Instance, RowFamily};
 use std::alloc::Global;
 
@@ -81,7 +82,8 @@ fn plan_with<F: RowFamily, G: Graphs, P: Repairer<F, G>>(
 {
     let _ = inst.net.track_count();
     let first = first_search(alloc, inst)?;
-    let last = take_turns(alloc, inst, graphs, rows, limits, repairer, first)?;
+    let kept = keep_arcs(alloc, inst, graphs, rows)?;
+    let last = take_turns(alloc, inst, graphs, rows, limits, repairer, kept, first)?;
     let closed = close_all(alloc, inst, graphs, rows, last)?;
     Ok(finish(closed))
 }

@@ -5,6 +5,7 @@ ghost use Rattle.optra_walk.specs.Choices.{IsChoice, revenue_of};
 ghost use Rattle.optra_node.specs.Nodes.{IsNode};
 ghost use Rattle.optra_node.specs.Duals.{whole_cents};
 ghost use Rattle.optra_prices.specs.Deads.{IsDeadAs};
+ghost use Rattle.optra_prices.specs.Keepings.{AreKept};
 ghost use Rattle.optra_prices.specs.Paths.{IsPathResult};
 ghost use Rattle.optra_prices.specs.Steps.{AreProper};
 ghost use Rattle.optra_search.specs.Planner.{IsBetter};
@@ -20,7 +21,8 @@ use crate::{Limits, Repairer};
 use optra_graph::Graphs;
 use optra_network::{Cents, NoMemory};
 use optra_node::{Node, Prices};
-use optra_prices::{Dual, Priced, price_path, step};
+use optra_prices::keeping::{ArcTables, price_path_over};
+use optra_prices::{Dual, Priced, step};
 use optra_walk::{Choice, Instance, Leg, RowFamily, Walk};
 use std::alloc::Global;
 
@@ -81,36 +83,36 @@ fn outcome<F: RowFamily, G: Graphs>(
     Ok(found)
 }
 
-/// The result of the price path of the node that was entered.
-fn path_result<F: RowFamily, G: Graphs>(
+/// The result of the price path of the node that was entered, and the tables of arcs over which it ran.
+fn path_result<'g, F: RowFamily>(
     alloc: Global,
     inst: Instance<'_>,
-    graphs: &G,
     rows: &F,
     steps: u32,
+    kept: ArcTables<'g, F::Row>,
     search: &Search<F::Row>,
     start: &Option<Prices<F::Row>>,
-) -> Result<Priced<F::Row>, NoMemory>
+) -> Result<(Priced<F::Row>, ArcTables<'g, F::Row>), NoMemory>
     requires few { length inst.bids.now ≤ 1000 }
     requires node { IsNode inst.net.now (length inst.bids.now) search.now.node }
-    requires network { G.network graphs.now ≡ inst.net.now }
-    requires held { All (λ bid. Contains (G.held graphs.now) bid.path) inst.bids.now }
+    requires kept { AreKept F.Row.cmp inst.net.now (F.rows_of rows.now inst.net.now) (F.rows_used rows.now inst.net.now) inst.bids.now kept }
     requires start { AreProper F.Row.cmp (F.rows_of rows.now inst.net.now) (unwrap_or start.now (start_below (front search.now.waiting.items))) }
-    ensures { IfOk result (λ priced. IsPathResult F.Row.cmp inst.entry.net.now (F.rows_of rows.now inst.entry.net.now) inst.entry.bids.now search.now.node (unwrap_or start.now (start_below (front search.now.waiting.items))) steps search.now.revenue priced) }
+    ensures path { IfOk result (λ both. IsPathResult F.Row.cmp inst.entry.net.now (F.rows_of rows.now inst.entry.net.now) inst.entry.bids.now search.now.node (unwrap_or start.now (start_below (front search.now.waiting.items))) steps search.now.revenue both.0) }
+    ensures kept { IfOk result (λ both. AreKept F.Row.cmp inst.entry.net.now (F.rows_of rows.now inst.entry.net.now) (F.rows_used rows.now inst.entry.net.now) inst.entry.bids.now both.1) }
 {
     let zero = zero_prices(alloc);
     let from = start_of(start, &search.waiting, &zero);
-    let priced = price_path(
+    let (kept, priced) = price_path_over(
         alloc,
         inst,
-        graphs,
         rows,
         &search.node,
+        kept,
         from,
         steps,
         search.revenue,
     )?;
-    Ok(priced)
+    Ok((priced, kept))
 }
 
 /// Counts the node, and takes the repaired choice as the incumbent where it earns more.
@@ -145,27 +147,30 @@ fn improve<R>(inst: Instance<'_>, search: Search<R>, repaired: Choice) -> Search
 }
 
 /// The turn of an entered node that is not dead. Its price path runs from its start prices with the incumbent's revenue,
-/// repair may better the incumbent, and the node becomes a leaf or is split.
-pub(crate) fn price_node<F: RowFamily, G: Graphs, P: Repairer<F, G>>(
+/// repair may better the incumbent, and the node becomes a leaf or is split. The tables of arcs are handed back.
+pub(crate) fn price_node<'g, F: RowFamily, G: Graphs, P: Repairer<F, G>>(
     alloc: Global,
     inst: Instance<'_>,
     graphs: &G,
     rows: &F,
     limits: Limits,
     repairer: &P,
+    kept: ArcTables<'g, F::Row>,
     search: Search<F::Row>,
     start: Option<Prices<F::Row>>,
-) -> Result<Search<F::Row>, NoMemory>
+) -> Result<(Search<F::Row>, ArcTables<'g, F::Row>), NoMemory>
     requires instance { IsInstance inst.net.now inst.bids.now }
     requires network { G.network graphs.now ≡ inst.net.now }
     requires held { All (λ bid. Contains (G.held graphs.now) bid.path) inst.bids.now }
+    requires kept { AreKept F.Row.cmp inst.net.now (F.rows_of rows.now inst.net.now) (F.rows_used rows.now inst.net.now) inst.bids.now kept }
     requires entered { IsEntered F.Row.cmp inst.net.now (F.rows_of rows.now inst.net.now) inst.bids.now limits.steps limits.budget start (parts_of search) }
     requires lives { IsDeadAs F.Row.cmp inst.net.now (F.rows_of rows.now inst.net.now) inst.bids.now search.node None }
-    ensures reached { IfOk result (λ after. IsReached F.Row.cmp inst.entry.net.now (F.rows_of rows.now inst.entry.net.now) inst.entry.bids.now limits.steps limits.budget (parts_of after)) }
-    ensures count { IfOk result (λ after. after.count ≡ search.count + 1) }
+    ensures reached { IfOk result (λ both. IsReached F.Row.cmp inst.entry.net.now (F.rows_of rows.now inst.entry.net.now) inst.entry.bids.now limits.steps limits.budget (parts_of both.0)) }
+    ensures count { IfOk result (λ both. both.0.count ≡ search.count + 1) }
+    ensures kept { IfOk result (λ both. AreKept F.Row.cmp inst.entry.net.now (F.rows_of rows.now inst.entry.net.now) (F.rows_used rows.now inst.entry.net.now) inst.entry.bids.now both.1) }
 {
     let _ = inst.net.track_count();
-    let priced = path_result(alloc, inst, graphs, rows, limits.steps, &search, &start)?;
+    let (priced, kept) = path_result(alloc, inst, rows, limits.steps, kept, &search, &start)?;
     let Priced { prices, dual } = priced;
     let repaired = repairer.repair(alloc, inst, graphs, rows, &search.node, &dual)?;
     let search = improve(inst, search, repaired);
@@ -180,5 +185,5 @@ pub(crate) fn price_node<F: RowFamily, G: Graphs, P: Repairer<F, G>>(
     )?;
     let cents = whole_cents(dual.value);
     let after = close_or_split(search, split, prices, cents)?;
-    Ok(after)
+    Ok((after, kept))
 }

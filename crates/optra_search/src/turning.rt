@@ -1,6 +1,7 @@
 //! Turns: from the root to a state in which no node waits or the budget is spent.
 ghost use Rattle.std.specs.Prelude.{◌≡◌, ◌+◌, ◌<◌, ◌-◌, ◌^◌, ◌++◌, ◌∷◌, [], All, Contains, IfOk};
 ghost use Rattle.optra_bid.specs.Instances.{IsInstance};
+ghost use Rattle.optra_prices.specs.Keepings.{AreKept};
 ghost use Rattle.optra_search.specs.Planner.{IsOver, dead_item};
 ghost use Rattle.optra_search.specs.Openings.{state_of};
 ghost use Rattle.optra_search.specs.Searches.{IsReached};
@@ -14,6 +15,7 @@ use optra_graph::Graphs;
 use optra_network::NoMemory;
 use optra_prices::Dead;
 use optra_prices::deads::dead;
+use optra_prices::keeping::ArcTables;
 use optra_walk::{Instance, RowFamily};
 use std::alloc::Global;
 
@@ -28,24 +30,27 @@ fn end_dead<R: Drop>(search: Search<R>, reason: Dead<R>) -> Result<Search<R>, No
     Ok(search)
 }
 
-/// One turn: the node that was on top of the stack is entered and becomes an item.
-fn turn<F: RowFamily, G: Graphs, P: Repairer<F, G>>(
+/// One turn: the node that was on top of the stack is entered and becomes an item. The tables of arcs are handed back.
+fn turn<'g, F: RowFamily, G: Graphs, P: Repairer<F, G>>(
     alloc: Global,
     inst: Instance<'_>,
     graphs: &G,
     rows: &F,
     limits: Limits,
     repairer: &P,
+    kept: ArcTables<'g, F::Row>,
     search: Search<F::Row>,
     top: Waiting<F::Row>,
-) -> Result<Search<F::Row>, NoMemory>
+) -> Result<(Search<F::Row>, ArcTables<'g, F::Row>), NoMemory>
     requires instance { IsInstance inst.net.now inst.bids.now }
     requires network { G.network graphs.now ≡ inst.net.now }
     requires held { All (λ bid. Contains (G.held graphs.now) bid.path) inst.bids.now }
+    requires kept { AreKept F.Row.cmp inst.net.now (F.rows_of rows.now inst.net.now) (F.rows_used rows.now inst.net.now) inst.bids.now kept }
     requires below { search.count < limits.budget }
     requires reached { IsReached F.Row.cmp inst.net.now (F.rows_of rows.now inst.net.now) inst.bids.now limits.steps limits.budget (record (parts_of search) { waiting = search.waiting.items ++ top ∷ [] }) }
-    ensures reached { IfOk result (λ after. IsReached F.Row.cmp inst.entry.net.now (F.rows_of rows.now inst.entry.net.now) inst.entry.bids.now limits.steps limits.budget (parts_of after)) }
-    ensures count { IfOk result (λ after. after.count ≡ search.count + 1) }
+    ensures reached { IfOk result (λ both. IsReached F.Row.cmp inst.entry.net.now (F.rows_of rows.now inst.entry.net.now) inst.entry.bids.now limits.steps limits.budget (parts_of both.0)) }
+    ensures count { IfOk result (λ both. both.0.count ≡ search.count + 1) }
+    ensures kept { IfOk result (λ both. AreKept F.Row.cmp inst.entry.net.now (F.rows_of rows.now inst.entry.net.now) (F.rows_used rows.now inst.entry.net.now) inst.entry.bids.now both.1) }
 {
     let _ = inst.net.track_count();
     let mut search = search;
@@ -58,16 +63,18 @@ fn turn<F: RowFamily, G: Graphs, P: Repairer<F, G>>(
     match dead(alloc, inst, graphs, rows, &search.node)? {
         Some(reason) => {
             let after = end_dead(search, reason)?;
-            Ok(after)
+            Ok((after, kept))
         }
         None => {
-            let after = price_node(alloc, inst, graphs, rows, limits, repairer, search, start)?;
-            Ok(after)
+            let both = price_node(
+                alloc, inst, graphs, rows, limits, repairer, kept, search, start,
+            )?;
+            Ok(both)
         }
     }
 }
 
-/// Turns while a node waits and the count is below the budget.
+/// Turns while a node waits and the count is below the budget, over the same tables of arcs at each node.
 pub(crate) fn take_turns<F: RowFamily, G: Graphs, P: Repairer<F, G>>(
     alloc: Global,
     inst: Instance<'_>,
@@ -75,22 +82,29 @@ pub(crate) fn take_turns<F: RowFamily, G: Graphs, P: Repairer<F, G>>(
     rows: &F,
     limits: Limits,
     repairer: &P,
+    kept: ArcTables<'_, F::Row>,
     search: Search<F::Row>,
 ) -> Result<Search<F::Row>, NoMemory>
     requires instance { IsInstance inst.net.now inst.bids.now }
     requires network { G.network graphs.now ≡ inst.net.now }
     requires held { All (λ bid. Contains (G.held graphs.now) bid.path) inst.bids.now }
+    requires kept { AreKept F.Row.cmp inst.net.now (F.rows_of rows.now inst.net.now) (F.rows_used rows.now inst.net.now) inst.bids.now kept }
     requires first { search.count ≡ 0 }
     requires reached { IsReached F.Row.cmp inst.net.now (F.rows_of rows.now inst.net.now) inst.bids.now limits.steps limits.budget (parts_of search) }
     ensures reached { IfOk result (λ after. IsReached F.Row.cmp inst.entry.net.now (F.rows_of rows.now inst.entry.net.now) inst.entry.bids.now limits.steps limits.budget (parts_of after)) }
     ensures over { IfOk result (λ after. IsOver limits.budget (state_of after.node after.waiting.items after.items.items after.incumbent after.count)) }
 {
     let mut search = search;
+    let mut kept = kept;
     'turns: for _taken in 0..limits.budget {
         let Some(top) = search.waiting.pop() else {
             return Ok(search);
         };
-        search = turn(alloc, inst, graphs, rows, limits, repairer, search, top)?;
+        let both = turn(
+            alloc, inst, graphs, rows, limits, repairer, kept, search, top,
+        )?;
+        search = both.0;
+        kept = both.1;
     }
     Ok(search)
 }

@@ -30,19 +30,19 @@ pub repair-requires-clause-terms : goal.repair-requires-clause-terms
 repair-requires-clause-terms g c =
     let net = c.args.inst.net.now in
     priced_terms g.F.Row.Ord.cmp net c.track_count.ensures.proper (g.F.RowFamily.rows_of c.args.rows.now net) c.args.inst.bids.now c.args.limits.steps c.args.limits.budget c.args.start (parts_of c.args.search) c.requires.entered c.requires.lives
-    c.in_ok-priced.priced c.in_ok-priced.ensures
+    c.in_ok-priced.priced c.in_ok-priced.ensures.path
 
 pub repair-requires-clause-replies : goal.repair-requires-clause-replies
 repair-requires-clause-replies g c =
     let net = c.args.inst.net.now in
     priced_replies g.F.Row.Ord.cmp net c.track_count.ensures.proper (g.F.RowFamily.rows_of c.args.rows.now net) c.args.inst.bids.now c.args.limits.steps c.args.limits.budget c.args.start (parts_of c.args.search) c.requires.entered c.requires.lives
-    c.in_ok-priced.priced c.in_ok-priced.ensures
+    c.in_ok-priced.priced c.in_ok-priced.ensures.path
 
 pub improve-search-requires-clause-choice : goal.improve-search-requires-clause-choice
 improve-search-requires-clause-choice g c =
     let net = c.args.inst.net.now in
     repaired_choice g.F.Row.Ord.cmp net c.track_count.ensures.proper (g.F.RowFamily.rows_of c.args.rows.now net) c.args.inst.bids.now c.args.limits.steps c.args.limits.budget c.args.start (parts_of c.args.search) c.requires.entered c.requires.lives
-    c.in_ok-priced.priced c.in_ok-priced.ensures c.in_ok-repaired.repaired c.in_ok-repaired.ensures
+    c.in_ok-priced.priced c.in_ok-priced.ensures.path c.in_ok-repaired.repaired c.in_ok-repaired.ensures
 
 pub outcome-requires-clause-node : goal.outcome-requires-clause-node
 outcome-requires-clause-node g c =
@@ -54,13 +54,13 @@ pub outcome-requires-clause-replies : goal.outcome-requires-clause-replies
 outcome-requires-clause-replies g c =
     let net = c.args.inst.net.now in
     priced_replies g.F.Row.Ord.cmp net c.track_count.ensures.proper (g.F.RowFamily.rows_of c.args.rows.now net) c.args.inst.bids.now c.args.limits.steps c.args.limits.budget c.args.start (parts_of c.args.search) c.requires.entered c.requires.lives
-    c.in_ok-priced.priced c.in_ok-priced.ensures
+    c.in_ok-priced.priced c.in_ok-priced.ensures.path
 
 pub outcome-requires-clause-closes : goal.outcome-requires-clause-closes
 outcome-requires-clause-closes g c =
     let net = c.args.inst.net.now in
     let h = priced_closes g.F.Row.Ord.cmp net c.track_count.ensures.proper (g.F.RowFamily.rows_of c.args.rows.now net) c.args.inst.bids.now c.args.limits.steps c.args.limits.budget c.args.start (parts_of c.args.search) c.requires.entered c.requires.lives
-    c.in_ok-priced.priced c.in_ok-priced.ensures c.in_ok-repaired.repaired c.in_ok-repaired.ensures (parts_of c.improve-search.result) c.improve-search.ensures.parts c.improve-search.ensures.better c.improve-search.ensures.earned in
+    c.in_ok-priced.priced c.in_ok-priced.ensures.path c.in_ok-repaired.repaired c.in_ok-repaired.ensures (parts_of c.improve-search.result) c.improve-search.ensures.parts c.improve-search.ensures.better c.improve-search.ensures.earned in
     let money : FitsSigned w64 c.improve-search.result.revenue = search rules in
     simp to_z-of_z h
 
@@ -77,6 +77,6 @@ returns g c =
     let cents_is : c.whole_cents-cents.result ≡ whole_cents priced.dual.value = (simp to_z-of_z at c.whole_cents-cents.ensures) ∙ ap (λ (v : Valuation). whole_cents v.value) c.dual.view_is in
     let after_is : after ≡ settled_as more split priced.prices (whole_cents priced.dual.value) = (simp to_z-of_z at c.in_ok-after.ensures) ∙ ap (settled_as more split priced.prices) cents_is in
     let t = priced_next g.F.Row.Ord.cmp net c.track_count.ensures.proper (g.F.RowFamily.rows_of c.args.rows.now net) c.args.inst.bids.now c.args.limits.steps c.args.limits.budget c.args.start (parts_of c.args.search) c.requires.entered c.requires.lives
-    priced c.in_ok-priced.ensures c.in_ok-repaired.repaired c.in_ok-repaired.ensures more c.improve-search.ensures.parts c.improve-search.ensures.better c.improve-search.ensures.earned
+    priced c.in_ok-priced.ensures.path c.in_ok-repaired.repaired c.in_ok-repaired.ensures more c.improve-search.ensures.parts c.improve-search.ensures.better c.improve-search.ensures.earned
     split (simp to_z-of_z at c.in_ok-split.ensures) after after_is in
-    record { reached = t.0; count = t.1 }
+    record { reached = t.0; count = t.1; kept = c.in_ok-priced.ensures.kept }
