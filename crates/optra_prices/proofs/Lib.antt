@@ -25,3 +25,4 @@ pub mod MoveLemmas
 pub mod ListingLemmas
 pub mod LoadingLemmas
 pub mod AllowLemmas
+pub mod RoomLemmas

@@ -1,5 +1,5 @@
 -- Tables of arcs that are brought from one node to another.
-use Rattle.std.specs.Prelude.{◌≡◌, ℕ, List, length, Some, slice_get}
+use Rattle.std.specs.Prelude.{◌≡◌, ℕ, Bool, true, List, length, Some, slice_get}
 use Rattle.optra_network.specs.Net.{Net}
 use Rattle.optra_bid.specs.declared.bids.Bid.{Bid}
 use Rattle.optra_walk.specs.Families.{Rows}
@@ -27,3 +27,8 @@ pub record IsTableAnew {R : Type 0} (net : Net) (rows : Rows R) (bids : List Bid
   pub groups : new.groups ≡ old.groups
   pub arcs : AreToldAnew net rows bids node number old.graph.now old.arcs.items new.arcs.items
   pub forced_is : new.forced ≡ has_yes node number
+
+-- arcs of one group may be taken alike, and those of the group without rows may be taken
+pub record GroupsTell {R : Type 0} (net : Net) (rows : Rows R) (bids : List Bid) (node : List Decision) (number : ℕ) (t : Timed) (arcs : List ArcTerm) : Type 0 where
+  pub same : (i j : ℕ) (a b : ArcTerm) (mark : Bool) → slice_get arcs i ≡ Some a → slice_get arcs j ≡ Some b → a.group ≡ b.group → IsMark net rows bids node number t i mark → IsMark net rows bids node number t j mark
+  pub none : (j : ℕ) (b : ArcTerm) → slice_get arcs j ≡ Some b → b.group ≡ 0 → IsMark net rows bids node number t j true

@@ -1,11 +1,15 @@
-use Rattle.std.proofs.Common.{◌≡◌, ◌<◌, ◌≤◌, length, Some, slice_get, refl, sym, subst, arith}
+use Rattle.std.proofs.Common.{◌≡◌, ◌<◌, ◌≤◌, [], length, Some, slice_get, refl, sym, subst, arith}
 use Rattle.std.proofs.lemmas.Option.{slice_get_read}
-use Rattle.optra_node.specs.Summaries.{Summed}
+use Rattle.optra_network.specs.declared.TypeId.{TypeId}
+use Rattle.optra_walk.specs.declared.Leg.{Leg}
+use Rattle.optra_walk.specs.Families.{IsUsable}
+use Rattle.optra_node.specs.Summaries.{Summed, decisions_for}
 use Rattle.optra_prices.specs.Marks.{HasFormedLegs}
-use Rattle.optra_prices.specs.Allowing.{IsTableAnew}
+use Rattle.optra_prices.specs.Allowing.{IsTableAnew, GroupsTell}
 use Rattle.optra_prices.proofs.ListLemmas.{some_at}
 use Rattle.optra_prices.proofs.MarkLemmas.{formed_legs}
 use Rattle.optra_prices.proofs.AllowLemmas.{tables_first, tables_more, tables_all}
+use Rattle.optra_prices.proofs.RoomLemmas.{groups_tell}
 use Rattle.optra_prices.proofs.allowing.allow_all.Goals as goal
 
 pub loop-number-init : goal.loop-number-init
@@ -47,6 +51,29 @@ allow_table-requires-clause-count g c =
     let within : n < length tables = omega (arith, l, count) in
     let at : slice_get tables n ≡ Some table = slice_get_read tables (length tables) n table refl within c.index_mut.ensures.value in
     (mixed.left n bid.0 table (omega arith) bid.1 at).count
+
+pub allow_table-requires-clause-tell : goal.allow_table-requires-clause-tell
+allow_table-requires-clause-tell g c =
+    let net = c.args.inst.net.now in
+    let f = c.args.rows.now in
+    let rows = g.F.RowFamily.rows_of f net in
+    let used = g.F.RowFamily.rows_used f net in
+    let proper = c.track_count.ensures.proper in
+    let bids = c.args.inst.bids.now in
+    let tables = c.loop-number.kept.tables.items in
+    let n = c.loop-number.number in
+    let mixed = c.loop-number.invariant.tables.1 in
+    let l : n < length bids = omega arith in
+    let bid = some_at bids n l in
+    let table = c.index_mut.result.now in
+    let count = mixed.count_is in
+    let within : n < length tables = omega (arith, l, count) in
+    let at : slice_get tables n ≡ Some table = slice_get_read tables (length tables) n table refl within c.index_mut.ensures.value in
+    let is = mixed.left n bid.0 table (omega arith) bid.1 at in
+    let lists = λ (kind : TypeId) (leg : Leg) (usable : IsUsable net kind leg). g.met.F.RowFamily.lists_rows f net kind leg proper usable in
+    subst (λ (x : Summed g.row.F.Denot). decisions_for x.node n ≡ [] → GroupsTell x.net (g.F.RowFamily.rows_of x.family x.net) x.bids x.node n table.graph.now table.arcs.items) (sym c.in_ok-summary.ensures)
+    (λ none. groups_tell g.F.Row.Ord.cmp net proper rows used lists bids c.loop-number.invariant.tables.0 c.args.node.now n bid.0 bid.1 table.graph.now is.graph none c.args.kept.now.numbering.rows.items table.groups.starts.items
+    table.groups.touches.items is.groups table.arcs.items is.count is.terms)
 
 pub loop-number-preserved : goal.loop-number-preserved
 loop-number-preserved g c =
