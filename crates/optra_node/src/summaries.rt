@@ -108,8 +108,9 @@ impl<'a, F: RowFamily> Summary<'a, F> {
         start_ok(self.own(bid), bid, minute)
     }
 
-    /// Whether each decision for the bid lets its walk have the leg.
-    fn let_by(&self, bid: u32, leg: Leg) -> bool
+    /// Whether each decision for the bid lets its walk have the leg. It is what [`Summary::leg_ok`] asks beside whether the
+    /// leg is blocked.
+    pub fn let_by(&self, bid: u32, leg: Leg) -> bool
         requires { bid < length self.now.bids }
         ensures { IsTrue result ↔ IsLetBy self.now.net self.now.node bid (kind_at self.now.bids bid) leg }
     {

@@ -37,6 +37,7 @@ pub record IsCourse {R : Type 0} (cmp : R → R → Ordering) (s : Setting R) (c
   pub prices : All IsRowPrice c.prices.items
   pub stand : AllStand c.tables.items c.prices.items c.standings.items
   pub use_count : length c.uses.items ≡ length c.numbering.rows.items
+  pub rest : (old : List ℤ) × AllStand c.tables.items old c.resting.items
 
 -- the prices are proper, and the dual value, the terms and the replies are those at the prices
 pub record IsPriced {R : Type 0} (cmp : R → R → Ordering) (s : Setting R) (c : Course R) : Type 0 where

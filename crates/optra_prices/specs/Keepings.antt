@@ -1,5 +1,5 @@
--- Tables of arcs that are kept from node to node.
-use Rattle.std.specs.Prelude.{◌≡◌, true, List, length, All}
+-- Tables of arcs that are kept from node to node, and what is known of the bids.
+use Rattle.std.specs.Prelude.{◌≡◌, ◌<◌, ℕ, ℤ, Bool, true, false, List, length, take, All, Option, None, Some, slice_get, slice_index_or}
 use Rattle.std.specs.declared.cmp.Ordering.{Ordering}
 use Rattle.optra_network.specs.Net.{Net}
 use Rattle.optra_network.specs.declared.TypeId.{TypeId}
@@ -9,12 +9,37 @@ use Rattle.optra_walk.specs.Families.{Rows}
 use Rattle.optra_node.specs.declared.Decision.{Decision}
 use Rattle.optra_prices.specs.Tables.{IsNumbering}
 use Rattle.optra_prices.specs.Terms.{setting}
-use Rattle.optra_prices.specs.Standings.{AreTables}
+use Rattle.optra_prices.specs.Standings.{AreTables, AllStand}
 use Rattle.optra_prices.specs.declared.keeping.ArcTables.{ArcTables}
+use Rattle.optra_prices.specs.declared.numbering.BidTable.{BidTable}
+use Rattle.optra_prices.specs.declared.numbering.Standing.{Standing}
 
--- rows by number, and a table of the arcs of each bid at some node
-pub record AreKept {R : Type 0} (cmp : R → R → Ordering) (net : Net) (rows : Rows R) (used : TypeId → Leg → List R) (bids : List Bid) (kept : ArcTables R) : Type 0 where
-  pub node : List Decision
+-- rows by number, a table of the arcs of each bid at the node, and what is known of each bid at two lists of prices
+pub record AreKeptAt {R : Type 0} (cmp : R → R → Ordering) (net : Net) (rows : Rows R) (used : TypeId → Leg → List R) (bids : List Bid) (node : List Decision) (kept : ArcTables R) : Type 0 where
   pub numbering : IsNumbering cmp kept.numbering.numbers kept.numbering.rows.items
   pub rows_are : All (λ row. rows.is_row row ≡ true) kept.numbering.rows.items
   pub tables_are : AreTables (setting net rows used bids node) (length bids) kept.numbering.rows.items kept.tables.items
+  pub first_stand : (old : List ℤ) × AllStand kept.tables.items old kept.first.items
+  pub last_stand : (old : List ℤ) × AllStand kept.tables.items old kept.last.items
+
+-- the same at some node
+abbrev pub AreKept : {R : Type 0} → (R → R → Ordering) → Net → Rows R → (TypeId → Leg → List R) → List Bid → ArcTables R → Type 0
+AreKept cmp net rows used bids kept = (node : List Decision) × AreKeptAt cmp net rows used bids node kept
+
+-- a table was brought to a node: it has the graph and the groups that it had; where nothing is said to have changed, nothing has
+pub record IsBrought (changed : Bool) (old new : BidTable) : Type 0 where
+  pub graph : new.graph.now ≡ old.graph.now
+  pub groups : new.groups ≡ old.groups
+  pub arcs : changed ≡ false → new.arcs.items ≡ old.arcs.items
+  pub forced : changed ≡ false → new.forced ≡ old.forced
+
+-- tables were brought to a node, with what has changed of each
+pub record AreBrought (changed : List Bool) (old new : List BidTable) : Type 0 where
+  pub count_is : length new ≡ length old
+  pub changed_count : length changed ≡ length old
+  pub each : (number : ℕ) (c : Bool) (before after : BidTable) → slice_get changed number ≡ Some c → slice_get old number ≡ Some before → slice_get new number ≡ Some after → IsBrought c before after
+
+-- the first of the bids that is stuck, by what is known of them; none where none is
+abbrev pub IsFirstStuckIn : List Standing → Option ℕ → Type 0
+IsFirstStuckIn standings None = All (λ standing. standing.stuck ≡ false) standings
+IsFirstStuckIn standings (Some number) = ((d : Standing) → (slice_index_or standings number d).stuck ≡ true) × (number < length standings) × All (λ standing. standing.stuck ≡ false) (take number standings)

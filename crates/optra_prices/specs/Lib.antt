@@ -14,6 +14,7 @@ pub mod Holdings
 pub mod FiveRows
 pub mod Courses
 pub mod Keepings
+pub mod Rooms
 pub mod Allowing
 pub mod Following
 pub mod Uses

@@ -18,3 +18,4 @@ pub record HasMoved {R : Type 0} (cmp : R → R → Ordering) (s : Setting R) (c
   pub prices : All IsRowPrice c.prices.items
   pub stood : (old : List ℤ) × AllStand c.tables.items old c.standings.items
   pub use_count : length c.uses.items ≡ length c.numbering.rows.items
+  pub rest : (old : List ℤ) × AllStand c.tables.items old c.resting.items

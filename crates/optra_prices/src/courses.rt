@@ -1,25 +1,24 @@
 //! Prices under way at a node: rows by number, a table for each bid, and what is known of each bid at the prices.
-ghost use Rattle.std.specs.Prelude.{◌≡◌, ◌≤◌, true, [], All, Contains, IfOk, OnOk, length};
+ghost use Rattle.std.specs.Prelude.{◌≡◌, ◌≤◌, [], All, IfOk, OnOk, length};
 ghost use Rattle.optra_node.specs.Nodes.{IsNode};
 ghost use Rattle.optra_prices.specs.Steps.{AreProper, IsStep};
-ghost use Rattle.optra_prices.specs.Tables.{IsNumbering, IsRowPrice};
+ghost use Rattle.optra_prices.specs.Tables.{IsRowPrice};
 ghost use Rattle.optra_prices.specs.Terms.{setting};
-ghost use Rattle.optra_prices.specs.Standings.{AreTables};
+ghost use Rattle.optra_prices.specs.Keepings.{AreKeptAt};
 ghost use Rattle.optra_prices.specs.Moves.{HasMoved};
 ghost use Rattle.optra_prices.specs.Courses.{listed, prices_at, valuation_at, IsCourse, IsPriced, KeepsRows, AreNumbered};
 
 use crate::Priced;
 use crate::duals::{assemble, entries};
 use crate::keeping::ArcTables;
-use crate::listing::{capacities_of, capacity_sum, in_order, list_prices, number_rows};
+use crate::listing::{capacities_of, capacity_sum, in_order, list_prices};
 use crate::loading::add_uses;
 use crate::moving::{clear_prices, clear_uses, move_prices};
 use crate::numbering::{BidTable, Numbering, Standing};
-use crate::sessions::{first_standings, make_tables, settle};
+use crate::sessions::settle;
 use crate::stepping::step_length;
 use crate::valuing::{dual_value, put_prices};
 use optra_dag::Buffers;
-use optra_graph::Graphs;
 use optra_network::NoMemory;
 use optra_node::{Node, Prices, prices_by_used_rows, tests_tell_allowed};
 use optra_walk::{Instance, RowFamily};
@@ -40,11 +39,15 @@ pub(crate) struct Course<'g, R: Copy + Ord> {
     /// How much the replies use of rows, by number, while a step is made.
     pub(crate) uses: Vec<u64>,
     pub(crate) standings: Vec<Standing>,
+    /// What is known of each bid at other prices, while the course is at these.
+    pub(crate) resting: Vec<Standing>,
+    /// Whether the course has left the zero prices, at which it set out.
+    pub(crate) away: bool,
     /// The dual value at the prices.
     pub(crate) value: i128,
 }
 
-/// The node at zero prices, over tables of arcs at the node.
+/// The node at zero prices, over tables that are at the node.
 pub(crate) fn set_out_over<'g, F: RowFamily>(
     alloc: Global,
     inst: Instance<'_>,
@@ -53,9 +56,7 @@ pub(crate) fn set_out_over<'g, F: RowFamily>(
     kept: ArcTables<'g, F::Row>,
 ) -> Result<Course<'g, F::Row>, NoMemory>
     requires few { length inst.bids.now ≤ 1000 }
-    requires numbering { IsNumbering F.Row.cmp kept.numbering.numbers kept.numbering.rows.items }
-    requires rows { All (λ row. (F.rows_of rows.now inst.net.now).is_row row ≡ true) kept.numbering.rows.items }
-    requires tables { AreTables (setting inst.net.now (F.rows_of rows.now inst.net.now) (F.rows_used rows.now inst.net.now) inst.bids.now node.now) (length inst.bids.now) kept.numbering.rows.items kept.tables.items }
+    requires kept { AreKeptAt F.Row.cmp inst.net.now (F.rows_of rows.now inst.net.now) (F.rows_used rows.now inst.net.now) inst.bids.now node.now kept }
     ensures priced { IfOk result (λ course. IsPriced F.Row.cmp (setting inst.entry.net.now (F.rows_of rows.now inst.entry.net.now) (F.rows_used rows.now inst.entry.net.now) inst.entry.bids.now node.now) course) }
     ensures zero { IfOk result (λ course. prices_at course ≡ []) }
     ensures keeps { IfOk result (λ course. course.numbering ≡ kept.entry.numbering) }
@@ -63,13 +64,18 @@ pub(crate) fn set_out_over<'g, F: RowFamily>(
     let _ = inst.net.track_count();
     tests_tell_allowed(inst, rows);
     prices_by_used_rows(inst, rows);
-    let ArcTables { numbering, tables } = kept;
+    let ArcTables {
+        numbering,
+        tables,
+        mut buffers,
+        first: mut standings,
+        last: resting,
+    } = kept;
     let order = in_order(alloc, &numbering.numbers)?;
     let capacities = capacities_of(alloc, inst.net, rows, &numbering.rows)?;
     let prices = vec![in alloc; 0; numbering.rows.len()]?;
     let uses = vec![in alloc; 0; numbering.rows.len()]?;
-    let mut buffers = Buffers::new(alloc);
-    let standings = first_standings(alloc, &mut buffers, &tables, &prices)?;
+    settle(&mut buffers, &tables, &prices, &mut standings)?;
     let value = dual_value(0, &standings);
     let _count = numbering.numbers.len();
     Ok(Course {
@@ -81,32 +87,43 @@ pub(crate) fn set_out_over<'g, F: RowFamily>(
         prices,
         uses,
         standings,
+        resting,
+        away: false,
         value,
     })
 }
 
-/// The node at zero prices. Each row that a bid's arc touches gets a number, and each row of `start`.
-pub(crate) fn set_out<'g, F: RowFamily, G: Graphs>(
-    alloc: Global,
+/// The tables of a course that is done.
+pub(crate) fn put_back<'g, F: RowFamily>(
     inst: Instance<'_>,
-    graphs: &'g G,
     rows: &F,
     node: &Node,
-    start: &Prices<F::Row>,
-) -> Result<Course<'g, F::Row>, NoMemory>
-    requires few { length inst.bids.now ≤ 1000 }
-    requires node { IsNode inst.net.now (length inst.bids.now) node.now }
-    requires network { G.network graphs.now ≡ inst.net.now }
-    requires held { All (λ bid. Contains (G.held graphs.now) bid.path) inst.bids.now }
-    requires start { AreProper F.Row.cmp (F.rows_of rows.now inst.net.now) start.now }
-    ensures priced { IfOk result (λ course. IsPriced F.Row.cmp (setting inst.entry.net.now (F.rows_of rows.now inst.entry.net.now) (F.rows_used rows.now inst.entry.net.now) inst.entry.bids.now node.now) course) }
-    ensures zero { IfOk result (λ course. prices_at course ≡ []) }
-    ensures numbered { IfOk result (λ course. AreNumbered course start.now) }
+    course: Course<'g, F::Row>,
+) -> ArcTables<'g, F::Row>
+    requires { IsCourse F.Row.cmp (setting inst.net.now (F.rows_of rows.now inst.net.now) (F.rows_used rows.now inst.net.now) inst.bids.now node.now) course }
+    ensures { AreKeptAt F.Row.cmp inst.entry.net.now (F.rows_of rows.now inst.entry.net.now) (F.rows_used rows.now inst.entry.net.now) inst.entry.bids.now node.now result }
 {
-    let mut numbering = number_rows(alloc, inst.net, rows, entries(start))?;
-    let tables = make_tables(alloc, inst, graphs, rows, node, &mut numbering)?;
-    let course = set_out_over(alloc, inst, rows, node, ArcTables { numbering, tables })?;
-    Ok(course)
+    let Course {
+        numbering,
+        tables,
+        buffers,
+        standings,
+        resting,
+        away,
+        ..
+    } = course;
+    let (first, last) = if away {
+        (resting, standings)
+    } else {
+        (standings, resting)
+    };
+    ArcTables {
+        numbering,
+        tables,
+        buffers,
+        first,
+        last,
+    }
 }
 
 /// Searches the bids again where prices have changed, and values the node.
@@ -137,7 +154,8 @@ fn arrive<F: RowFamily>(
     Ok(())
 }
 
-/// Goes to listed prices, whose rows have numbers.
+/// Goes from the zero prices to listed ones, whose rows have numbers. What was known of the bids last is brought up to
+/// these prices; what is known of them at zero prices rests.
 pub(crate) fn go_to<F: RowFamily>(
     inst: Instance<'_>,
     rows: &F,
@@ -155,6 +173,8 @@ pub(crate) fn go_to<F: RowFamily>(
     ensures keeps { OnOk result (KeepsRows course.old course.new) }
 {
     let _count = course.numbering.numbers.len();
+    std::mem::swap(&mut course.standings, &mut course.resting);
+    course.away = !course.away;
     clear_prices(&mut course.prices);
     put_prices::<F>(&course.numbering, &mut course.prices, entries(start));
     arrive(inst, rows, node, course)

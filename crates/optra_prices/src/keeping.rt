@@ -1,18 +1,22 @@
-//! Tables of arcs that are kept from node to node: what an arc adds and which rows it touches is the same at all nodes.
-ghost use Rattle.std.specs.Prelude.{◌≡◌, ◌≤◌, All, Contains, IfOk, length};
+//! Tables of arcs that are kept from node to node: what an arc adds and which rows it touches is the same at all nodes, and
+//! so is what is known of a bid of which a node changes nothing.
+ghost use Rattle.std.specs.Prelude.{◌≡◌, ◌≤◌, All, Contains, IfOk, OnOk, length};
 ghost use Rattle.optra_node.specs.Nodes.{IsNode};
+ghost use Rattle.optra_prices.specs.Deads.{IsDeadAs};
+ghost use Rattle.optra_prices.specs.Replies.{IsValuation};
 ghost use Rattle.optra_prices.specs.Steps.{AreProper};
 ghost use Rattle.optra_prices.specs.Paths.{IsPathResult};
-ghost use Rattle.optra_prices.specs.Keepings.{AreKept};
+ghost use Rattle.optra_prices.specs.Keepings.{AreKept, AreKeptAt, IsFirstStuckIn};
 
-use crate::Priced;
 use crate::allowing::allow_all;
-use crate::courses::{Course, set_out_over};
+use crate::courses::{go_to, priced_at, put_back, set_out_over};
 use crate::duals::{entries, no_numbers};
 use crate::listing::number_more;
-use crate::numbering::{BidTable, Numbering};
+use crate::numbering::{BidTable, Numbering, Standing};
 use crate::paths::go_along;
-use crate::sessions::make_tables;
+use crate::sessions::{first_standings, make_tables, renew_all};
+use crate::{Dead, Dual, Priced};
+use optra_dag::Buffers;
 use optra_graph::Graphs;
 use optra_network::{Cents, NoMemory};
 use optra_node::{Node, Prices};
@@ -20,11 +24,15 @@ use optra_walk::{Instance, RowFamily};
 use std::alloc::Global;
 
 /// Rows by number, and for each bid what its arcs add and which rows they touch. They are made once for a plan, and serve
-/// at each of its nodes.
+/// at each of its nodes. What is known of each bid is kept twice: as it was found at zero prices, with which each price
+/// path begins, and as it was found last.
 #[derive(Drop)]
 pub struct ArcTables<'g, R: Copy + Ord> {
     pub(crate) numbering: Numbering<R>,
     pub(crate) tables: Vec<BidTable<'g>>,
+    pub(crate) buffers: Buffers,
+    pub(crate) first: Vec<Standing>,
+    pub(crate) last: Vec<Standing>,
 }
 
 /// The tables of the bids' arcs. It needs at most 1,000 bids, and the graphs of the bids on the instance's network.
@@ -43,23 +51,73 @@ pub fn keep_arcs<'g, F: RowFamily, G: Graphs>(
     let node = Node::root(alloc);
     let mut numbering = no_numbers(alloc);
     let tables = make_tables(alloc, inst, graphs, rows, &node, &mut numbering)?;
-    Ok(ArcTables { numbering, tables })
-}
-
-/// The tables of a course that is done.
-fn put_back<'g, R: Copy + Ord>(course: Course<'g, R>) -> ArcTables<'g, R>
-    ensures numbering { result.numbering ≡ course.entry.numbering }
-    ensures tables { result.tables.items ≡ course.entry.tables.items }
-{
-    let Course {
+    let prices = Vec::new(alloc);
+    let mut buffers = Buffers::new(alloc);
+    let first = first_standings(alloc, &mut buffers, &tables, &prices)?;
+    let last = first_standings(alloc, &mut buffers, &tables, &prices)?;
+    Ok(ArcTables {
         numbering,
         tables,
-        ..
-    } = course;
-    ArcTables { numbering, tables }
+        buffers,
+        first,
+        last,
+    })
 }
 
-/// As [`crate::price_path`], over tables that are kept; the tables are handed back.
+/// Brings the tables to a node. A bid is searched again only where the node changes which of its arcs may be taken, or
+/// whether it has a yes leg; for each other bid what was known of it stands. After `NoMemory`, its only refusal, the tables
+/// serve no more.
+pub fn bring_to<F: RowFamily>(
+    alloc: Global,
+    inst: Instance<'_>,
+    rows: &F,
+    node: &Node,
+    kept: &mut ArcTables<'_, F::Row>,
+) -> Result<(), NoMemory>
+    requires few { length inst.bids.now ≤ 1000 }
+    requires node { IsNode inst.net.now (length inst.bids.now) node.now }
+    requires kept { AreKept F.Row.cmp inst.net.now (F.rows_of rows.now inst.net.now) (F.rows_used rows.now inst.net.now) inst.bids.now kept.old }
+    ensures { OnOk result (AreKeptAt F.Row.cmp inst.entry.net.now (F.rows_of rows.now inst.entry.net.now) (F.rows_used rows.now inst.entry.net.now) inst.entry.bids.now node.now kept.new) }
+{
+    let changed = allow_all(alloc, inst, rows, node, &kept.numbering, &mut kept.tables)?;
+    renew_all(&mut kept.buffers, &kept.tables, &changed, &mut kept.first)?;
+    renew_all(&mut kept.buffers, &kept.tables, &changed, &mut kept.last)?;
+    Ok(())
+}
+
+/// The first bid that has a yes leg and no allowed walk, by what is known of the bids.
+fn first_stuck(standings: &[Standing]) -> Option<u32>
+    requires { length standings.now ≤ 1000 }
+    ensures { IsFirstStuckIn standings.now result }
+{
+    'standings: for (number, standing) in standings.iter().enumerate() {
+        if standing.stuck {
+            return Some(number as u32);
+        }
+    }
+    None
+}
+
+/// As [`crate::deads::dead`], by tables that are at the node.
+pub fn dead_over<F: RowFamily>(
+    inst: Instance<'_>,
+    rows: &F,
+    node: &Node,
+    kept: &ArcTables<'_, F::Row>,
+) -> Option<Dead<F::Row>>
+    requires few { length inst.bids.now ≤ 1000 }
+    requires node { IsNode inst.net.now (length inst.bids.now) node.now }
+    requires kept { AreKeptAt F.Row.cmp inst.net.now (F.rows_of rows.now inst.net.now) (F.rows_used rows.now inst.net.now) inst.bids.now node.now kept.now }
+    ensures { IsDeadAs F.Row.cmp inst.entry.net.now (F.rows_of rows.now inst.entry.net.now) inst.entry.bids.now node.now result }
+{
+    if let Some(row) = node.overfull(inst, rows) {
+        return Some(Dead::Forced { row });
+    }
+    let bid = first_stuck(&kept.first)?;
+    Some(Dead::NoWalk { bid })
+}
+
+/// As [`crate::price_path`], over tables that are at the node; the tables are handed back.
 pub fn price_path_over<'g, F: RowFamily>(
     alloc: Global,
     inst: Instance<'_>,
@@ -72,14 +130,13 @@ pub fn price_path_over<'g, F: RowFamily>(
 ) -> Result<(ArcTables<'g, F::Row>, Priced<F::Row>), NoMemory>
     requires few { length inst.bids.now ≤ 1000 }
     requires node { IsNode inst.net.now (length inst.bids.now) node.now }
-    requires kept { AreKept F.Row.cmp inst.net.now (F.rows_of rows.now inst.net.now) (F.rows_used rows.now inst.net.now) inst.bids.now kept }
+    requires kept { AreKeptAt F.Row.cmp inst.net.now (F.rows_of rows.now inst.net.now) (F.rows_used rows.now inst.net.now) inst.bids.now node.now kept }
     requires start { AreProper F.Row.cmp (F.rows_of rows.now inst.net.now) start.now }
-    ensures kept { IfOk result (λ both. AreKept F.Row.cmp inst.entry.net.now (F.rows_of rows.now inst.entry.net.now) (F.rows_used rows.now inst.entry.net.now) inst.entry.bids.now both.0) }
+    ensures kept { IfOk result (λ both. AreKeptAt F.Row.cmp inst.entry.net.now (F.rows_of rows.now inst.entry.net.now) (F.rows_used rows.now inst.entry.net.now) inst.entry.bids.now node.now both.0) }
     ensures path { IfOk result (λ both. IsPathResult F.Row.cmp inst.entry.net.now (F.rows_of rows.now inst.entry.net.now) inst.entry.bids.now node.now start.now steps incumbent both.1) }
 {
     let mut kept = kept;
     number_more(inst.net, rows, &mut kept.numbering, entries(start))?;
-    allow_all(alloc, inst, rows, node, &mut kept)?;
     let mut course = set_out_over(alloc, inst, rows, node, kept)?;
     let priced = go_along(
         alloc,
@@ -91,5 +148,29 @@ pub fn price_path_over<'g, F: RowFamily>(
         steps,
         incumbent,
     )?;
-    Ok((put_back(course), priced))
+    Ok((put_back(inst, rows, node, course), priced))
+}
+
+/// As [`crate::duals::dual`], over tables that are at the node; the tables are handed back.
+pub fn dual_over<'g, F: RowFamily>(
+    alloc: Global,
+    inst: Instance<'_>,
+    rows: &F,
+    node: &Node,
+    kept: ArcTables<'g, F::Row>,
+    prices: &Prices<F::Row>,
+) -> Result<(ArcTables<'g, F::Row>, Dual), NoMemory>
+    requires few { length inst.bids.now ≤ 1000 }
+    requires node { IsNode inst.net.now (length inst.bids.now) node.now }
+    requires kept { AreKeptAt F.Row.cmp inst.net.now (F.rows_of rows.now inst.net.now) (F.rows_used rows.now inst.net.now) inst.bids.now node.now kept }
+    requires prices { AreProper F.Row.cmp (F.rows_of rows.now inst.net.now) prices.now }
+    ensures kept { IfOk result (λ both. AreKeptAt F.Row.cmp inst.entry.net.now (F.rows_of rows.now inst.entry.net.now) (F.rows_used rows.now inst.entry.net.now) inst.entry.bids.now node.now both.0) }
+    ensures dual { IfOk result (λ both. IsValuation inst.entry.net.now (F.rows_of rows.now inst.entry.net.now) inst.entry.bids.now node.now prices.now both.1) }
+{
+    let mut kept = kept;
+    number_more(inst.net, rows, &mut kept.numbering, entries(prices))?;
+    let mut course = set_out_over(alloc, inst, rows, node, kept)?;
+    go_to(inst, rows, node, &mut course, prices)?;
+    let priced = priced_at(alloc, inst, rows, node, &course)?;
+    Ok((put_back(inst, rows, node, course), priced.dual))
 }

@@ -23,6 +23,7 @@ mod marking;
 mod moving;
 mod numbering;
 mod paths;
+pub mod rooms;
 mod searching;
 mod sessions;
 mod settling;

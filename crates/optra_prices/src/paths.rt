@@ -7,8 +7,9 @@ ghost use Rattle.optra_prices.specs.Courses.{prices_at, IsCourse, IsPriced, AreN
 ghost use Rattle.optra_prices.specs.Paths.{IsPathResult};
 
 use crate::Priced;
-use crate::courses::{Course, go_back, priced_at, set_out};
+use crate::courses::{Course, go_back, priced_at};
 use crate::following::{first_best, follow};
+use crate::keeping::{bring_to, keep_arcs, price_path_over};
 use optra_graph::Graphs;
 use optra_network::{Cents, NoMemory};
 use optra_node::{Node, Prices};
@@ -67,15 +68,8 @@ pub fn price_path<F: RowFamily, G: Graphs>(
     requires start { AreProper F.Row.cmp (F.rows_of rows.now inst.net.now) start.now }
     ensures { IfOk result (λ priced. IsPathResult F.Row.cmp inst.entry.net.now (F.rows_of rows.now inst.entry.net.now) inst.entry.bids.now node.now start.now steps incumbent priced) }
 {
-    let mut course = set_out(alloc, inst, graphs, rows, node, start)?;
-    go_along(
-        alloc,
-        inst,
-        rows,
-        node,
-        &mut course,
-        start,
-        steps,
-        incumbent,
-    )
+    let mut kept = keep_arcs(alloc, inst, graphs, rows)?;
+    bring_to(alloc, inst, rows, node, &mut kept)?;
+    let (_kept, priced) = price_path_over(alloc, inst, rows, node, kept, start, steps, incumbent)?;
+    Ok(priced)
 }

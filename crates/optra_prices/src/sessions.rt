@@ -4,9 +4,11 @@ ghost use Rattle.optra_node.specs.Nodes.{IsNode};
 ghost use Rattle.optra_prices.specs.Tables.{IsNumbering, Extends, IsRowPrice};
 ghost use Rattle.optra_prices.specs.Terms.{setting};
 ghost use Rattle.optra_prices.specs.Standings.{IsSound, AreTables, AllStand};
+ghost use Rattle.optra_prices.specs.Keepings.{AreBrought};
+ghost use Rattle.optra_prices.specs.declared.numbering.BidTable.{BidTable};
 
 use crate::numbering::{BidTable, Numbering, Standing};
-use crate::settling::{first_standing, update};
+use crate::settling::{first_standing, renew, update};
 use crate::tables::bid_table;
 use optra_dag::Buffers;
 use optra_graph::Graphs;
@@ -89,6 +91,25 @@ pub(crate) fn settle(
 {
     for number in 0..tables.len() {
         update(buffers, &tables[number], prices, &mut standings[number])?;
+    }
+    Ok(())
+}
+
+/// Brings what is known of each bid to tables of which some have changed, at the prices at which it was known.
+pub(crate) fn renew_all(
+    buffers: &mut Buffers,
+    tables: &[BidTable<'_>],
+    changed: &[bool],
+    standings: &mut Vec<Standing>,
+) -> Result<(), NoMemory>
+    requires sound { All IsSound tables.now }
+    requires brought { (before : List BidTable) × AreBrought changed.now before tables.now × ((old : List ℤ) × AllStand before old standings.old.items) }
+    ensures { OnOk result ((old : List ℤ) × AllStand tables.now old standings.new.items) }
+{
+    for number in 0..tables.len() {
+        if changed[number] {
+            renew(buffers, &tables[number], &mut standings[number])?;
+        }
     }
     Ok(())
 }

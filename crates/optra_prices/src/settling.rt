@@ -1,6 +1,6 @@
 //! What is known of the bids, brought up to date after prices changed.
 ghost use Rattle.std.specs.Prelude.{◌≡◌, All, IfOk, OnOk, List, ℤ};
-ghost use Rattle.optra_prices.specs.Tables.{IsRowPrice};
+ghost use Rattle.optra_prices.specs.Tables.{IsRowPrice, IsGroupPrice, AreGroupPrices};
 ghost use Rattle.optra_prices.specs.Standings.{Stands, IsSound};
 
 use crate::grouping::refresh;
@@ -56,6 +56,29 @@ pub(crate) fn update(
     if !refresh(prices, &table.groups, &mut standing.grouped) {
         return Ok(());
     }
+    let outcome = search_bid(
+        buffers,
+        table.graph.dag(),
+        &table.arcs,
+        &standing.grouped,
+        table.forced,
+        &mut standing.path,
+    )?;
+    standing.term = outcome.term;
+    standing.stuck = outcome.stuck;
+    Ok(())
+}
+
+/// Searches the bid's graph again at the prices at which it is known, where which of its arcs may be taken has changed.
+pub(crate) fn renew(
+    buffers: &mut Buffers,
+    table: &BidTable<'_>,
+    standing: &mut Standing,
+) -> Result<(), NoMemory>
+    requires sound { IsSound table.now }
+    requires range { All IsGroupPrice standing.old.grouped.items }
+    ensures { OnOk result ((prices : List ℤ) → AreGroupPrices prices table.now.groups.starts.items table.now.groups.touches.items standing.old.grouped.items → Stands table.now prices standing.new) }
+{
     let outcome = search_bid(
         buffers,
         table.graph.dag(),

@@ -8,7 +8,7 @@ mod placing;
 mod repairing;
 mod taking;
 
-pub use repairing::repair;
+pub use repairing::{repair, repair_over};
 
 #[cfg(test)]
 mod tests;

