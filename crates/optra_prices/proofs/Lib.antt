@@ -26,3 +26,4 @@ pub mod ListingLemmas
 pub mod LoadingLemmas
 pub mod AllowLemmas
 pub mod RoomLemmas
+pub mod PartLemmas

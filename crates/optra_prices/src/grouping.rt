@@ -21,7 +21,7 @@ pub(crate) fn empty_groups(alloc: Global) -> Result<Groups, NoMemory>
 }
 
 /// The touches of a group.
-fn group(groups: &Groups, g: usize) -> &[Touch]
+pub(crate) fn group(groups: &Groups, g: usize) -> &[Touch]
     requires groups { AreGroups groups.now.starts.items groups.now.touches.items }
     requires within { g + 1 < length groups.now.starts.items }
     ensures { result.now ≡ group_at groups.now.starts.items groups.now.touches.items g }
