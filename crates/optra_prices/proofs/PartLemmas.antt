@@ -13,9 +13,9 @@ use Rattle.optra_walk.specs.Families.{Rows, IsUsable, ListsRows}
 use Rattle.optra_graph.specs.Timed.{Timed, leg_of, start_of}
 use Rattle.optra_node.specs.declared.Decision.{Decision}
 use Rattle.optra_prices.specs.Arcs.{IsArcValue}
-use Rattle.optra_prices.specs.Parts.{no_part, part_at, HasRoom, IsPart, AreParts, IsPartOf, ArePartsOf}
+use Rattle.optra_prices.specs.Parts.{no_part, part_at, IsPart, AreParts, IsPartOf, ArePartsOf}
 use Rattle.optra_prices.specs.Rooms.{IsRoom, HasRoomFor, HasRoomForAll}
-use Rattle.optra_prices.specs.Tables.{AreTouches, AreGroups, group_at}
+use Rattle.optra_prices.specs.Tables.{group_at}
 use Rattle.optra_prices.specs.Terms.{setting, AreBidArcs}
 use Rattle.optra_prices.specs.declared.numbering.ArcTerm.{ArcTerm}
 use Rattle.optra_prices.specs.declared.numbering.Touch.{Touch}
@@ -23,11 +23,8 @@ use Rattle.optra_prices.specs.declared.parts.ArcPart.{ArcPart}
 use Rattle.optra_prices.specs.declared.rooms.Room.{Room}
 use Rattle.optra_prices.proofs.ListLemmas.{some_at, all_at}
 use Rattle.optra_prices.proofs.NumberLemmas.{push_cases}
+use Rattle.optra_prices.proofs.RoomLemmas.{room_tells}
 use Rattle.optra_prices.proofs.TermLemmas.{arc_usable}
-
-room_tells : {R : Type 0} (cmp : R → R → Ordering) (rows : Rows R) (numbered : List R) (total : R → ℕ) (room : Room) (touches : List Touch) (kind : TypeId) (leg : Leg) (used : List R)
-    → IsRoom rows numbered total room → AreTouches numbered (rows.uses kind leg) touches used → ListsRows cmp rows.is_row (rows.uses kind leg) used → HasRoomForAll room touches ↔ HasRoom rows total kind leg
-room_tells cmp rows numbered total room touches kind leg used is are lists = ?
 
 -- there is room for nothing
 pub room_for_none : (room : Room) (touches : List Touch) → touches ≡ [] → HasRoomForAll room touches
@@ -70,7 +67,7 @@ module _ {R : Type 0} (cmp : R → R → Ordering) (net : Net) (proper : IsPrope
         leg_allowed = λ leg there.
             let term = are.terms.legs_are k leg arc.0 arc.1 there in
             let law = lists bid.path.kind leg (arc_usable net proper bid t are.graph k leg l there) in
-            let tells = room_tells cmp rows numbered total room (group_at starts touches arc.0.group) bid.path.kind leg (used bid.path.kind leg) is_room term.group_is law in
+            let tells = room_tells cmp rows numbered total room is_room (group_at starts touches arc.0.group) bid.path.kind leg (used bid.path.kind leg) term.group_is law in
             ((λ e. let both = is.allowed.0 e in (term.allowed.0 both.0, tells.0 both.1)), (λ both. is.allowed.1 (term.allowed.1 both.0, tells.1 both.1)));
         leg_is = λ leg there. is.value_is ∙ (are.terms.legs_are k leg arc.0 arc.1 there).value_is;
         range = subst IsArcValue (sym is.value_is) (all_at (λ (a : ArcTerm). IsArcValue a.value) arcs k arc.0 are.terms.values arc.1);

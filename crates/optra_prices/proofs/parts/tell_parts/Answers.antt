@@ -54,9 +54,9 @@ returns g c =
     let parts = c.tell_table.new.parts.items in
     on_ok_weaker c.tell_table.result
     (λ told bid t total here there is_room.
-        let same : table ≡ there.0 = same_Some table there.0 (sym at ∙ there.1) in
-        let graph : table.graph.now ≡ t = ap (λ (x : BidTable). x.graph.now) same ∙ there.2 in
-        subst (λ (x : Timed). AreParts net rows bids c.args.node.now total number bid x (length x.dag.arcs) parts) graph
-        (parts_are g.F.Row.Ord.cmp net proper rows used lists bids c.args.node.now number bid table.graph.now numbered table.arcs.items table.groups.starts.items table.groups.touches.items table.forced
-        (c.requires.kept.tables_are.each number bid table here at) total c.args.room.now is_room parts told))
+    let same : table ≡ there.0 = same_Some table there.0 (sym at ∙ there.1) in
+    let graph : table.graph.now ≡ t = ap (λ (x : BidTable). x.graph.now) same ∙ there.2 in
+    subst (λ (x : Timed). AreParts net rows bids c.args.node.now total number bid x (length x.dag.arcs) parts) graph
+    (parts_are g.F.Row.Ord.cmp net proper rows used lists bids c.args.node.now number bid table.graph.now numbered table.arcs.items table.groups.starts.items table.groups.touches.items table.forced
+    (c.requires.kept.tables_are.each number bid table here at) total c.args.room.now is_room parts told))
     c.tell_table.ensures

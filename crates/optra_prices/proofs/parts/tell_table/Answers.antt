@@ -1,10 +1,11 @@
 -- One more part is told.
-use Rattle.std.proofs.Common.{◌≡◌, ℕ, ◌+◌, ◌<◌, length, Some, slice_get, refl, sym, subst, arith}
+use Rattle.std.proofs.Common.{◌≡◌, ℕ, ◌+◌, ◌<◌, List, length, Some, slice_get, refl, sym, subst, arith}
 use Rattle.std.specs.Prelude.{◌↔◌, IsTrue}
 use Rattle.std.proofs.lemmas.Option.{slice_get_read}
 use Rattle.optra_prices.specs.Parts.{ArePartsOf}
 use Rattle.optra_prices.specs.Rooms.{HasRoomForAll}
 use Rattle.optra_prices.specs.Tables.{group_at}
+use Rattle.optra_prices.specs.declared.parts.ArcPart.{ArcPart}
 use Rattle.optra_prices.proofs.PartLemmas.{part_told, parts_more}
 use Rattle.optra_prices.proofs.parts.tell_table.Goals as goal
 
@@ -22,6 +23,6 @@ loop-k-preserved c =
     let tells = c.group_fit-last.ensures in
     let part = part_told room (group_at starts touches arc.group) arc c.part_of.result fits c.part_of.ensures.value c.part_of.ensures.allowed tells.fits in
     record {
-      told = subst (ArePartsOf room starts touches arcs (k + 1)) (sym c.in_ok-push.ensures.items) (parts_more room starts touches arcs k c.loop-k.parts.items arc c.part_of.result c.loop-k.invariant.told at part);
-      last = subst (λ (g : ℕ). IsTrue fits ↔ HasRoomForAll room (group_at starts touches g)) (sym tells.group) tells.fits;
+      told = subst (ArePartsOf room starts touches arcs (k + 1)) (sym {A = List ArcPart} c.in_ok-push.ensures.items) (parts_more room starts touches arcs k c.loop-k.parts.items arc c.part_of.result c.loop-k.invariant.told at part);
+      last = subst (λ (g : ℕ). IsTrue fits ↔ HasRoomForAll room (group_at starts touches g)) (sym {A = ℕ} tells.group) tells.fits;
     }
