@@ -1,6 +1,5 @@
 pub mod TakingLemmas
 pub mod RoomLemmas
-pub mod PartLemmas
 pub mod WorthLemmas
 pub mod PlaceLemmas
 pub mod TurnLemmas

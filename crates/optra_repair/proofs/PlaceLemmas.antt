@@ -24,8 +24,9 @@ use Rattle.optra_prices.specs.Repairs.{FitBeside, IsPlaceable, IsFirstWorthiest,
 use Rattle.optra_prices.proofs.ArcLemmas.{leads_on, leads_back, leads_within, leg_there}
 use Rattle.optra_prices.proofs.RepairLemmas.{worthiest_unique}
 use Rattle.optra_prices.proofs.ValueLemmas.{walk_sum}
-use Rattle.optra_repair.specs.declared.marking.ArcPart.{ArcPart}
-use Rattle.optra_repair.specs.Parts.{allows_at, weight_at, AreParts, IsWorthWalk}
+use Rattle.optra_prices.specs.declared.parts.ArcPart.{ArcPart}
+use Rattle.optra_prices.specs.Parts.{AreParts}
+use Rattle.optra_repair.specs.Parts.{allows_at, weight_at, IsWorthWalk}
 use Rattle.optra_repair.specs.Placings.{AreTotals, AreWithin, HaveRoom}
 use Rattle.optra_repair.proofs.RoomLemmas.{room_fits, whole_fits}
 use Rattle.optra_repair.proofs.WorthLemmas.{path_route}

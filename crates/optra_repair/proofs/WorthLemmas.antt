@@ -9,7 +9,7 @@ use Rattle.optra_walk.specs.Walks.{IsWalk}
 use Rattle.optra_dag.specs.Paths.{Graph, IsPath, IsFirstBest}
 use Rattle.optra_graph.specs.Timed.{Timed, IsGraphOf, IsRoute, walk_of}
 use Rattle.optra_prices.proofs.ArcLemmas.{leads_on}
-use Rattle.optra_repair.specs.declared.marking.ArcPart.{ArcPart}
+use Rattle.optra_prices.specs.declared.parts.ArcPart.{ArcPart}
 use Rattle.optra_repair.specs.Parts.{allows_at, weight_at, IsWorthWalk}
 
 -- a path of allowed arcs is a route

@@ -11,7 +11,7 @@ use Rattle.optra_node.proofs.DualLemmas.{zip_length}
 use Rattle.optra_prices.proofs.RepairLemmas.{repair_fits}
 use Rattle.optra_repair.proofs.TakingLemmas.{taken_once}
 use Rattle.optra_repair.proofs.TurnLemmas.{is_repair}
-use Rattle.optra_repair.proofs.repairing.repair.Goals as goal
+use Rattle.optra_repair.proofs.repairing.repair_over.Goals as goal
 
 pub taking_order-requires-clause-replies : goal.taking_order-requires-clause-replies
 taking_order-requires-clause-replies g c =
