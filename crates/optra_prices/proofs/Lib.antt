@@ -21,6 +21,7 @@ pub mod StepLemmas
 pub mod PathLemmas
 pub mod UseLemmas
 pub mod CourseLemmas
+pub mod KeepLemmas
 pub mod MoveLemmas
 pub mod ListingLemmas
 pub mod LoadingLemmas
