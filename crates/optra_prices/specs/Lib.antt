@@ -20,3 +20,4 @@ pub mod Following
 pub mod Uses
 pub mod Listings
 pub mod Moves
+pub mod Parts

@@ -22,6 +22,7 @@ mod loading;
 mod marking;
 mod moving;
 mod numbering;
+pub mod parts;
 mod paths;
 pub mod rooms;
 mod searching;

@@ -3,12 +3,37 @@ ghost use Rattle.std.specs.Prelude.{◌≡◌, length, All, IfOk, MatchBool, pos
 ghost use Rattle.optra_prices.specs.Arcs.{IsArcValue};
 ghost use Rattle.optra_repair.specs.Parts.{IsWorthWalk};
 
-use crate::marking::{ArcPart, Parts};
-use optra_dag::{Buffers, first_best_in};
+use optra_dag::{Buffers, Weight, first_best_in};
 use optra_graph::TimeGraph;
 use optra_network::NoMemory;
+use optra_prices::parts::ArcPart;
 use optra_walk::Walk;
 use std::alloc::Global;
+
+/// The parts of a graph's arcs, by number.
+#[derive(Clone, Copy)]
+struct Parts<'a> {
+    parts: &'a [ArcPart],
+}
+
+impl Weight for Parts<'_> {
+    ghost use Rattle.std.specs.Prelude.{length};
+    ghost use Rattle.optra_repair.specs.Parts.{allows_at, weight_at};
+
+    ghost asked = { λ w. length w.parts.now };
+
+    ghost allows = { λ w k. allows_at w.parts.now k };
+
+    ghost weight = { λ w k. weight_at w.parts.now k };
+
+    fn allowed(&self, arc: u32) -> bool {
+        self.parts[arc as usize].allowed
+    }
+
+    fn of(&self, arc: u32) -> i128 {
+        i128::from(self.parts[arc as usize].value)
+    }
+}
 
 /// Whether a path is worth more than 0.
 fn is_worth(sum: i128) -> bool

@@ -1,12 +1,17 @@
 //! Keeping a walk where it fits as a whole.
-ghost use Rattle.std.specs.Prelude.{◌≤◌, IfOk, All, length, take, slice_get, IfSome};
+ghost use Rattle.std.specs.Prelude.{◌≤◌, ℕ, IfOk, OnOk, All, length, take, slice_get, IfSome};
 ghost use Rattle.optra_walk.specs.Families.{IsUsable};
 ghost use Rattle.optra_rows.specs.Loads.{total_of, HasRoom};
+ghost use Rattle.optra_prices.specs.Keepings.{AreKept};
+ghost use Rattle.optra_prices.specs.Parts.{IsRoomIn};
 ghost use Rattle.optra_repair.specs.Placings.{AreWithin, AddsLegs, IsPut, use_of_legs};
 
 use optra_network::{Network, NoMemory, TypeId};
+use optra_prices::keeping::ArcTables;
+use optra_prices::parts::take_up;
+use optra_prices::rooms::Room;
 use optra_rows::Load;
-use optra_walk::{Leg, RowFamily};
+use optra_walk::{Instance, Leg, RowFamily};
 
 /// Adds the legs in turn, up to the first that doesn't fit any more, and tells how many were added.
 fn add_fitting<F: RowFamily>(
@@ -63,4 +68,23 @@ pub(crate) fn keep<F: RowFamily>(
     }
     take_back(load, net, rows, kind, &legs[..added]);
     Ok(false)
+}
+
+/// Adds the legs of a walk that is kept to the room of the tables.
+pub(crate) fn take_up_all<F: RowFamily>(
+    room: &mut Room,
+    inst: Instance<'_>,
+    rows: &F,
+    kept: &ArcTables<'_, F::Row>,
+    kind: TypeId,
+    legs: &[Leg],
+) -> Result<(), NoMemory>
+    requires kept { AreKept F.Row.cmp inst.net.now (F.rows_of rows.now inst.net.now) (F.rows_used rows.now inst.net.now) inst.bids.now kept.now }
+    requires usable { All (IsUsable inst.net.now kind) legs.now }
+    ensures { OnOk result ((before after : F.Row → ℕ) → AddsLegs (F.rows_of rows.now inst.entry.net.now) kind legs.now before after → IsRoomIn (F.rows_of rows.now inst.entry.net.now) kept.now before room.old → IsRoomIn (F.rows_of rows.now inst.entry.net.now) kept.now after room.new) }
+{
+    for k in 0..legs.len() {
+        take_up(room, inst, rows, kept, kind, legs[k])?;
+    }
+    Ok(())
 }

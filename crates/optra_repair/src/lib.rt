@@ -3,7 +3,6 @@
 
 mod finding;
 mod keeping;
-mod marking;
 mod placing;
 mod repairing;
 mod taking;

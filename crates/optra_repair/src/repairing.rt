@@ -13,12 +13,13 @@ use optra_bid::Bid;
 use optra_dag::Buffers;
 use optra_graph::Graphs;
 use optra_network::NoMemory;
-use optra_node::{Node, Summary};
+use optra_node::Node;
 use optra_prices::Dual;
-use optra_prices::keeping::ArcTables;
+use optra_prices::keeping::{ArcTables, bring_to, keep_arcs};
+use optra_prices::parts::free_room;
 use optra_rows::Load;
 use optra_walk::{Choice, Instance, RowFamily, Walk};
-use std::alloc::{AllocError, Global};
+use std::alloc::Global;
 
 /// No walk for any of so many bids.
 fn no_walks(alloc: Global, bids: &[Bid]) -> Result<Vec<Option<Walk>>, NoMemory>
@@ -28,24 +29,22 @@ fn no_walks(alloc: Global, bids: &[Bid]) -> Result<Vec<Option<Walk>>, NoMemory>
 }
 
 /// Places the bids of these positions one after the other.
-fn place_all<F: RowFamily, G: Graphs>(
+fn place_all<F: RowFamily>(
     alloc: Global,
     inst: Instance<'_>,
-    graphs: &G,
     rows: &F,
     node: &Node,
+    kept: &ArcTables<'_, F::Row>,
     order: &[u32],
 ) -> Result<Vec<Option<Walk>>, NoMemory>
-    requires node { IsNode inst.net.now (length inst.bids.now) node.now }
-    requires network { G.network graphs.now ≡ inst.net.now }
-    requires held { All (λ bid. Contains (G.held graphs.now) bid.path) inst.bids.now }
+    requires kept { AreKeptAt F.Row.cmp inst.net.now (F.rows_of rows.now inst.net.now) (F.rows_used rows.now inst.net.now) inst.bids.now node.now kept.now }
     requires within { All (λ number. number < length inst.bids.now) order.now }
     requires once { AllPairs (λ a b. a ≢ b) order.now }
     ensures { IfOk result (λ walks. GivesInTurn inst.entry.net.now (F.rows_of rows.now inst.entry.net.now) inst.entry.bids.now node.now order.now (empty_choice inst.entry.bids.now) walks.items) }
 {
     let bids = inst.bids;
-    let summary = Summary::new(alloc, inst, rows, node)?;
     let mut load = Load::new(alloc);
+    let mut room = free_room(alloc, inst, rows, kept)?;
     let mut lent = Lent {
         parts: Vec::new(alloc),
         buffers: Buffers::new(alloc),
@@ -54,9 +53,8 @@ fn place_all<F: RowFamily, G: Graphs>(
     for turn in 0..order.len() {
         let number = order[turn];
         let bid = &bids[number as usize];
-        let graph = graphs.graph(bid);
         let given = place(
-            alloc, &mut lent, &mut load, inst, rows, &summary, number, bid, graph,
+            alloc, &mut lent, &mut load, &mut room, inst, rows, node, kept, number, bid,
         )?;
         walks[number as usize] = given;
     }
@@ -90,10 +88,9 @@ pub fn repair<F: RowFamily, G: Graphs>(
     ensures choice { IfOk result (λ choice. IsChoice inst.entry.net.now inst.entry.bids.now choice) }
     ensures keeps { IfOk result (λ choice. F.KeepsRule rows.now inst.entry.net.now (entries_of inst.entry.bids.now choice)) }
 {
-    let _ = inst.net.track_count();
-    let order = taking_order(alloc, dual)?;
-    let walks = place_all(alloc, inst, graphs, rows, node, &order)?;
-    Ok(Choice { walks })
+    let mut kept = keep_arcs(alloc, inst, graphs, rows)?;
+    bring_to(alloc, inst, rows, node, &mut kept)?;
+    repair_over(alloc, inst, rows, node, &kept, dual)
 }
 
 /// As [`repair`], by tables of arcs that are at the node.
@@ -114,5 +111,8 @@ pub fn repair_over<F: RowFamily>(
     ensures choice { IfOk result (λ choice. IsChoice inst.entry.net.now inst.entry.bids.now choice) }
     ensures keeps { IfOk result (λ choice. F.KeepsRule rows.now inst.entry.net.now (entries_of inst.entry.bids.now choice)) }
 {
-    Err(AllocError)
+    let _ = inst.net.track_count();
+    let order = taking_order(alloc, dual)?;
+    let walks = place_all(alloc, inst, rows, node, kept, &order)?;
+    Ok(Choice { walks })
 }

@@ -1,0 +1,147 @@
+//! What the arcs of a bid's table add to the value of a walk, and which of them may be taken beside what is placed.
+ghost use Rattle.std.specs.Prelude.{◌≡◌, ◌↔◌, ◌&&◌, ◌+◌, ◌<◌, ℕ, IsTrue, true, Some, All, IfOk, OnOk, length, slice_get};
+ghost use Rattle.optra_bid.specs.declared.bids.Bid.{Bid};
+ghost use Rattle.optra_walk.specs.Families.{IsUsable};
+ghost use Rattle.optra_graph.specs.Timed.{Timed, IsGraphOf};
+ghost use Rattle.optra_prices.specs.Keepings.{AreKept, AreKeptAt};
+ghost use Rattle.optra_prices.specs.Parts.{AreParts, ArePartsOf, IsTableGraph, IsRoomIn};
+ghost use Rattle.optra_prices.specs.Rooms.{HasRoomForAll};
+ghost use Rattle.optra_prices.specs.Tables.{AreGroups, group_at};
+
+use crate::grouping::group;
+use crate::keeping::ArcTables;
+use crate::numbering::{ArcTerm, BidTable, Groups};
+use crate::rooms::{Room, add_leg, empty_room, has_room};
+use optra_graph::TimeGraph;
+use optra_network::{NoMemory, TypeId};
+use optra_node::Node;
+use optra_walk::{Instance, Leg, RowFamily};
+use std::alloc::Global;
+
+/// What an arc adds to the value of a walk, in thousandths of a cent, and whether it may be taken.
+#[derive(Clone, Copy)]
+pub struct ArcPart {
+    pub value: i64,
+    pub allowed: bool,
+}
+
+/// A group of rows that arcs touch, and whether there is room for it.
+#[derive(Clone, Copy)]
+struct Fit {
+    group: u32,
+    fits: bool,
+}
+
+/// Whether there is room for a group: what was told last, where that was of the same group.
+fn group_fit(room: &Room, groups: &Groups, number: u32, last: Fit) -> Fit
+    requires groups { AreGroups groups.now.starts.items groups.now.touches.items }
+    requires within { number + 1 < length groups.now.starts.items }
+    requires last { IsTrue last.fits ↔ HasRoomForAll room.now (group_at groups.now.starts.items groups.now.touches.items last.group) }
+    ensures group { result.group ≡ number }
+    ensures fits { IsTrue result.fits ↔ HasRoomForAll room.now (group_at groups.now.starts.items groups.now.touches.items number) }
+{
+    if number == last.group {
+        return last;
+    }
+    Fit {
+        group: number,
+        fits: has_room(room, group(groups, number as usize)),
+    }
+}
+
+/// The part of an arc, with whether there is room for what it touches.
+fn part_of(arc: ArcTerm, fits: bool) -> ArcPart
+    ensures value { result.value ≡ arc.value }
+    ensures allowed { result.allowed ≡ (arc.allowed && fits) }
+{
+    ArcPart {
+        value: arc.value,
+        allowed: arc.allowed && fits,
+    }
+}
+
+/// Puts the parts of a table's arcs in place of those that were there.
+fn tell_table(parts: &mut Vec<ArcPart>, table: &BidTable<'_>, room: &Room) -> Result<(), NoMemory>
+    requires groups { AreGroups table.now.groups.starts.items table.now.groups.touches.items }
+    requires within { All (λ arc. arc.group + 1 < length table.now.groups.starts.items) table.now.arcs.items }
+    ensures { OnOk result (ArePartsOf room.now table.now.groups.starts.items table.now.groups.touches.items table.now.arcs.items (length table.now.arcs.items) parts.new.items) }
+{
+    parts.clear();
+    parts.reserve(table.arcs.len())?;
+    let mut last = Fit {
+        group: 0,
+        fits: true,
+    };
+    for k in 0..table.arcs.len() {
+        let arc = table.arcs[k];
+        last = group_fit(room, &table.groups, arc.group, last);
+        parts.push(part_of(arc, last.fits))?;
+    }
+    Ok(())
+}
+
+/// The graph of a bid.
+pub fn graph_of<'a, F: RowFamily>(
+    inst: Instance<'_>,
+    rows: &F,
+    kept: &'a ArcTables<'_, F::Row>,
+    number: u32,
+) -> &'a TimeGraph
+    requires kept { AreKept F.Row.cmp inst.net.now (F.rows_of rows.now inst.net.now) (F.rows_used rows.now inst.net.now) inst.bids.now kept.now }
+    requires number { number < length inst.bids.now }
+    ensures table { IsTableGraph kept.now number result.now }
+    ensures graph { (bid : Bid) → slice_get inst.entry.bids.now number ≡ Some bid → IsGraphOf inst.entry.net.now bid.path result.now }
+{
+    let _ = inst.bids;
+    let _ = rows;
+    kept.tables[number as usize].graph
+}
+
+/// Puts the parts of all arcs of a bid's graph in place of those that were there. `NoMemory` is its only refusal.
+pub fn tell_parts<F: RowFamily>(
+    parts: &mut Vec<ArcPart>,
+    inst: Instance<'_>,
+    rows: &F,
+    node: &Node,
+    kept: &ArcTables<'_, F::Row>,
+    room: &Room,
+    number: u32,
+) -> Result<(), NoMemory>
+    requires kept { AreKeptAt F.Row.cmp inst.net.now (F.rows_of rows.now inst.net.now) (F.rows_used rows.now inst.net.now) inst.bids.now node.now kept.now }
+    requires number { number < length inst.bids.now }
+    ensures { OnOk result ((bid : Bid) (t : Timed) (total : F.Row → ℕ) → slice_get inst.entry.bids.now number ≡ Some bid → IsTableGraph kept.now number t → IsRoomIn (F.rows_of rows.now inst.entry.net.now) kept.now total room.now → AreParts inst.entry.net.now (F.rows_of rows.now inst.entry.net.now) inst.entry.bids.now node.now total number bid t (length t.dag.arcs) parts.new.items) }
+{
+    let _ = inst.net.track_count();
+    let _ = rows;
+    let _ = node;
+    tell_table(parts, &kept.tables[number as usize], room)
+}
+
+/// A room in which nothing is used. `NoMemory` is its only refusal.
+pub fn free_room<F: RowFamily>(
+    alloc: Global,
+    inst: Instance<'_>,
+    rows: &F,
+    kept: &ArcTables<'_, F::Row>,
+) -> Result<Room, NoMemory>
+    requires { AreKept F.Row.cmp inst.net.now (F.rows_of rows.now inst.net.now) (F.rows_used rows.now inst.net.now) inst.bids.now kept.now }
+    ensures { IfOk result (IsRoomIn (F.rows_of rows.now inst.entry.net.now) kept.now (λ row. 0)) }
+{
+    empty_room(alloc, inst.net, rows, &kept.numbering)
+}
+
+/// Adds what a usable leg of the type uses to a room. `NoMemory` is its only refusal.
+pub fn take_up<F: RowFamily>(
+    room: &mut Room,
+    inst: Instance<'_>,
+    rows: &F,
+    kept: &ArcTables<'_, F::Row>,
+    kind: TypeId,
+    leg: Leg,
+) -> Result<(), NoMemory>
+    requires kept { AreKept F.Row.cmp inst.net.now (F.rows_of rows.now inst.net.now) (F.rows_used rows.now inst.net.now) inst.bids.now kept.now }
+    requires usable { IsUsable inst.net.now kind leg }
+    ensures { OnOk result ((total : F.Row → ℕ) → IsRoomIn (F.rows_of rows.now inst.entry.net.now) kept.now total room.old → IsRoomIn (F.rows_of rows.now inst.entry.net.now) kept.now (λ row. total row + (F.rows_of rows.now inst.entry.net.now).uses kind leg row) room.new) }
+{
+    add_leg(room, inst.net, rows, &kept.numbering, kind, leg)
+}
