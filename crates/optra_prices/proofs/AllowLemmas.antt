@@ -1,13 +1,11 @@
 -- Tables of arcs that are brought to a node, arc by arc and bid by bid.
-use Rattle.std.proofs.Common.{◌≡◌, ◌≢◌, ℕ, zero, suc, ◌+◌, ◌≤◌, ◌<◌, Bool, true, false, cond, List, [], ◌∷◌, ◌++◌, length, take, drop, set, get_or, Option, Some, slice_get, refl, sym, ap, ◌∙◌, subst, arith, inl, inr}
-use Rattle.std.specs.Prelude.{◌↔◌, ◌||◌, All, sum_by}
+use Rattle.std.proofs.Common.{◌≡◌, ◌≢◌, ℕ, ◌+◌, ◌≤◌, ◌<◌, Bool, true, false, cond, List, [], ◌∷◌, ◌++◌, length, take, drop, set, get_or, Option, Some, slice_get, refl, sym, ap, ◌∙◌, subst, arith, inl, inr}
+use Rattle.std.specs.Prelude.{◌↔◌, ◌||◌, All}
 use Rattle.std.specs.Option.{option_map_or}
 use Rattle.std.specs.declared.cmp.Ordering.{Ordering}
-use Rattle.std.proofs.Math.Seq.{drop-cons}
 use Rattle.std.proofs.lemmas.Bool.{cases_eq}
-use Rattle.std.proofs.lemmas.List.{take_all, drop_all, length-append}
+use Rattle.std.proofs.lemmas.List.{drop_all, length-append}
 use Rattle.std.proofs.lemmas.List.Elements.{All-nil, All-weaker}
-use Rattle.std.proofs.lemmas.List.Sums.{sum_by_more, sum_by-cons}
 use Rattle.std.proofs.lemmas.Option.{same_Some, none-some, slice_get_within, slice_get-get_or}
 use Rattle.optra_network.specs.Net.{Net, IsProper}
 use Rattle.optra_network.specs.declared.TypeId.{TypeId}
@@ -124,11 +122,6 @@ module _ (net : Net) (bids : List Bid) (node : List Decision) (number : ℕ) (t 
     leg_is = λ other there.
         subst (λ (x : Leg). (mark ≡ true) ↔ ((has_room ≡ true) × IsLetBy net node number (kind_at bids number) x)) (same_Some leg other (sym at ∙ there)) ((λ e. (has, lets.0 e)), (λ ok. lets.1 ok.1));
   }
-
--- the first group is empty, so there is room for it
-pub told_first : (room : Room) (groups : Groups) (told : Told) → AreGroups groups.starts.items groups.touches.items → told.group ≡ 0 → told.has_room ≡ true → IsTold room groups told
-told_first room groups told are first has =
-    ((λ e. subst (HasRoomForAll room) (sym (ap (group_at groups.starts.items groups.touches.items) first ∙ are.none)) (All-nil (HasRoomFor room))), (λ e. has))
 
 -- whether an arc may be taken, by the room for its group and the bid's own decisions
 pub arc_mark : {R : Type 0} (net : Net) (rows : Rows R) (bids : List Bid) (node : List Decision) (number : ℕ) (room : Room) (t : Timed) (groups : Groups) (arcs : List ArcTerm) → RoomTells rows bids node number room t groups arcs
