@@ -6,22 +6,29 @@ use Rattle.std.proofs.lemmas.Bool.{cases_lt}
 use Rattle.std.proofs.lemmas.Int.{ints}
 use Rattle.std.proofs.lemmas.List.{length-replicate}
 use Rattle.std.proofs.lemmas.Option.{same_Some, slice_get_within}
-use Rattle.optra_network.specs.Net.{IsProper}
+use Rattle.optra_network.specs.Net.{Net, IsProper}
+use Rattle.optra_network.specs.declared.TypeId.{TypeId}
 use Rattle.optra_bid.specs.declared.bids.Bid.{Bid}
+use Rattle.optra_walk.specs.declared.Leg.{Leg}
+use Rattle.optra_walk.specs.Families.{Rows}
 use Rattle.optra_graph.specs.Timed.{Timed}
+use Rattle.optra_node.specs.declared.Decision.{Decision}
 use Rattle.optra_node.specs.Laws.{TestsTellAllowed, PricesByUsedRows}
 use Rattle.optra_node.specs.Duals.{sum_of, IsStuck, IsDead}
 use Rattle.optra_node.proofs.SumLemmas.{sum_of-cons}
 use Rattle.optra_prices.specs.Arcs.{IsFound}
 use Rattle.optra_prices.specs.Deads.{IsFirstStuck}
-use Rattle.optra_prices.specs.Keepings.{IsBrought, IsFirstStuckIn}
-use Rattle.optra_prices.specs.Tables.{group_at, group_price, AreGroups, AreGroupPrices, allows_by, weight_by}
-use Rattle.optra_prices.specs.Terms.{Setting, AreBidArcs}
+use Rattle.optra_prices.specs.Keepings.{AreKeptAt, IsBrought, IsFirstStuckIn}
+use Rattle.optra_prices.specs.Tables.{IsNumbering, Extends, group_at, group_price, AreGroups, AreGroupPrices, allows_by, weight_by}
+use Rattle.optra_prices.specs.Terms.{Setting, setting, AreBidArcs}
 use Rattle.optra_prices.specs.Standings.{Stands, AreTables, AllStand}
+use Rattle.optra_prices.specs.declared.keeping.ArcTables.{ArcTables}
 use Rattle.optra_prices.specs.declared.numbering.BidTable.{BidTable}
+use Rattle.optra_prices.specs.declared.numbering.Numbering.{Numbering}
 use Rattle.optra_prices.specs.declared.numbering.Groups.{Groups}
 use Rattle.optra_prices.specs.declared.numbering.Standing.{Standing}
 use Rattle.optra_prices.specs.declared.numbering.Touch.{Touch}
+use Rattle.optra_prices.proofs.AllowLemmas.{tables_kept}
 use Rattle.optra_prices.proofs.ArcLemmas.{found_stuck}
 use Rattle.optra_prices.proofs.FoundLemmas.{found_moves}
 use Rattle.optra_prices.proofs.ListLemmas.{all_at, some_at}
@@ -42,6 +49,18 @@ brought_stands c before after prices standing same is stands = record {
   found = subst (λ (forced : Bool). IsFound after.graph.now.dag (allows_by after.arcs.items) (weight_by after.arcs.items standing.grouped.items) forced standing.path.items standing.term standing.stuck) (sym (is.forced same))
       (found_moves before.graph.now.dag after.graph.now.dag before.arcs.items after.arcs.items standing.grouped.items standing.grouped.items before.forced standing.path.items standing.term standing.term standing.stuck
       (ap (λ (t : Timed). t.dag) (sym is.graph)) (sym (is.arcs same)) refl refl stands.found);
+}
+
+-- tables at a node are so while rows get numbers
+pub more_numbered : {R : Type 0} (cmp : R → R → Ordering) (net : Net) (rows : Rows R) (used : TypeId → Leg → List R) (bids : List Bid) (node : List Decision) (kept : ArcTables R) (numbering : Numbering R) → AreKeptAt cmp net rows used bids node kept
+    → IsNumbering cmp numbering.numbers numbering.rows.items → All (λ row. rows.is_row row ≡ true) numbering.rows.items → Extends kept.numbering.rows.items numbering.rows.items
+    → AreKeptAt cmp net rows used bids node (record kept { numbering = numbering })
+more_numbered cmp net rows used bids node kept numbering is are rows_are extends = record {
+  numbering = are;
+  rows_are = rows_are;
+  tables_are = tables_kept (setting net rows used bids node) (length bids) kept.numbering.rows.items numbering.rows.items kept.tables.items extends is.tables_are;
+  first_stand = is.first_stand;
+  last_stand = is.last_stand;
 }
 
 -- without prices a group costs nothing

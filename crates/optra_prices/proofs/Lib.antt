@@ -21,10 +21,10 @@ pub mod StepLemmas
 pub mod PathLemmas
 pub mod UseLemmas
 pub mod CourseLemmas
-pub mod KeepLemmas
 pub mod MoveLemmas
 pub mod ListingLemmas
 pub mod LoadingLemmas
 pub mod AllowLemmas
 pub mod RoomLemmas
 pub mod PartLemmas
+pub mod KeepLemmas
