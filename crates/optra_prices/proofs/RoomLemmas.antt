@@ -1,39 +1,34 @@
--- Where a bid has no decision of its own, which of its arcs may be taken goes by the groups of rows that they touch.
-use Rattle.std.proofs.Common.{◌≡◌, ℕ, ◌+◌, ◌≤◌, ◌<◌, Bool, true, cond, List, [], ◌∷◌, length, Some, None, slice_get, refl, sym, ap, ◌∙◌, subst, arith, inl, inr}
+-- Room by the numbers of rows: how it changes, and what it tells of legs.
+use Rattle.std.proofs.Common.{◌≡◌, ℕ, suc, ◌+◌, ◌-◌, ◌≤◌, ◌<◌, Bool, true, false, cond, List, [], ◌∷◌, length, take, drop, get_or, Some, slice_get, refl, sym, ap, ◌∙◌, subst, arith, inl, inr}
 use Rattle.std.specs.Prelude.{◌↔◌, All, Contains}
 use Rattle.std.specs.List.{AllZip}
+use Rattle.std.specs.Cmp.{IsTotalOrder}
 use Rattle.std.specs.declared.cmp.Ordering.{Ordering}
-use Rattle.std.proofs.lemmas.Bool.{cases_lt, le-ltb}
-use Rattle.std.proofs.lemmas.List.Elements.{All-nil, All-weaker}
-use Rattle.std.proofs.lemmas.Option.{same_Some, slice_get_within}
-use Rattle.optra_network.specs.Net.{Net, IsProper}
+use Rattle.std.specs.Ordering.{eq_by_cmp}
+use Rattle.std.proofs.lemmas.Bool.{cases_lt}
+use Rattle.std.proofs.lemmas.List.Elements.{All-nil, All-cons}
+use Rattle.std.proofs.lemmas.List.{take_all, drop_all}
+use Rattle.std.proofs.lemmas.List.Sums.{sum_by-cons}
+use Rattle.std.proofs.lemmas.Option.{slice_get_within, get_or_from_slice_get}
+use Rattle.std.proofs.Math.Seq.{drop-cons}
 use Rattle.optra_network.specs.declared.TypeId.{TypeId}
 use Rattle.optra_bid.specs.declared.bids.Bid.{Bid}
 use Rattle.optra_walk.specs.declared.Leg.{Leg}
-use Rattle.optra_walk.specs.Families.{Rows, IsUsable, ListsRows}
-use Rattle.optra_graph.specs.Timed.{Timed, IsGraphOf, leg_of, leg_at}
+use Rattle.optra_walk.specs.Families.{Rows, ListsRows, TellsApart}
 use Rattle.optra_node.specs.declared.Decision.{Decision}
-use Rattle.optra_node.specs.Nodes.{IsBlocked, others_load, kind_at}
-use Rattle.optra_node.specs.Spans.{Lets, IsLetBy, IsLegOk, IsStartOk}
-use Rattle.optra_node.specs.Summaries.{decisions_for}
+use Rattle.optra_node.specs.Nodes.{IsBlocked, others_load}
 use Rattle.optra_node.proofs.LoadLemmas.{contains_cases, contains_head, contains_later}
-use Rattle.optra_node.proofs.SummaryLemmas.{all_for}
-use Rattle.optra_prices.specs.Allowing.{GroupsTell}
-use Rattle.optra_prices.specs.Marks.{IsMark}
-use Rattle.optra_prices.specs.Tables.{IsTouch, AreTouches, AreGroups, group_at}
-use Rattle.optra_prices.specs.Terms.{setting, AreTerms}
-use Rattle.optra_prices.specs.declared.numbering.ArcTerm.{ArcTerm}
+use Rattle.optra_prices.specs.Holdings.{part_of}
+use Rattle.optra_prices.specs.Rooms.{IsRoom, HasRoomFor, HasRoomForAll, ChangesRow}
+use Rattle.optra_prices.specs.Tables.{IsTouch, AreTouches}
 use Rattle.optra_prices.specs.declared.numbering.Touch.{Touch}
-use Rattle.optra_prices.proofs.ListLemmas.{some_at}
-use Rattle.optra_prices.proofs.TermLemmas.{arc_usable, kind_is}
+use Rattle.optra_prices.specs.declared.rooms.Room.{Room}
+use Rattle.optra_prices.proofs.HoldLemmas.{part_push, part_all}
 
-zip_first : {A B : Type 0} (P : A → B → Type 0) (xs : List A) (ys : List B) → AllZip P xs ys → (x : A) → Contains xs x → (y : B) × Contains ys y × P x y
-zip_first P [] ys h x (k, l, e) = absurd (omega arith)
-zip_first P (x ∷ xs) [] h z has = absurd h
-zip_first {A} {B} P (x ∷ xs) (y ∷ ys) h z has = elim (contains_cases x xs z has) as (λ _. (w : B) × Contains (y ∷ ys) w × P z w) [
-  | inl e ↦ (y, contains_head y ys y refl, subst (λ (v : A). P v y) e h.0)
-  | inr c ↦ let r = zip_first P xs ys h.1 z c in (r.0, contains_later y ys r.0 r.1, r.2)
-]
+zip_all : {A B : Type 0} (P : A → B → Type 0) (Q : A → Type 0) (xs : List A) (ys : List B) → AllZip P xs ys → ((x : A) (y : B) → Contains ys y → P x y → Q x) → All Q xs
+zip_all P Q [] ys h f = All-nil Q
+zip_all P Q (x ∷ xs) [] h f = absurd h
+zip_all {A} {B} P Q (x ∷ xs) (y ∷ ys) h f = All-cons Q x xs (f x y (contains_head y ys y refl) h.0) (zip_all P Q xs ys h.1 (λ (a : A) (b : B) has is. f a b (contains_later y ys b has) is))
 
 zip_second : {A B : Type 0} (P : A → B → Type 0) (xs : List A) (ys : List B) → AllZip P xs ys → (y : B) → Contains ys y → (x : A) × Contains xs x × P x y
 zip_second P xs [] h y (k, l, e) = absurd (omega arith)
@@ -43,88 +38,113 @@ zip_second {A} {B} P (x ∷ xs) (y ∷ ys) h z has = elim (contains_cases y ys z
   | inr c ↦ let r = zip_second P xs ys h.1 z c in (r.0, contains_later x xs r.0 r.1, r.2)
 ]
 
-too_much : (u v o c : ℕ) → u ≡ v → u + o ≤ c → c < v + o → ⊥
-too_much u v o c e a b = omega arith
+all_has : {A : Type 0} (P : A → Type 0) (xs : List A) (x : A) → All P xs → Contains xs x → P x
+all_has P xs x all (k, l, e) = subst P e (all k x l)
 
--- beside what the others use there is room for the touches
-abbrev pub HasRoom : {R : Type 0} → Rows R → List R → (R → ℕ) → List Touch → Type 0
-HasRoom {R} rows numbered others touches = (touch : Touch) (row : R) → Contains touches touch → slice_get numbered touch.row ≡ Some row → touch.uses + others row ≤ rows.capacity row
+module _ {R : Type 0} (cmp : R → R → Ordering) (rows : Rows R) (numbered : List R) (total : R → ℕ) (room : Room) (is : IsRoom rows numbered total room)
+    (touches : List Touch) (kind : TypeId) (leg : Leg) (used : List R) (are : AreTouches numbered (rows.uses kind leg) touches used) (lists : ListsRows cmp rows.is_row (rows.uses kind leg) used) where
+  -- the room for a touch of a row
+  abbrev fits : R → Type 0
+  fits row = total row + rows.uses kind leg row ≤ rows.capacity row
 
-module _ {R : Type 0} (cmp : R → R → Ordering) (rows : Rows R) (bids : List Bid) (node : List Decision) (number : ℕ) (numbered : List R) (touches : List Touch) (kind : TypeId) (leg : Leg) (used : List R)
-    (are : AreTouches numbered (rows.uses kind leg) touches used) (lists : ListsRows cmp rows.is_row (rows.uses kind leg) used) where
-  -- a leg is not blocked where there is room for its touches
-  room_free : HasRoom rows numbered (others_load rows bids node number) touches → IsBlocked rows bids node number kind leg → ⊥
-  room_free room (row, by) =
-      let t = zip_second (IsTouch numbered (rows.uses kind leg)) touches used are row ((lists.used row).0 by.used) in
-      too_much t.0.uses (rows.uses kind leg row) (others_load rows bids node number row) (rows.capacity row) t.2.use_is (room t.0 row t.1 t.2.number) by.above
+  touch_fits : (touch : Touch) (row : R) → IsTouch numbered (rows.uses kind leg) touch row → HasRoomFor room touch ↔ fits row
+  touch_fits touch row touched =
+      let u : get_or room.uses.items touch.row 0 ≡ total row = get_or_from_slice_get room.uses.items touch.row (total row) 0 (is.uses_are touch.row row touched.number) in
+      let c : get_or room.capacities.items touch.row 0 ≡ rows.capacity row = get_or_from_slice_get room.capacities.items touch.row (rows.capacity row) 0 (is.capacities_are touch.row row touched.number) in
+      let by = touched.use_is in
+      ((λ has. omega (arith, has, u, c, by)), (λ fit. omega (arith, fit, u, c, by)))
 
-  -- and only there
-  free_room : (IsBlocked rows bids node number kind leg → ⊥) → HasRoom rows numbered (others_load rows bids node number) touches
-  free_room free touch row has at =
-      let r = zip_first (IsTouch numbered (rows.uses kind leg)) touches used are touch has in
-      let same : r.0 ≡ row = same_Some r.0 row (sym r.2.number ∙ at) in
-      let use_is : touch.uses ≡ rows.uses kind leg row = r.2.use_is ∙ ap (rows.uses kind leg) same in
-      let some = (lists.used row).1 (subst (Contains used) same r.1) in
-      elim (cases_lt (rows.capacity row) (rows.uses kind leg row + others_load rows bids node number row)) as (λ _. touch.uses + others_load rows bids node number row ≤ rows.capacity row) [
-        | inl l ↦ absurd (free (row, record { is_row = lists.are_rows row some; used = some; above = l }))
-        | inr m ↦ subst (λ (u : ℕ). u + others_load rows bids node number row ≤ rows.capacity row) (sym use_is) m
-      ]
+  -- there is room for the touches of a leg exactly where the leg and what is used come to no more than the capacity of each row that the leg uses
+  pub room_tells : HasRoomForAll room touches ↔ ((row : R) → 0 < rows.uses kind leg row → total row + rows.uses kind leg row ≤ rows.capacity row)
+  room_tells = (
+    (λ has row some.
+        let t = zip_second (IsTouch numbered (rows.uses kind leg)) touches used are row ((lists.used row).0 some) in
+        (touch_fits t.0 row t.2).0 (all_has (HasRoomFor room) touches t.0 has t.1)),
+    (λ free. zip_all (IsTouch numbered (rows.uses kind leg)) (HasRoomFor room) touches used are (λ touch row has touched. (touch_fits touch row touched).1 (free row ((lists.used row).1 has)))),
+  )
 
-module _ {R : Type 0} (cmp : R → R → Ordering) (net : Net) (proper : IsProper net) (rows : Rows R) (used : TypeId → Leg → List R)
-    (lists : (kind : TypeId) (leg : Leg) → IsUsable net kind leg → ListsRows cmp rows.is_row (rows.uses kind leg) (used kind leg)) (bids : List Bid) (before node : List Decision) (number : ℕ) (bid : Bid) (here : slice_get bids number ≡ Some bid)
-    (t : Timed) (graph : IsGraphOf net bid.path t) (none : decisions_for node number ≡ []) (numbered : List R) (starts : List ℕ) (touches : List Touch) (groups : AreGroups starts touches) (arcs : List ArcTerm)
-    (count : length arcs ≡ length t.dag.arcs) (are : AreTerms (setting net rows used bids before) number bid t numbered starts touches arcs) where
-  none_own : All (λ (d : Decision). d.bid ≡ number → ⊥) node
-  none_own = (all_for (λ (d : Decision). ⊥) node number).0 (subst (All (λ (d : Decision). d.bid ≡ number → ⊥)) (sym none) (All-nil (λ (d : Decision). d.bid ≡ number → ⊥)))
+-- beside what the others use there is room for the touches of a leg exactly where the leg is not blocked
+module _ {R : Type 0} (cmp : R → R → Ordering) (rows : Rows R) (bids : List Bid) (node : List Decision) (number : ℕ) (numbered : List R) (room : Room) (is : IsRoom rows numbered (others_load rows bids node number) room)
+    (touches : List Touch) (kind : TypeId) (leg : Leg) (used : List R) (are : AreTouches numbered (rows.uses kind leg) touches used) (lists : ListsRows cmp rows.is_row (rows.uses kind leg) used) where
+  abbrev others : R → ℕ
+  others = others_load rows bids node number
 
-  start_free : (minute : ℕ) → IsStartOk node number minute
-  start_free minute = All-weaker (λ (d : Decision). d.bid ≡ number → ⊥) (λ (d : Decision). d.bid ≡ number → d.yes ≡ true → minute ≤ d.leg.depart) (λ d no own. absurd (no own)) node none_own
-
-  let_free : (kind : TypeId) (leg : Leg) → IsLetBy net node number kind leg
-  let_free kind leg = All-weaker (λ (d : Decision). d.bid ≡ number → ⊥) (λ (d : Decision). d.bid ≡ number → Lets net kind d leg) (λ d no own. absurd (no own)) node none_own
-
-  abbrev room : ℕ → Type 0
-  room g = HasRoom rows numbered (others_load rows bids node number) (group_at starts touches g)
-
-  nothing : (touch : Touch) → Contains [] touch → ⊥
-  nothing touch (k, l, e) = omega arith
-
-  empty_room : (g : ℕ) → group_at starts touches g ≡ [] → room g
-  empty_room g e = subst (HasRoom rows numbered (others_load rows bids node number)) (sym e) (λ touch row has at. absurd (nothing touch has))
-
-  leg_room : (k : ℕ) (leg : Leg) (arc : ArcTerm) → slice_get arcs k ≡ Some arc → leg_of t k ≡ Some leg → IsLegOk net rows bids node number (kind_at bids number) leg ↔ room arc.group
-  leg_room k leg arc at is =
-      let within = slice_get_within arcs k arc at in
-      let usable = arc_usable net proper bid t graph k leg (omega (arith, within, count)) is in
-      let law = lists bid.path.kind leg usable in
-      let touched = (are.legs_are k leg arc at is).group_is in
-      let group = group_at starts touches arc.group in
-      subst (λ (kind : TypeId). IsLegOk net rows bids node number kind leg ↔ room arc.group) (sym (kind_is bids number bid here)) (
-        (λ ok. free_room cmp rows bids node number numbered group bid.path.kind leg (used bid.path.kind leg) touched law ok.free),
-        (λ has. record { let_by = let_free bid.path.kind leg; free = room_free cmp rows bids node number numbered group bid.path.kind leg (used bid.path.kind leg) touched law has }),
+  pub room_free : HasRoomForAll room touches ↔ (IsBlocked rows bids node number kind leg → ⊥)
+  room_free =
+      let tells = room_tells cmp rows numbered others room is touches kind leg used are lists in (
+        (λ has blocked. let free = tells.0 has blocked.0 blocked.1.used in let above = blocked.1.above in omega (arith, free, above)),
+        (λ free. tells.1 (λ row some. elim (cases_lt (rows.capacity row) (rows.uses kind leg row + others row)) as (λ _. others row + rows.uses kind leg row ≤ rows.capacity row) [
+          | inl l ↦ absurd (free (row, record { is_row = lists.are_rows row some; used = some; above = l }))
+          | inr m ↦ omega (arith, m)
+        ])),
       )
 
-  mark_room : (k : ℕ) (arc : ArcTerm) (mark : Bool) → slice_get arcs k ≡ Some arc → IsMark net rows bids node number t k mark → (mark ≡ true) ↔ room arc.group
-  mark_room k arc mark at is = elim (cases_lt k (length t.minutes)) as (λ _. (mark ≡ true) ↔ room arc.group) [
-    | inl l ↦
-        let start = some_at t.minutes k l in
-        ((λ e. empty_room arc.group (are.starts_are k start.0 arc at start.1).group_is), (λ has. (is.start_is start.0 start.1).1 (start_free start.0)))
-    | inr past ↦
-        let there : leg_of t k ≡ Some (leg_at t k) = ap (λ (b : Bool). cond b None (Some (leg_at t k))) (le-ltb k (length t.minutes) past) in
-        let by = leg_room k (leg_at t k) arc at there in
-        let ok = is.leg_is (leg_at t k) there in
-        ((λ e. by.0 (ok.0 e)), (λ has. ok.1 (by.1 has)))
-  ]
+-- ---- room that is used up or given back
+pub same_room : {R : Type 0} (rows : Rows R) (numbered : List R) (before after : R → ℕ) (room : Room) → ((row : R) → before row ≡ after row) → IsRoom rows numbered before room → IsRoom rows numbered after room
+same_room rows numbered before after room same is = record {
+  uses_are = λ n row at. is.uses_are n row at ∙ ap Some (same row);
+  capacities_are = is.capacities_are;
+}
 
-  room_mark : (k : ℕ) (arc : ArcTerm) (mark : Bool) → slice_get arcs k ≡ Some arc → (mark ≡ true) ↔ room arc.group → IsMark net rows bids node number t k mark
-  room_mark k arc mark at is = record {
-    start_is = λ minute start. ((λ e. start_free minute), (λ ok. is.1 (empty_room arc.group (are.starts_are k minute arc at start).group_is)));
-    leg_is = λ leg there. let by = leg_room k leg arc at there in ((λ e. by.1 (is.0 e)), (λ ok. is.1 (by.0 ok)));
+module _ {R : Type 0} (cmp : R → R → Ordering) (rows : Rows R) (numbered : List R) where
+  -- room after a change of one row
+  row_changes : (before after : R → ℕ) (row : R) (change : ℕ → ℕ) (old new : Room) → IsRoom rows numbered before old → ChangesRow cmp numbered row change old new
+      → ((other : R) → cond (eq_by_cmp cmp row other) (change (before other)) (before other) ≡ after other) → IsRoom rows numbered after new
+  row_changes before after row change old new is changes same = record {
+    uses_are = λ n other at. changes.each n (before other) other at (is.uses_are n other at) ∙ ap Some (same other);
+    capacities_are = λ n other at. ap (λ c. slice_get c.items n) changes.capacities_are ∙ is.capacities_are n other at;
   }
 
-  -- arcs of one group may be taken alike
-  pub groups_tell : GroupsTell net rows bids node number t arcs
-  groups_tell = record {
-    same = λ i j a b mark a_at b_at e is. room_mark j b mark b_at (subst (λ (g : ℕ). (mark ≡ true) ↔ room g) e (mark_room i a mark a_at is));
-    none = λ j b at e. room_mark j b true at ((λ yes. subst room (sym e) (empty_room 0 groups.none)), (λ has. refl));
-  }
+  more : (b : Bool) (t p u q : ℕ) → p + cond b u 0 ≡ q → cond b (t + p + u) (t + p) ≡ t + q
+  more true t p u q e = omega arith
+  more false t p u q e = omega arith
+
+  less : (b : Bool) (t p u q : ℕ) → p ≡ cond b u 0 + q → cond b (t + p - u) (t + p) ≡ t + q
+  less true t p u q e = omega arith
+  less false t p u q e = omega arith
+
+  module _ (uses : R → ℕ) (used : List R) (total : R → ℕ) where
+    -- the first k of the rows are used too
+    abbrev pub added : ℕ → R → ℕ
+    added k row = total row + part_of cmp uses (take k used) row
+
+    -- and the rows from k on
+    abbrev pub left : ℕ → R → ℕ
+    left k row = total row + part_of cmp uses (drop k used) row
+
+    pub add_first : (room : Room) → IsRoom rows numbered total room → IsRoom rows numbered (added 0) room
+    add_first room is = same_room rows numbered total (added 0) room (λ row. omega arith) is
+
+    module _ (order : IsTotalOrder cmp) (apart : TellsApart cmp) where
+      pub add_more : (k : ℕ) (row : R) (old new : Room) → slice_get used k ≡ Some row → ChangesRow cmp numbered row (λ u. u + uses row) old new → IsRoom rows numbered (added k) old → IsRoom rows numbered (added (k + 1)) new
+      add_more k row old new at changes is =
+          row_changes (added k) (added (k + 1)) row (λ u. u + uses row) old new is changes
+          (λ other. more (eq_by_cmp cmp row other) (total other) (part_of cmp uses (take k used) other) (uses row) (part_of cmp uses (take (k + 1) used) other) (part_push cmp order apart rows.is_row uses used k row other at))
+
+      pub add_all : ListsRows cmp rows.is_row uses used → (k : ℕ) (room : Room) → length used ≤ k → IsRoom rows numbered (added k) room → IsRoom rows numbered (λ row. total row + uses row) room
+      add_all lists k room past is =
+          same_room rows numbered (added k) (λ row. total row + uses row) room
+          (λ row. ap (λ (n : ℕ). total row + n) (ap (λ (xs : List R). part_of cmp uses xs row) (take_all k used past) ∙ part_all cmp order apart rows.is_row uses used lists.ascending lists.used row)) is
+
+      pub take_first : ListsRows cmp rows.is_row uses used → (room : Room) → IsRoom rows numbered (λ row. total row + uses row) room → IsRoom rows numbered (left 0) room
+      take_first lists room is =
+          same_room rows numbered (λ row. total row + uses row) (left 0) room (λ row. ap (λ (n : ℕ). total row + n) (sym (part_all cmp order apart rows.is_row uses used lists.ascending lists.used row))) is
+
+      pub take_more : (k : ℕ) (row : R) (old new : Room) → slice_get used k ≡ Some row → ChangesRow cmp numbered row (λ u. u - uses row) old new → IsRoom rows numbered (left k) old → IsRoom rows numbered (left (k + 1)) new
+      take_more k row old new at changes is =
+          row_changes (left k) (left (k + 1)) row (λ u. u - uses row) old new is changes
+          (λ other. less (eq_by_cmp cmp row other) (total other) (part_of cmp uses (drop k used) other) (uses row) (part_of cmp uses (drop (k + 1) used) other) (gone other))
+        where
+          one : k + 1 ≡ suc k
+          one = omega arith
+
+          rest : drop k used ≡ row ∷ drop (k + 1) used
+          rest =
+              drop-cons used k row (slice_get_within used k row at) ∙ ap (λ (r : R). r ∷ drop (suc k) used) (get_or_from_slice_get used k row row at) ∙ ap (λ (j : ℕ). row ∷ drop j used) (sym one)
+
+          gone : (other : R) → part_of cmp uses (drop k used) other ≡ cond (eq_by_cmp cmp row other) (uses row) 0 + part_of cmp uses (drop (k + 1) used) other
+          gone other = ap (λ (xs : List R). part_of cmp uses xs other) rest ∙ sum_by-cons (λ (r : R). cond (eq_by_cmp cmp r other) (uses r) 0) row (drop (k + 1) used)
+
+      pub take_last : (k : ℕ) (room : Room) → length used ≤ k → IsRoom rows numbered (left k) room → IsRoom rows numbered total room
+      take_last k room past is =
+          same_room rows numbered (left k) total room (λ row. let none = ap (λ (xs : List R). part_of cmp uses xs row) (drop_all k used past) in omega arith) is

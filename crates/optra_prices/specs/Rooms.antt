@@ -1,5 +1,7 @@
 -- How much is used of rows by their numbers, and the room that is left.
-use Rattle.std.specs.Prelude.{◌≡◌, ℕ, ◌+◌, ◌≤◌, List, All, Some, slice_get, slice_index_or}
+use Rattle.std.specs.Prelude.{◌≡◌, ℕ, ◌+◌, ◌≤◌, ◌<◌, cond, nat_eq, List, length, All, Some, slice_get, slice_index, slice_index_or}
+use Rattle.std.specs.declared.cmp.Ordering.{Ordering}
+use Rattle.std.specs.Ordering.{eq_by_cmp}
 use Rattle.optra_walk.specs.Families.{Rows}
 use Rattle.optra_prices.specs.declared.numbering.Touch.{Touch}
 use Rattle.optra_prices.specs.declared.rooms.Room.{Room}
@@ -16,3 +18,13 @@ HasRoomFor room touch = slice_index_or room.uses.items touch.row 0 + touch.uses 
 -- there is room for each of the touches
 abbrev pub HasRoomForAll : Room → List Touch → Type 0
 HasRoomForAll room touches = All (HasRoomFor room) touches
+
+-- the use at number m is changed, and the others are as they were
+pub record ChangesUse (m : ℕ) (change : ℕ → ℕ) (old new : List ℕ) : Type 0 where
+  pub count : length new ≡ length old
+  pub each : (n : ℕ) → n < length old → slice_index new n ≡ cond (nat_eq m n) (change (slice_index old n)) (slice_index old n)
+
+-- the use of the row is changed, where the row has a number, and all else is as it was
+pub record ChangesRow {R : Type 0} (cmp : R → R → Ordering) (numbered : List R) (row : R) (change : ℕ → ℕ) (old new : Room) : Type 0 where
+  pub capacities_are : new.capacities ≡ old.capacities
+  pub each : (n uses : ℕ) (other : R) → slice_get numbered n ≡ Some other → slice_get old.uses.items n ≡ Some uses → slice_get new.uses.items n ≡ Some (cond (eq_by_cmp cmp row other) (change uses) uses)

@@ -21,7 +21,7 @@ pub(crate) fn empty_groups(alloc: Global) -> Result<Groups, NoMemory>
 }
 
 /// The touches of a group.
-fn group(groups: &Groups, g: usize) -> &[Touch]
+pub(crate) fn group(groups: &Groups, g: usize) -> &[Touch]
     requires groups { AreGroups groups.now.starts.items groups.now.touches.items }
     requires within { g + 1 < length groups.now.starts.items }
     ensures { result.now ≡ group_at groups.now.starts.items groups.now.touches.items g }
@@ -192,7 +192,7 @@ pub(crate) fn refresh(prices: &[i64], groups: &Groups, grouped: &mut Vec<i64>) -
 }
 
 /// Whether one of two holds.
-fn either(a: bool, b: bool) -> bool
+pub(crate) fn either(a: bool, b: bool) -> bool
     ensures { result ≡ (a || b) }
 {
     a || b
