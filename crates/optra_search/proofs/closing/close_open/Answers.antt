@@ -48,9 +48,9 @@ returns g c =
     let start = unwrap_or top.start (start_below (front c.args.search.waiting.items)) in
     let are : c.in_ok-prices.prices ≡ start = rw c.deref.ensures.value at c.in_ok-prices.ensures in
     let valued : IsValuation net rows bids node start v = subst (λ (prices : PriceList g.row.F-Row.Denot). IsValuation net rows bids node prices v) are c.in_ok-kept.ensures.dual in
-    let value : FitsSigned w128 c.dual-2.inside.value = search rules in
+    let value : FitsSigned w128 c.dual.inside.value = search rules in
     let whole : FitsSigned w128 c.whole_cents-cents.result = search rules in
-    let cents_is : c.whole_cents-cents.result ≡ whole_cents v.value = (simp to_z-of_z at c.whole_cents-cents.ensures) ∙ ap (λ (v : Valuation). whole_cents v.value) c.dual-2.view_is in
+    let cents_is : c.whole_cents-cents.result ≡ whole_cents v.value = (simp to_z-of_z at c.whole_cents-cents.ensures) ∙ ap (λ (v : Valuation). whole_cents v.value) c.dual.view_is in
     let after_is : after ≡ settled_as (record s { node = node }) None start (whole_cents v.value) =
     (simp to_z-of_z at c.in_ok-after.ensures) ∙ (λ i. settled_as (record s { node = node }) None (are i) (cents_is i)) in
     record {
