@@ -1,28 +1,144 @@
 -- Tables of arcs that are brought to a node, arc by arc and bid by bid.
-use Rattle.std.proofs.Common.{◌≡◌, ◌≢◌, ℕ, ◌+◌, ◌≤◌, ◌<◌, true, List, length, set, get_or, Some, slice_get, refl, sym, ap, ◌∙◌, subst, arith, inl, inr}
-use Rattle.std.specs.Prelude.{◌↔◌, All}
+use Rattle.std.proofs.Common.{◌≡◌, ◌≢◌, ℕ, ◌+◌, ◌≤◌, ◌<◌, Bool, true, false, cond, List, [], ◌∷◌, ◌++◌, length, take, drop, set, get_or, Option, Some, slice_get, refl, sym, ap, ◌∙◌, subst, arith, inl, inr}
+use Rattle.std.specs.Prelude.{◌↔◌, ◌||◌, All}
+use Rattle.std.specs.Option.{option_map_or}
+use Rattle.std.specs.declared.cmp.Ordering.{Ordering}
 use Rattle.std.proofs.lemmas.Bool.{cases_eq}
-use Rattle.std.proofs.lemmas.Option.{same_Some, slice_get_within, slice_get-get_or}
-use Rattle.optra_network.specs.Net.{Net}
+use Rattle.std.proofs.lemmas.List.{drop_all, length-append}
+use Rattle.std.proofs.lemmas.List.Elements.{All-nil, All-weaker}
+use Rattle.std.proofs.lemmas.Option.{same_Some, none-some, slice_get_within, slice_get-get_or}
+use Rattle.optra_network.specs.Net.{Net, IsProper}
 use Rattle.optra_network.specs.declared.TypeId.{TypeId}
 use Rattle.optra_bid.specs.declared.bids.Bid.{Bid}
 use Rattle.optra_walk.specs.declared.Leg.{Leg}
-use Rattle.optra_walk.specs.Families.{Rows}
-use Rattle.optra_graph.specs.Timed.{Timed, IsGraphOf}
+use Rattle.optra_walk.specs.Families.{Rows, IsUsable, ListsRows}
+use Rattle.optra_graph.specs.Timed.{Timed, IsGraphOf, leg_of}
 use Rattle.optra_node.specs.declared.Decision.{Decision}
-use Rattle.optra_node.specs.Spans.{IsLegOk}
-use Rattle.optra_prices.specs.Allowing.{IsToldAnew, AreToldAnew, IsTableAnew}
+use Rattle.optra_node.specs.Nodes.{IsBlocked, kind_at, uses_at, yes_uses, yes_load, others_load}
+use Rattle.optra_node.specs.Spans.{Lets, IsLetBy, IsLegOk}
+use Rattle.optra_node.specs.Summaries.{decisions_for}
+use Rattle.optra_node.proofs.SummaryLemmas.{all_for, load_split}
+use Rattle.optra_prices.specs.Allowing.{IsToldAnew, AreToldAnew, IsTableAnew, IsTableAt, RoomTells, IsTold, IsLetMark}
 use Rattle.optra_prices.specs.Arcs.{IsArcValue}
+use Rattle.optra_prices.specs.Keepings.{IsBrought, AreBrought}
+use Rattle.optra_prices.specs.Marks.{IsMark}
+use Rattle.optra_prices.specs.Rooms.{IsRoom, HasRoomFor, HasRoomForAll}
 use Rattle.optra_prices.specs.Tables.{Extends, AreTouches, AreGroups, group_at}
 use Rattle.optra_prices.specs.Terms.{Setting, setting, AreTerms}
 use Rattle.optra_prices.specs.Standings.{AreTables}
+use Rattle.optra_prices.specs.declared.allowing.Told.{Told}
 use Rattle.optra_prices.specs.declared.numbering.ArcTerm.{ArcTerm}
 use Rattle.optra_prices.specs.declared.numbering.BidTable.{BidTable}
 use Rattle.optra_prices.specs.declared.numbering.Groups.{Groups}
 use Rattle.optra_prices.specs.declared.numbering.Touch.{Touch}
+use Rattle.optra_prices.specs.declared.rooms.Room.{Room}
 use Rattle.optra_prices.proofs.ListLemmas.{some_at, all_at}
+use Rattle.optra_prices.proofs.NumberLemmas.{push_cases}
+use Rattle.optra_prices.proofs.RoomLemmas.{same_room, room_free}
 use Rattle.optra_prices.proofs.TableLemmas.{IsTableOf, table_kept, set_same, set_other, set_length}
-use Rattle.optra_prices.proofs.TermLemmas.{kind_is}
+use Rattle.optra_prices.proofs.TermLemmas.{arc_usable, kind_is, no_start}
+
+-- ---- what decided legs use
+module _ {R : Type 0} (rows : Rows R) (bids : List Bid) (numbered : List R) where
+  uses_kind : (row : R) (bid : ℕ) (leg : Leg) → bid < length bids → uses_at rows bids row bid leg ≡ rows.uses (kind_at bids bid) leg row
+  uses_kind row bid leg l =
+      let b = some_at bids bid l in
+      ap (λ (o : Option Bid). option_map_or (λ (x : Bid). rows.uses x.path.kind leg row) o 0) b.1 ∙ ap (λ (kind : TypeId). rows.uses kind leg row) (sym (kind_is bids bid b.0 b.1))
+
+  all_uses : (row : R) (d : Decision) → d.bid < length bids → d.yes ≡ true → yes_uses rows bids row d ≡ rows.uses (kind_at bids d.bid) d.leg row
+  all_uses row d l is = ap (λ (b : Bool). cond b (uses_at rows bids row d.bid d.leg) 0) is ∙ uses_kind row d.bid d.leg l
+
+  -- a yes leg uses what it uses for the type of its bid
+  pub take_yes : (total : R → ℕ) (room : Room) (d : Decision) (kind : TypeId) → d.bid < length bids → kind ≡ kind_at bids d.bid → d.yes ≡ true
+      → IsRoom rows numbered (λ row. total row + yes_uses rows bids row d) room → IsRoom rows numbered (λ row. total row + rows.uses kind d.leg row) room
+  take_yes total room d kind l e positive is =
+      same_room rows numbered (λ row. total row + yes_uses rows bids row d) (λ row. total row + rows.uses kind d.leg row) room
+      (λ row. ap (λ (n : ℕ). total row + n) (all_uses row d l positive ∙ ap (λ (x : TypeId). rows.uses x d.leg row) (sym e))) is
+
+  module _ (decisions : List Decision) (total : R → ℕ) where
+    -- with the yes legs among the first decisions
+    abbrev pub with_first : ℕ → R → ℕ
+    with_first k row = total row + yes_load rows bids (take k decisions) row
+
+    -- with the yes legs among the decisions from k on
+    abbrev pub with_rest : ℕ → R → ℕ
+    with_rest k row = total row + yes_load rows bids (drop k decisions) row
+
+    pub rest_none : (k : ℕ) (room : Room) → length decisions ≤ k → IsRoom rows numbered (with_rest k) room → IsRoom rows numbered total room
+    rest_none k room past is = same_room rows numbered (with_rest k) total room
+        (λ row. let none = ap (λ (ds : List Decision). yes_load rows bids ds row) (drop_all k decisions past) in omega (arith, none)) is
+
+  -- what all yes legs use is what those of the others and the bid's own use
+  pub split_room : (node : List Decision) (number : ℕ) (own : List Decision) (room : Room) → own ≡ decisions_for node number → IsRoom rows numbered (yes_load rows bids node) room
+      → IsRoom rows numbered (λ row. others_load rows bids node number row + yes_load rows bids own row) room
+  split_room node number own room e is = same_room rows numbered (yes_load rows bids node) (λ row. others_load rows bids node number row + yes_load rows bids own row) room
+      (λ row. load_split rows bids number row node ∙ ap (λ (ds : List Decision). others_load rows bids node number row + yes_load rows bids ds row) (sym e)) is
+
+  pub whole_room : (node : List Decision) (number : ℕ) (own : List Decision) (room : Room) → own ≡ decisions_for node number → IsRoom rows numbered (λ row. others_load rows bids node number row + yes_load rows bids own row) room
+      → IsRoom rows numbered (yes_load rows bids node) room
+  whole_room node number own room e is = same_room rows numbered (λ row. others_load rows bids node number row + yes_load rows bids own row) (yes_load rows bids node) room
+      (λ row. ap (λ (ds : List Decision). others_load rows bids node number row + yes_load rows bids ds row) e ∙ sym (load_split rows bids number row node)) is
+
+  -- the room beside all yes legs of a node
+  pub node_room : (decisions node : List Decision) (room : Room) → decisions ≡ node → IsRoom rows numbered (λ row. 0 + yes_load rows bids decisions row) room → IsRoom rows numbered (yes_load rows bids node) room
+  node_room decisions node room e is =
+      same_room rows numbered (λ row. 0 + yes_load rows bids decisions row) (yes_load rows bids node) room (λ row. let same = ap (λ (ds : List Decision). yes_load rows bids ds row) e in omega (arith, same)) is
+
+-- ---- what the room tells of a table's arcs
+module _ {R : Type 0} (cmp : R → R → Ordering) (net : Net) (proper : IsProper net) (rows : Rows R) (used : TypeId → Leg → List R)
+    (lists : (kind : TypeId) (leg : Leg) → IsUsable net kind leg → ListsRows cmp rows.is_row (rows.uses kind leg) (used kind leg)) (bids : List Bid) (before node : List Decision) (number : ℕ) (numbered : List R) (room : Room)
+    (is : IsRoom rows numbered (others_load rows bids node number) room) (table : BidTable) where
+  pub table_tells : IsTableAt (setting net rows used bids before) numbered number table → RoomTells rows bids node number room table.graph.now table.groups table.arcs.items
+  table_tells (bid, here, at) = record {
+    count = at.count;
+    groups_are = at.groups;
+    within = at.terms.within;
+    starts_are = λ k minute arc arc_at start. (at.terms.starts_are k minute arc arc_at start).group_is;
+    legs_are = λ k leg arc arc_at there.
+        let within = slice_get_within table.arcs.items k arc arc_at in
+        let count = at.count in
+        let usable = arc_usable net proper bid table.graph.now at.graph k leg (omega (arith, within, count)) there in
+        let group = group_at table.groups.starts.items table.groups.touches.items arc.group in
+        subst (λ (kind : TypeId). HasRoomForAll room group ↔ (IsBlocked rows bids node number kind leg → ⊥)) (sym (kind_is bids number bid here))
+        (room_free cmp rows bids node number numbered room is group bid.path.kind leg (used bid.path.kind leg) (at.terms.legs_are k leg arc arc_at there).group_is (lists bid.path.kind leg usable));
+  }
+
+module _ (net : Net) (bids : List Bid) (node : List Decision) (number : ℕ) (t : Timed) where
+  -- without decisions of its own a bid may take each arc for which there is room
+  pub free_mark : (k : ℕ) (has_room : Bool) → decisions_for node number ≡ [] → has_room ≡ true → IsLetMark net bids node number t k has_room true
+  free_mark k has_room none has = record {
+    start_is = λ minute start. ((λ e. (has, All-weaker (λ (d : Decision). d.bid ≡ number → ⊥) (λ (d : Decision). d.bid ≡ number → d.yes ≡ true → minute ≤ d.leg.depart) (λ d no own. absurd (no own)) node none_own)), (λ ok. refl));
+    leg_is = λ leg there.
+        ((λ e. (has, All-weaker (λ (d : Decision). d.bid ≡ number → ⊥) (λ (d : Decision). d.bid ≡ number → Lets net (kind_at bids number) d leg) (λ d no own. absurd (no own)) node none_own)), (λ ok. refl));
+  }
+    where
+      none_own : All (λ (d : Decision). d.bid ≡ number → ⊥) node
+      none_own = (all_for (λ (d : Decision). ⊥) node number).0 (subst (All (λ (d : Decision). d.bid ≡ number → ⊥)) (sym none) (All-nil (λ (d : Decision). d.bid ≡ number → ⊥)))
+
+  -- the arc of a leg, where there is room
+  pub leg_let : (k : ℕ) (leg : Leg) (has_room mark : Bool) → leg_of t k ≡ Some leg → has_room ≡ true → (mark ≡ true) ↔ IsLetBy net node number (kind_at bids number) leg → IsLetMark net bids node number t k has_room mark
+  leg_let k leg has_room mark at has lets = record {
+    start_is = λ minute start. absurd (no_start t k minute leg at start);
+    leg_is = λ other there.
+        subst (λ (x : Leg). (mark ≡ true) ↔ ((has_room ≡ true) × IsLetBy net node number (kind_at bids number) x)) (same_Some leg other (sym at ∙ there)) ((λ e. (has, lets.0 e)), (λ ok. lets.1 ok.1));
+  }
+
+-- whether an arc may be taken, by the room for its group and the bid's own decisions
+pub arc_mark : {R : Type 0} (net : Net) (rows : Rows R) (bids : List Bid) (node : List Decision) (number : ℕ) (room : Room) (t : Timed) (groups : Groups) (arcs : List ArcTerm) → RoomTells rows bids node number room t groups arcs
+    → (k : ℕ) (arc : ArcTerm) (told : Told) (mark : Bool) → slice_get arcs k ≡ Some arc → told.group ≡ arc.group → IsTold room groups told → IsLetMark net bids node number t k told.has_room mark → IsMark net rows bids node number t k mark
+arc_mark net rows bids node number room t groups arcs tells k arc told mark at same is lets = record {
+  start_is = λ minute start.
+      let by = lets.start_is minute start in
+      let has : told.has_room ≡ true = is.1 (subst (HasRoomForAll room) (sym (ap (group_at groups.starts.items groups.touches.items) same ∙ tells.starts_are k minute arc at start)) (All-nil (HasRoomFor room))) in
+      ((λ e. (by.0 e).1), (λ ok. by.1 (has, ok)));
+  leg_is = λ leg there.
+      let by = lets.leg_is leg there in
+      let free = tells.legs_are k leg arc at there in
+      let is_here : (told.has_room ≡ true) ↔ HasRoomForAll room (group_at groups.starts.items groups.touches.items arc.group) =
+      subst (λ (g : ℕ). (told.has_room ≡ true) ↔ HasRoomForAll room (group_at groups.starts.items groups.touches.items g)) same is
+      in
+      ((λ e. record { let_by = (by.0 e).1; free = free.0 (is_here.0 (by.0 e).0) }), (λ ok. by.1 (is_here.1 (free.1 ok.free), ok.let_by)));
+}
 
 -- the first arcs are told anew, and the others are as they were
 pub record AreToldUpTo {R : Type 0} (net : Net) (rows : Rows R) (bids : List Bid) (node : List Decision) (number : ℕ) (t : Timed) (n : ℕ) (old new : List ArcTerm) : Type 0 where
@@ -157,3 +273,44 @@ module _ {R : Type 0} (net : Net) (rows : Rows R) (used : TypeId → Leg → Lis
     count_is = so_far.count_is;
     each = λ number bid table b t. so_far.done number bid table (let w = slice_get_within bids number bid b in omega arith) b t;
   }
+
+-- ---- what has changed
+pub neither : (a b : Bool) → (a || b) ≡ false → (a ≡ false) × (b ≡ false)
+neither true b e = cc
+neither false b e = (refl, e)
+
+-- what has changed of the first tables is known, and the others are as they were
+pub record AreBroughtUpTo (n : ℕ) (changed : List Bool) (old new : List BidTable) : Type 0 where
+  pub count_is : length new ≡ length old
+  pub changed_count : length changed ≡ n
+  pub done : (number : ℕ) (c : Bool) (before after : BidTable) → slice_get changed number ≡ Some c → slice_get old number ≡ Some before → slice_get new number ≡ Some after → IsBrought c before after
+  pub left : (number : ℕ) → n ≤ number → slice_get new number ≡ slice_get old number
+
+pub brought_none : (tables : List BidTable) → AreBroughtUpTo 0 [] tables tables
+brought_none tables = record { count_is = refl; changed_count = refl; done = λ number c before after x b a. absurd (none-some c x); left = λ number l. refl }
+
+-- one more table
+pub brought_more : (n : ℕ) (changed : List Bool) (old new : List BidTable) (c : Bool) (table after : BidTable) → AreBroughtUpTo n changed old new → slice_get new n ≡ Some table → IsBrought c table after
+    → AreBroughtUpTo (n + 1) (changed ++ c ∷ []) old (set new n after)
+brought_more n changed old new c table after so_far at is = record {
+  count_is = set_length new n after ∙ so_far.count_is;
+  changed_count = let l = length-append changed (c ∷ []) in let e = so_far.changed_count in omega arith;
+  done = λ number x y z x_at y_at z_at. elim (push_cases changed c number x x_at) as (λ _. IsBrought x y z) [
+    | inl before ↦
+        let w = slice_get_within changed number x before in
+        let e = so_far.changed_count in
+        let apart : number ≢ n = omega arith in
+        so_far.done number x y z before y_at (sym (set_other new n number after apart) ∙ z_at)
+    | inr now ↦
+        let place : number ≡ n = now.0 ∙ so_far.changed_count in
+        let here : slice_get (set new n after) n ≡ Some z = ap (slice_get (set new n after)) (sym place) ∙ z_at in
+        let w = slice_get_within new n table at in
+        let same_after : after ≡ z = set_same new n after z w here in
+        let same : table ≡ y = same_Some table y (sym at ∙ so_far.left n (omega arith) ∙ ap (slice_get old) (sym place) ∙ y_at) in
+        subst (λ (b : Bool). IsBrought b y z) now.1 (subst (λ (u : BidTable). IsBrought c y u) same_after (subst (λ (u : BidTable). IsBrought c u after) same is))
+  ];
+  left = λ number l. let apart : number ≢ n = omega arith in set_other new n number after apart ∙ so_far.left number (omega arith);
+}
+
+pub brought_all : (n : ℕ) (changed : List Bool) (old new : List BidTable) → AreBroughtUpTo n changed old new → n ≡ length old → AreBrought changed old new
+brought_all n changed old new so_far all = record { count_is = so_far.count_is; changed_count = so_far.changed_count ∙ all; each = so_far.done }

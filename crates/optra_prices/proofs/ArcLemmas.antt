@@ -216,17 +216,17 @@ module _ {R : Type 0} (net : Net) (proper : IsProper net) (rows : Rows R) (bids 
       zero_below m z (inl f) = absurd (clash (sym z.0 ∙ sym e ∙ f))
       zero_below m z (inr above) = let a = z.1 in omega (arith, ints)
 
-  -- the bid is stuck exactly where the search says so
-  pub found_stuck : (forced stuck : Bool) (path : List ℕ) (term : ℤ) → forced ≡ has_yes node number → IsFound t.dag allows weight forced path term stuck
+  -- the bid is stuck exactly where the search says so, whatever the arcs weighed
+  pub found_stuck : (weighed : ℕ → ℤ) (forced stuck : Bool) (path : List ℕ) (term : ℤ) → forced ≡ has_yes node number → IsFound t.dag allows weighed forced path term stuck
       → (stuck ≡ true) ↔ IsStuck net rows bids node number bid
-  found_stuck forced stuck path term e (inl none) =
+  found_stuck weighed forced stuck path term e (inl none) =
       ((λ s. record { yes = sym e ∙ sym none.stuck_is ∙ s; none = none_allowed none.none }), (λ is. none.stuck_is ∙ e ∙ is.yes))
-  found_stuck forced stuck path term e (inr (inl nothing)) =
+  found_stuck weighed forced stuck path term e (inr (inl nothing)) =
       ((λ s. absurd (clash (sym nothing.stuck_is ∙ s))), (λ is. absurd (clash (sym nothing.free ∙ e ∙ is.yes))))
     where
       clash : false ≡ true → ⊥
       clash q = cc
-  found_stuck forced stuck path term e (inr (inr found)) =
+  found_stuck weighed forced stuck path term e (inr (inr found)) =
       ((λ s. absurd (clash (sym found.stuck_is ∙ s))), (λ is. absurd (is.none (walk_of t path) (path_allowed path found.best.path))))
     where
       clash : false ≡ true → ⊥

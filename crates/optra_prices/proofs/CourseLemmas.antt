@@ -52,6 +52,7 @@ moved_of cmp s c is = record {
   prices = is.prices;
   stood = (c.prices.items, is.stand);
   use_count = is.use_count;
+  rest = is.rest;
 }
 
 -- capacities are at most 65,535

@@ -27,3 +27,4 @@ pub mod LoadingLemmas
 pub mod AllowLemmas
 pub mod RoomLemmas
 pub mod PartLemmas
+pub mod KeepLemmas

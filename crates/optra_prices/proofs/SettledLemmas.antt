@@ -41,18 +41,18 @@ group_used {R} cmp numbered prices listed uses agrees (touch ∷ touches) (row �
     omega (arith, ints)
 
 module _ {R : Type 0} (cmp : R → R → Ordering) (s : Setting R) (proper : IsProper s.net) (law : TestsTellAllowed s.net s.rows s.bids) (by_used : PricesByUsedRows s.net s.rows cmp s.used) (numbered : List R) (prices : List ℤ) (listed : PriceList R) (agrees : Agrees cmp numbered prices listed) where
-  module _ (number : ℕ) (bid : Bid) (table : BidTable) (standing : Standing)
-      (are : AreBidArcs s number bid table.graph.now numbered table.arcs.items table.groups.starts.items table.groups.touches.items table.forced) (stands : Stands table prices standing) where
+  module _ (number : ℕ) (bid : Bid) (table : BidTable) (grouped : List ℤ) (are : AreBidArcs s number bid table.graph.now numbered table.arcs.items table.groups.starts.items table.groups.touches.items table.forced)
+      (priced : AreGroupPrices prices table.groups.starts.items table.groups.touches.items grouped) where
     arc_there : (k : ℕ) → k < length table.graph.now.dag.arcs → slice_get table.arcs.items k ≡ Some (get_or table.arcs.items k no_arc)
     arc_there k l = slice_get-get_or table.arcs.items k no_arc (let n = are.count in omega arith)
 
     group_is : (k : ℕ) → k < length table.graph.now.dag.arcs
-        → slice_index_or standing.grouped.items (get_or table.arcs.items k no_arc).group (pos 0) ≡ group_price prices (group_at table.groups.starts.items table.groups.touches.items (get_or table.arcs.items k no_arc).group)
+        → slice_index_or grouped (get_or table.arcs.items k no_arc).group (pos 0) ≡ group_price prices (group_at table.groups.starts.items table.groups.touches.items (get_or table.arcs.items k no_arc).group)
     group_is k l =
         let w = all_at (λ (a : ArcTerm). a.group + 1 < length table.groups.starts.items) table.arcs.items k (get_or table.arcs.items k no_arc) are.terms.within (arc_there k l) in
-        stands.grouped.each (get_or table.arcs.items k no_arc).group (let n = stands.grouped.count in omega arith)
+        priced.each (get_or table.arcs.items k no_arc).group (let n = priced.count in omega arith)
 
-    weighed : AreWeighed s.net s.rows s.bids s.node listed number bid table.graph.now (allows_by table.arcs.items) (weight_by table.arcs.items standing.grouped.items)
+    pub weighed : AreWeighed s.net s.rows s.bids s.node listed number bid table.graph.now (allows_by table.arcs.items) (weight_by table.arcs.items grouped)
     weighed = record {
       start_allowed = λ k minute l at. (are.terms.starts_are k minute (get_or table.arcs.items k no_arc) (arc_there k l) at).allowed;
       start_weight = λ k minute l at.
@@ -72,20 +72,25 @@ module _ {R : Type 0} (cmp : R → R → Ordering) (s : Setting R) (proper : IsP
           omega (arith, ints);
     }
 
+  module _ (number : ℕ) (bid : Bid) (table : BidTable) (standing : Standing)
+      (are : AreBidArcs s number bid table.graph.now numbered table.arcs.items table.groups.starts.items table.groups.touches.items table.forced) (stands : Stands table prices standing) where
+    by_standing : AreWeighed s.net s.rows s.bids s.node listed number bid table.graph.now (allows_by table.arcs.items) (weight_by table.arcs.items standing.grouped.items)
+    by_standing = weighed number bid table standing.grouped.items are stands.grouped
+
     pub reply_is : IsReply s.net s.rows s.bids s.node listed number bid (path_reply table.graph.now standing.path.items)
     reply_is =
-        found_reply s.net proper s.rows s.bids law s.node listed number bid table.graph.now are.graph (allows_by table.arcs.items) (weight_by table.arcs.items standing.grouped.items) weighed
+        found_reply s.net proper s.rows s.bids law s.node listed number bid table.graph.now are.graph (allows_by table.arcs.items) (weight_by table.arcs.items standing.grouped.items) by_standing
         table.forced standing.stuck standing.path.items standing.term are.forced_is stands.found
 
     pub term_is : IsTerm s.net s.rows s.bids s.node listed number bid standing.term
     term_is =
-        found_term s.net proper s.rows s.bids law s.node listed number bid table.graph.now are.graph (allows_by table.arcs.items) (weight_by table.arcs.items standing.grouped.items) weighed
+        found_term s.net proper s.rows s.bids law s.node listed number bid table.graph.now are.graph (allows_by table.arcs.items) (weight_by table.arcs.items standing.grouped.items) by_standing
         table.forced standing.stuck standing.path.items standing.term are.forced_is stands.found
 
     pub stuck_is : (standing.stuck ≡ true) ↔ IsStuck s.net s.rows s.bids s.node number bid
     stuck_is =
-        found_stuck s.net proper s.rows s.bids law s.node listed number bid table.graph.now are.graph (allows_by table.arcs.items) (weight_by table.arcs.items standing.grouped.items) weighed
-        table.forced standing.stuck standing.path.items standing.term are.forced_is stands.found
+        found_stuck s.net proper s.rows s.bids law s.node listed number bid table.graph.now are.graph (allows_by table.arcs.items) (weight_by table.arcs.items standing.grouped.items) by_standing
+        (weight_by table.arcs.items standing.grouped.items) table.forced standing.stuck standing.path.items standing.term are.forced_is stands.found
 
 -- a place of the lists of replies and of terms
 replies_at : (tables : List BidTable) (standings : List Standing) (k : ℕ) (reply : Option (List Leg)) → slice_get (replies_of tables standings) k ≡ Some reply

@@ -87,14 +87,14 @@ stand_push tables prices n standings table standing below at is = record {
 pub all_stand : (tables : List BidTable) (prices : List ℤ) (n : ℕ) (standings : List Standing) → StandBelow tables prices n standings → n ≡ length tables → AllStand tables prices standings
 all_stand tables prices n standings below e = record { count_is = below.count_is ∙ e; each = below.each }
 
--- the first ones stand at new prices, and the others at old ones
-pub record StandMixed (tables : List BidTable) (old prices : List ℤ) (n : ℕ) (standings : List Standing) : Type 0 where
+-- the first ones stand by the tables and the prices that are now, and the others by those before
+pub record StandMixed (before tables : List BidTable) (old prices : List ℤ) (n : ℕ) (standings : List Standing) : Type 0 where
   pub count_is : length standings ≡ length tables
   pub done : (number : ℕ) (table : BidTable) (standing : Standing) → number < n → slice_get tables number ≡ Some table → slice_get standings number ≡ Some standing → Stands table prices standing
-  pub left : (number : ℕ) (table : BidTable) (standing : Standing) → n ≤ number → slice_get tables number ≡ Some table → slice_get standings number ≡ Some standing → Stands table old standing
+  pub left : (number : ℕ) (table : BidTable) (standing : Standing) → n ≤ number → slice_get before number ≡ Some table → slice_get standings number ≡ Some standing → Stands table old standing
 
-pub mixed_first : (tables : List BidTable) (old prices : List ℤ) (standings : List Standing) → AllStand tables old standings → StandMixed tables old prices 0 standings
-mixed_first tables old prices standings stand = record { count_is = stand.count_is; done = λ number table standing l t s. absurd (omega arith); left = λ number table standing l t s. stand.each number table standing t s }
+pub mixed_first : (before tables : List BidTable) (old prices : List ℤ) (standings : List Standing) → length tables ≡ length before → AllStand before old standings → StandMixed before tables old prices 0 standings
+mixed_first before tables old prices standings same stand = record { count_is = stand.count_is ∙ sym same; done = λ number table standing l t s. absurd (omega arith); left = λ number table standing l t s. stand.each number table standing t s }
 
 pub set_same : {X : Type 0} (xs : List X) (k : ℕ) (x y : X) → k < length xs → slice_get (set xs k x) k ≡ Some y → x ≡ y
 set_same [] k x y l e = absurd (omega arith)
@@ -113,9 +113,9 @@ set_length [] k x = refl
 set_length (z ∷ xs) zero x = refl
 set_length (z ∷ xs) (suc k) x = ap suc (set_length xs k x)
 
-pub mixed_more : (tables : List BidTable) (old prices : List ℤ) (n : ℕ) (standings : List Standing) (table : BidTable) (standing : Standing) → StandMixed tables old prices n standings → slice_get tables n ≡ Some table → Stands table prices standing
-    → StandMixed tables old prices (n + 1) (set standings n standing)
-mixed_more tables old prices n standings table standing mixed at is = record {
+pub mixed_more : (before tables : List BidTable) (old prices : List ℤ) (n : ℕ) (standings : List Standing) (table : BidTable) (standing : Standing) → StandMixed before tables old prices n standings → slice_get tables n ≡ Some table → Stands table prices standing
+    → StandMixed before tables old prices (n + 1) (set standings n standing)
+mixed_more before tables old prices n standings table standing mixed at is = record {
   count_is = set_length standings n standing ∙ mixed.count_is;
   done = λ number x y l x_at y_at. elim (cases_eq number n) as (λ _. Stands x prices y) [
     | inl e ↦
@@ -132,8 +132,8 @@ mixed_more tables old prices n standings table standing mixed at is = record {
       mixed.left number x y (omega arith) x_at (sym (set_other standings n number standing apart) ∙ y_at);
 }
 
-pub mixed_all : (tables : List BidTable) (old prices : List ℤ) (n : ℕ) (standings : List Standing) → StandMixed tables old prices n standings → length tables ≤ n → AllStand tables prices standings
-mixed_all tables old prices n standings mixed l = record {
+pub mixed_all : (before tables : List BidTable) (old prices : List ℤ) (n : ℕ) (standings : List Standing) → StandMixed before tables old prices n standings → length tables ≤ n → AllStand tables prices standings
+mixed_all before tables old prices n standings mixed l = record {
   count_is = mixed.count_is;
   each = λ number table standing t s. mixed.done number table standing (let w = slice_get_within tables number table t in omega arith) t s;
 }

@@ -1,14 +1,22 @@
 -- Tables of arcs that are brought from one node to another.
-use Rattle.std.specs.Prelude.{◌≡◌, ℕ, Bool, true, List, length, Some, slice_get}
+use Rattle.std.specs.Prelude.{◌≡◌, ◌↔◌, ℕ, ◌+◌, ◌<◌, Bool, true, List, [], length, All, Some, slice_get}
 use Rattle.optra_network.specs.Net.{Net}
 use Rattle.optra_bid.specs.declared.bids.Bid.{Bid}
+use Rattle.optra_walk.specs.declared.Leg.{Leg}
 use Rattle.optra_walk.specs.Families.{Rows}
-use Rattle.optra_graph.specs.Timed.{Timed}
+use Rattle.optra_graph.specs.Timed.{Timed, leg_of, start_of}
 use Rattle.optra_node.specs.declared.Decision.{Decision}
-use Rattle.optra_node.specs.Nodes.{has_yes}
+use Rattle.optra_node.specs.Nodes.{IsBlocked, has_yes, kind_at}
+use Rattle.optra_node.specs.Spans.{IsLetBy, IsStartOk}
 use Rattle.optra_prices.specs.Marks.{IsMark}
+use Rattle.optra_prices.specs.Rooms.{HasRoomForAll}
+use Rattle.optra_prices.specs.Tables.{AreGroups, group_at}
+use Rattle.optra_prices.specs.Terms.{Setting, AreBidArcs}
+use Rattle.optra_prices.specs.declared.allowing.Told.{Told}
 use Rattle.optra_prices.specs.declared.numbering.ArcTerm.{ArcTerm}
 use Rattle.optra_prices.specs.declared.numbering.BidTable.{BidTable}
+use Rattle.optra_prices.specs.declared.numbering.Groups.{Groups}
+use Rattle.optra_prices.specs.declared.rooms.Room.{Room}
 
 -- the arc adds and touches what it did, and may be taken where its start or its leg passes the node's test
 pub record IsToldAnew {R : Type 0} (net : Net) (rows : Rows R) (bids : List Bid) (node : List Decision) (number : ℕ) (t : Timed) (k : ℕ) (old new : ArcTerm) : Type 0 where
@@ -28,7 +36,24 @@ pub record IsTableAnew {R : Type 0} (net : Net) (rows : Rows R) (bids : List Bid
   pub arcs : AreToldAnew net rows bids node number old.graph.now old.arcs.items new.arcs.items
   pub forced_is : new.forced ≡ has_yes node number
 
--- arcs of one group may be taken alike, and those of the group without rows may be taken
-pub record GroupsTell {R : Type 0} (net : Net) (rows : Rows R) (bids : List Bid) (node : List Decision) (number : ℕ) (t : Timed) (arcs : List ArcTerm) : Type 0 where
-  pub same : (i j : ℕ) (a b : ArcTerm) (mark : Bool) → slice_get arcs i ≡ Some a → slice_get arcs j ≡ Some b → a.group ≡ b.group → IsMark net rows bids node number t i mark → IsMark net rows bids node number t j mark
-  pub none : (j : ℕ) (b : ArcTerm) → slice_get arcs j ≡ Some b → b.group ≡ 0 → IsMark net rows bids node number t j true
+-- the table is that of a bid
+abbrev pub IsTableAt : {R : Type 0} → Setting R → List R → ℕ → BidTable → Type 0
+IsTableAt s numbered number table = (bid : Bid) × (slice_get s.bids number ≡ Some bid) × AreBidArcs s number bid table.graph.now numbered table.arcs.items table.groups.starts.items table.groups.touches.items table.forced
+
+-- arcs are in groups of touches: that of a start is empty, and there is room for that of a leg exactly where the leg is not blocked
+pub record RoomTells {R : Type 0} (rows : Rows R) (bids : List Bid) (node : List Decision) (number : ℕ) (room : Room) (t : Timed) (groups : Groups) (arcs : List ArcTerm) : Type 0 where
+  pub count : length arcs ≡ length t.dag.arcs
+  pub groups_are : AreGroups groups.starts.items groups.touches.items
+  pub within : All (λ arc. arc.group + 1 < length groups.starts.items) arcs
+  pub starts_are : (k minute : ℕ) (arc : ArcTerm) → slice_get arcs k ≡ Some arc → start_of t k ≡ Some minute → group_at groups.starts.items groups.touches.items arc.group ≡ []
+  pub legs_are : (k : ℕ) (leg : Leg) (arc : ArcTerm) → slice_get arcs k ≡ Some arc → leg_of t k ≡ Some leg
+      → HasRoomForAll room (group_at groups.starts.items groups.touches.items arc.group) ↔ (IsBlocked rows bids node number (kind_at bids number) leg → ⊥)
+
+-- what is told of a group is whether there is room for it
+abbrev pub IsTold : Room → Groups → Told → Type 0
+IsTold room groups told = (told.has_room ≡ true) ↔ HasRoomForAll room (group_at groups.starts.items groups.touches.items told.group)
+
+-- the mark tells whether there is room and the bid's own decisions let its walk take the arc
+pub record IsLetMark (net : Net) (bids : List Bid) (node : List Decision) (number : ℕ) (t : Timed) (k : ℕ) (has_room mark : Bool) : Type 0 where
+  pub start_is : (minute : ℕ) → start_of t k ≡ Some minute → (mark ≡ true) ↔ ((has_room ≡ true) × IsStartOk node number minute)
+  pub leg_is : (leg : Leg) → leg_of t k ≡ Some leg → (mark ≡ true) ↔ ((has_room ≡ true) × IsLetBy net node number (kind_at bids number) leg)

@@ -1,5 +1,5 @@
 -- Tables of arcs that are kept from node to node, and what is known of the bids.
-use Rattle.std.specs.Prelude.{◌≡◌, ◌<◌, ℕ, ℤ, Bool, true, false, List, length, take, All, Option, None, Some, slice_get, slice_index_or}
+use Rattle.std.specs.Prelude.{◌≡◌, ◌<◌, ℕ, ℤ, Bool, true, false, List, length, All, Option, None, Some, slice_get}
 use Rattle.std.specs.declared.cmp.Ordering.{Ordering}
 use Rattle.optra_network.specs.Net.{Net}
 use Rattle.optra_network.specs.declared.TypeId.{TypeId}
@@ -9,7 +9,7 @@ use Rattle.optra_walk.specs.Families.{Rows}
 use Rattle.optra_node.specs.declared.Decision.{Decision}
 use Rattle.optra_prices.specs.Tables.{IsNumbering}
 use Rattle.optra_prices.specs.Terms.{setting}
-use Rattle.optra_prices.specs.Standings.{AreTables, AllStand}
+use Rattle.optra_prices.specs.Standings.{AreTables, AllStand, Stands}
 use Rattle.optra_prices.specs.declared.keeping.ArcTables.{ArcTables}
 use Rattle.optra_prices.specs.declared.numbering.BidTable.{BidTable}
 use Rattle.optra_prices.specs.declared.numbering.Standing.{Standing}
@@ -39,7 +39,18 @@ pub record AreBrought (changed : List Bool) (old new : List BidTable) : Type 0 w
   pub changed_count : length changed ≡ length old
   pub each : (number : ℕ) (c : Bool) (before after : BidTable) → slice_get changed number ≡ Some c → slice_get old number ≡ Some before → slice_get new number ≡ Some after → IsBrought c before after
 
+-- what stood by the table before it was brought to a node stands by it now, at the same prices
+abbrev pub KeepsStanding : Bool → BidTable → Standing → Standing → Type 0
+KeepsStanding changed table old new = (prices : List ℤ) (before : BidTable) → IsBrought changed before table → Stands before prices old → Stands table prices new
+
+-- what is known of the bid at this place says that it is stuck, and of none before it
+pub record IsStuckFirst (standings : List Standing) (number : ℕ) : Type 0 where
+  pub standing : Standing
+  pub at : slice_get standings number ≡ Some standing
+  pub is : standing.stuck ≡ true
+  pub free : (other : ℕ) (before : Standing) → other < number → slice_get standings other ≡ Some before → before.stuck ≡ false
+
 -- the first of the bids that is stuck, by what is known of them; none where none is
 abbrev pub IsFirstStuckIn : List Standing → Option ℕ → Type 0
 IsFirstStuckIn standings None = All (λ standing. standing.stuck ≡ false) standings
-IsFirstStuckIn standings (Some number) = ((d : Standing) → (slice_index_or standings number d).stuck ≡ true) × (number < length standings) × All (λ standing. standing.stuck ≡ false) (take number standings)
+IsFirstStuckIn standings (Some number) = IsStuckFirst standings number

@@ -1,134 +1,287 @@
 //! Which arcs may be taken at a node, told anew in tables that were made at another node.
-ghost use Rattle.std.specs.Prelude.{◌≡◌, ◌⊎◌, [], ◌<◌, ◌≤◌, true, List, All, IfOk, OnOk, length};
+//!
+//! The room that the yes legs leave is held by the numbers of rows, so that no row is looked up in a map for an arc. A
+//! bid's own yes legs are taken out of it while the bid's arcs are told.
+ghost use Rattle.std.specs.Prelude.{◌≡◌, ◌+◌, ◌<◌, ◌≤◌, ◌↔◌, ℕ, IsTrue, [], true, false, List, All, IfOk, OnOk, length};
+ghost use Rattle.optra_network.specs.Net.{MayUse};
 ghost use Rattle.optra_node.specs.declared.Decision.{Decision};
-ghost use Rattle.optra_node.specs.Nodes.{IsNode};
-ghost use Rattle.optra_node.specs.Summaries.{decisions_for};
-ghost use Rattle.optra_prices.specs.Marks.{IsMark, HasFormedLegs};
-ghost use Rattle.optra_prices.specs.Tables.{IsNumbering};
+ghost use Rattle.optra_node.specs.Nodes.{IsNode, IsFormedDecision, kind_at, yes_uses, yes_load};
+ghost use Rattle.optra_node.specs.Summaries.{summed, decisions_for};
+ghost use Rattle.optra_prices.specs.Tables.{IsNumbering, AreGroups};
 ghost use Rattle.optra_prices.specs.Terms.{setting};
-ghost use Rattle.optra_prices.specs.Keepings.{AreBrought};
+ghost use Rattle.optra_prices.specs.Keepings.{IsBrought, AreBrought};
+ghost use Rattle.optra_prices.specs.Rooms.{IsRoom};
 ghost use Rattle.optra_prices.specs.Standings.{AreTables};
-ghost use Rattle.optra_prices.specs.Allowing.{IsToldAnew, AreToldAnew, IsTableAnew, GroupsTell};
+ghost use Rattle.optra_prices.specs.Allowing.{AreToldAnew, IsTableAnew, IsTold, IsLetMark, RoomTells, IsTableAt};
 
-use crate::marking::{has_yes, mark_at};
-use crate::numbering::{ArcTerm, BidTable, Numbering};
+use crate::grouping::{either, group};
+use crate::marking::has_yes;
+use crate::numbering::{ArcTerm, BidTable, Groups, Numbering};
+use crate::rooms::{Room, add_leg, empty_room, has_room, take_leg};
 use optra_graph::TimeGraph;
-use optra_network::NoMemory;
-use optra_node::{Node, Summary};
+use optra_network::{Network, NoMemory, TrackId, TypeId};
+use optra_node::{Decision, Node, Summary};
 use optra_walk::{Instance, RowFamily};
-use std::alloc::{AllocError, Global};
+use std::alloc::Global;
 
-/// Tells anew whether the arc may be taken.
-fn allow_arc<F: RowFamily>(
-    summary: &Summary<'_, F>,
-    number: u32,
-    graph: &TimeGraph,
-    k: u32,
-    arc: &mut ArcTerm,
-)
-    requires bid { number < length summary.now.bids }
-    requires legs { HasFormedLegs summary.now.net graph.now }
-    requires within { k < length graph.now.dag.arcs }
-    ensures { IsToldAnew summary.now.net (F.rows_of summary.now.family summary.now.net) summary.now.bids summary.now.node number graph.now k arc.old arc.new }
+/// The train type of a bid.
+fn kind_at(inst: Instance<'_>, bid: u32) -> TypeId
+    requires { bid < length inst.bids.now }
+    ensures { result ≡ kind_at inst.entry.bids.now bid }
 {
-    arc.allowed = mark_at(summary, number, graph, k);
+    let bid = &inst.bids[bid as usize];
+    bid.path.kind
 }
 
-/// Tells anew which arcs of a bid's graph may be taken.
-fn allow_arcs<F: RowFamily>(
-    summary: &Summary<'_, F>,
-    number: u32,
-    graph: &TimeGraph,
-    arcs: &mut Vec<ArcTerm>,
-)
-    requires bid { number < length summary.now.bids }
-    requires legs { HasFormedLegs summary.now.net graph.now }
-    requires count { length arcs.old.items ≡ length graph.now.dag.arcs }
-    ensures { AreToldAnew summary.now.net (F.rows_of summary.now.family summary.now.net) summary.now.bids summary.now.node number graph.now arcs.old.items arcs.new.items }
+/// Whether the type may use the track.
+fn may_use(net: &Network, track: TrackId, kind: TypeId) -> bool
+    ensures { IsTrue result ↔ MayUse net.now track kind }
 {
-    let count = graph.dag().arcs();
-    for k in 0..count {
-        allow_arc(summary, number, graph, k, &mut arcs[k as usize]);
+    net.run(track, kind, true, true).is_some()
+}
+
+/// Adds what the decided leg uses, where it is yes.
+fn add_decision<F: RowFamily>(
+    room: &mut Room,
+    inst: Instance<'_>,
+    rows: &F,
+    numbering: &Numbering<F::Row>,
+    decision: Decision,
+) -> Result<(), NoMemory>
+    requires decision { IsFormedDecision inst.net.now (length inst.bids.now) decision }
+    requires numbering { IsNumbering F.Row.cmp numbering.now.numbers numbering.now.rows.items }
+    ensures { OnOk result ((total : F.Row → ℕ) → IsRoom (F.rows_of rows.now inst.entry.net.now) numbering.now.rows.items total room.old → IsRoom (F.rows_of rows.now inst.entry.net.now) numbering.now.rows.items (λ row. total row + yes_uses (F.rows_of rows.now inst.entry.net.now) inst.entry.bids.now row decision) room.new) }
+{
+    let kind = kind_at(inst, decision.bid);
+    if !decision.yes {
+        return Ok(());
+    }
+    if !may_use(inst.net, decision.leg.track, kind) {
+        return Ok(());
+    }
+    add_leg(room, inst.net, rows, numbering, kind, decision.leg)
+}
+
+/// Takes away what the decided leg uses, where it is yes.
+fn take_decision<F: RowFamily>(
+    room: &mut Room,
+    inst: Instance<'_>,
+    rows: &F,
+    numbering: &Numbering<F::Row>,
+    decision: Decision,
+)
+    requires decision { IsFormedDecision inst.net.now (length inst.bids.now) decision }
+    requires numbering { IsNumbering F.Row.cmp numbering.now.numbers numbering.now.rows.items }
+    ensures { (total : F.Row → ℕ) → IsRoom (F.rows_of rows.now inst.entry.net.now) numbering.now.rows.items (λ row. total row + yes_uses (F.rows_of rows.now inst.entry.net.now) inst.entry.bids.now row decision) room.old → IsRoom (F.rows_of rows.now inst.entry.net.now) numbering.now.rows.items total room.new }
+{
+    let kind = kind_at(inst, decision.bid);
+    if !decision.yes {
+        return;
+    }
+    if !may_use(inst.net, decision.leg.track, kind) {
+        return;
+    }
+    take_leg(room, inst.net, rows, numbering, kind, decision.leg);
+}
+
+/// Adds what the yes legs use.
+fn add_decisions<F: RowFamily>(
+    room: &mut Room,
+    inst: Instance<'_>,
+    rows: &F,
+    numbering: &Numbering<F::Row>,
+    decisions: &[Decision],
+) -> Result<(), NoMemory>
+    requires decisions { All (IsFormedDecision inst.net.now (length inst.bids.now)) decisions.now }
+    requires numbering { IsNumbering F.Row.cmp numbering.now.numbers numbering.now.rows.items }
+    ensures { OnOk result ((total : F.Row → ℕ) → IsRoom (F.rows_of rows.now inst.entry.net.now) numbering.now.rows.items total room.old → IsRoom (F.rows_of rows.now inst.entry.net.now) numbering.now.rows.items (λ row. total row + yes_load (F.rows_of rows.now inst.entry.net.now) inst.entry.bids.now decisions.now row) room.new) }
+{
+    for decision in decisions {
+        add_decision(room, inst, rows, numbering, *decision)?;
+    }
+    Ok(())
+}
+
+/// Takes away what the yes legs use.
+fn take_decisions<F: RowFamily>(
+    room: &mut Room,
+    inst: Instance<'_>,
+    rows: &F,
+    numbering: &Numbering<F::Row>,
+    decisions: &[Decision],
+)
+    requires decisions { All (IsFormedDecision inst.net.now (length inst.bids.now)) decisions.now }
+    requires numbering { IsNumbering F.Row.cmp numbering.now.numbers numbering.now.rows.items }
+    ensures { (total : F.Row → ℕ) → IsRoom (F.rows_of rows.now inst.entry.net.now) numbering.now.rows.items (λ row. total row + yes_load (F.rows_of rows.now inst.entry.net.now) inst.entry.bids.now decisions.now row) room.old → IsRoom (F.rows_of rows.now inst.entry.net.now) numbering.now.rows.items total room.new }
+{
+    for decision in decisions {
+        take_decision(room, inst, rows, numbering, *decision);
     }
 }
 
-/// A group of rows that arcs touch, and whether its arcs may be taken.
+/// A group of rows that arcs touch, and whether there is room for it.
 #[derive(Clone, Copy)]
 pub(crate) struct Told {
     pub(crate) group: u32,
-    pub(crate) allowed: bool,
+    pub(crate) has_room: bool,
 }
 
-/// What is told of the group of the arc at place `k`: what was told last, where that was of the same group.
-fn tell_group<F: RowFamily>(
+/// Whether there is room for a group: what was told last, where that was of the same group.
+fn tell_group(room: &Room, groups: &Groups, number: u32, last: Told) -> Told
+    requires groups { AreGroups groups.now.starts.items groups.now.touches.items }
+    requires within { number + 1 < length groups.now.starts.items }
+    requires last { IsTold room.now groups.now last }
+    ensures group { result.group ≡ number }
+    ensures told { IsTold room.now groups.now result }
+{
+    if number == last.group {
+        return last;
+    }
+    Told {
+        group: number,
+        has_room: has_room(room, group(groups, number as usize)),
+    }
+}
+
+/// Whether the arc may be taken, where it is known whether there is room for what it touches and whether the bid has
+/// decisions of its own.
+fn let_arc<F: RowFamily>(
     summary: &Summary<'_, F>,
     number: u32,
     graph: &TimeGraph,
     k: u32,
-    group: u32,
-    last: Told,
-) -> Told
+    has_own: bool,
+    has_room: bool,
+) -> bool
     requires bid { number < length summary.now.bids }
-    requires legs { HasFormedLegs summary.now.net graph.now }
     requires within { k < length graph.now.dag.arcs }
-    ensures group { result.group ≡ group }
-    ensures told { ((group ≡ last.group) × (result.allowed ≡ last.allowed)) ⊎ IsMark summary.now.net (F.rows_of summary.now.family summary.now.net) summary.now.bids summary.now.node number graph.now k result.allowed }
+    requires own { has_own ≡ false → decisions_for summary.now.node number ≡ [] }
+    ensures { IsLetMark summary.now.net summary.now.bids summary.now.node number graph.now k has_room result }
 {
-    if group == last.group {
-        return last;
+    if !has_room {
+        return false;
     }
-    let allowed = mark_at(summary, number, graph, k);
-    Told { group, allowed }
+    if !has_own {
+        return true;
+    }
+    match graph.leg(k) {
+        Some(leg) => summary.let_by(number, leg),
+        None => summary.start_ok(number, graph.start(k).unwrap_or(0)),
+    }
 }
 
-/// Says whether the arc may be taken.
-fn set_allowed(arc: &mut ArcTerm, allowed: bool)
+/// Says whether the arc may be taken, and tells whether that changed.
+fn set_allowed(arc: &mut ArcTerm, allowed: bool) -> bool
     ensures value { arc.new.value ≡ arc.old.value }
     ensures group { arc.new.group ≡ arc.old.group }
     ensures allowed { arc.new.allowed ≡ allowed }
+    ensures same { result ≡ false → arc.new ≡ arc.old }
 {
+    if arc.allowed == allowed {
+        return false;
+    }
     arc.allowed = allowed;
+    true
 }
 
-/// Tells anew which arcs of the graph of a bid without decisions of its own may be taken, group by group.
-fn allow_groups<F: RowFamily>(
+/// Tells anew which arcs of a bid's graph may be taken, group by group, and whether that changed for one of them.
+fn allow_arcs<F: RowFamily>(
     summary: &Summary<'_, F>,
     number: u32,
+    room: &Room,
     graph: &TimeGraph,
+    groups: &Groups,
     arcs: &mut Vec<ArcTerm>,
-)
+) -> bool
     requires bid { number < length summary.now.bids }
-    requires legs { HasFormedLegs summary.now.net graph.now }
-    requires count { length arcs.old.items ≡ length graph.now.dag.arcs }
-    requires tell { GroupsTell summary.now.net (F.rows_of summary.now.family summary.now.net) summary.now.bids summary.now.node number graph.now arcs.old.items }
-    ensures { AreToldAnew summary.now.net (F.rows_of summary.now.family summary.now.net) summary.now.bids summary.now.node number graph.now arcs.old.items arcs.new.items }
+    requires tells { RoomTells (F.rows_of summary.now.family summary.now.net) summary.now.bids summary.now.node number room.now graph.now groups.now arcs.old.items }
+    ensures told { AreToldAnew summary.now.net (F.rows_of summary.now.family summary.now.net) summary.now.bids summary.now.node number graph.now arcs.old.items arcs.new.items }
+    ensures same { result ≡ false → arcs.new.items ≡ arcs.old.items }
 {
-    let count = graph.dag().arcs();
+    let has_own = !summary.own(number).is_empty();
     let mut last = Told {
         group: 0,
-        allowed: true,
+        has_room: true,
     };
-    for k in 0..count {
+    let mut changed = false;
+    for k in 0..graph.dag().arcs() {
         let arc = &mut arcs[k as usize];
-        last = tell_group(summary, number, graph, k, arc.group, last);
-        set_allowed(arc, last.allowed);
+        last = tell_group(room, groups, arc.group, last);
+        let allowed = let_arc(summary, number, graph, k, has_own, last.has_room);
+        let other = set_allowed(arc, allowed);
+        changed = either(changed, other);
     }
+    changed
 }
 
-/// Brings a bid's table to the summary's node.
-fn allow_table<F: RowFamily>(summary: &Summary<'_, F>, number: u32, table: &mut BidTable<'_>)
-    requires bid { number < length summary.now.bids }
-    requires legs { HasFormedLegs summary.now.net table.old.graph.now }
-    requires count { length table.old.arcs.items ≡ length table.old.graph.now.dag.arcs }
-    requires tell { decisions_for summary.now.node number ≡ [] → GroupsTell summary.now.net (F.rows_of summary.now.family summary.now.net) summary.now.bids summary.now.node number table.old.graph.now table.old.arcs.items }
-    ensures { IsTableAnew summary.now.net (F.rows_of summary.now.family summary.now.net) summary.now.bids summary.now.node number table.old table.new }
+/// Says whether the bid has a yes leg, and tells whether that changed.
+fn set_forced(old: &mut bool, forced: bool) -> bool
+    ensures forced { old.new ≡ forced }
+    ensures same { result ≡ false → old.new ≡ old.old }
 {
-    if summary.own(number).is_empty() {
-        allow_groups(summary, number, table.graph, &mut table.arcs);
-    } else {
-        allow_arcs(summary, number, table.graph, &mut table.arcs);
-    }
-    table.forced = has_yes(summary, number);
+    let changed = *old != forced;
+    *old = forced;
+    changed
+}
+
+/// Brings a bid's table to the node, and tells whether an arc or whether the bid has a yes leg changed.
+fn allow_table<F: RowFamily>(
+    summary: &Summary<'_, F>,
+    number: u32,
+    room: &Room,
+    table: &mut BidTable<'_>,
+) -> bool
+    requires bid { number < length summary.now.bids }
+    requires tells { RoomTells (F.rows_of summary.now.family summary.now.net) summary.now.bids summary.now.node number room.now table.old.graph.now table.old.groups table.old.arcs.items }
+    ensures anew { IsTableAnew summary.now.net (F.rows_of summary.now.family summary.now.net) summary.now.bids summary.now.node number table.old table.new }
+    ensures brought { IsBrought result table.old table.new }
+{
+    let arcs = allow_arcs(
+        summary,
+        number,
+        room,
+        table.graph,
+        &table.groups,
+        &mut table.arcs,
+    );
+    let forced = set_forced(&mut table.forced, has_yes(summary, number));
+    either(arcs, forced)
+}
+
+/// Brings the table of a bid to the node, while the bid's own yes legs are out of the room.
+fn allow_bid<F: RowFamily>(
+    inst: Instance<'_>,
+    rows: &F,
+    node: &Node,
+    summary: &Summary<'_, F>,
+    numbering: &Numbering<F::Row>,
+    room: &mut Room,
+    number: u32,
+    table: &mut BidTable<'_>,
+) -> Result<bool, NoMemory>
+    requires bid { number < length inst.bids.now }
+    requires node { IsNode inst.net.now (length inst.bids.now) node.now }
+    requires summary { summary.now ≡ summed rows.now inst.net.now inst.bids.now node.now }
+    requires numbering { IsNumbering F.Row.cmp numbering.now.numbers numbering.now.rows.items }
+    requires room { IsRoom (F.rows_of rows.now inst.net.now) numbering.now.rows.items (yes_load (F.rows_of rows.now inst.net.now) inst.bids.now node.now) room.old }
+    requires table { (before : List Decision) × IsTableAt (setting inst.net.now (F.rows_of rows.now inst.net.now) (F.rows_used rows.now inst.net.now) inst.bids.now before) numbering.now.rows.items number table.old }
+    ensures room { OnOk result (IsRoom (F.rows_of rows.now inst.entry.net.now) numbering.now.rows.items (yes_load (F.rows_of rows.now inst.entry.net.now) inst.entry.bids.now node.now) room.new) }
+    ensures anew { OnOk result (IsTableAnew inst.entry.net.now (F.rows_of rows.now inst.entry.net.now) inst.entry.bids.now node.now number table.old table.new) }
+    ensures brought { IfOk result (λ changed. IsBrought changed table.old table.new) }
+{
+    let _ = inst.net.track_count();
+    let own = summary.own(number);
+    take_decisions(room, inst, rows, numbering, own);
+    let changed = allow_table(summary, number, room, table);
+    add_decisions(room, inst, rows, numbering, own)?;
+    Ok(changed)
+}
+
+/// The decisions of a node.
+fn decisions_of(node: &Node) -> &[Decision]
+    ensures { result.now ≡ node.now }
+{
+    &node.decisions
 }
 
 /// Brings the tables of all bids to a node, and tells for each of them whether an arc may now be taken that could not be
@@ -149,5 +302,23 @@ pub(crate) fn allow_all<F: RowFamily>(
     ensures tables { OnOk result (AreTables (setting inst.entry.net.now (F.rows_of rows.now inst.entry.net.now) (F.rows_used rows.now inst.entry.net.now) inst.entry.bids.now node.now) (length inst.entry.bids.now) numbering.now.rows.items tables.new.items) }
     ensures brought { IfOk result (λ changed. AreBrought changed.items tables.old.items tables.new.items) }
 {
-    Err(AllocError)
+    let summary = Summary::new(alloc, inst, rows, node)?;
+    let mut room = empty_room(alloc, inst.net, rows, numbering)?;
+    add_decisions(&mut room, inst, rows, numbering, decisions_of(node))?;
+    let bids = inst.bids;
+    let mut changed = Vec::with_capacity(alloc, bids.len())?;
+    for number in 0..bids.len() {
+        let one = allow_bid(
+            inst,
+            rows,
+            node,
+            &summary,
+            numbering,
+            &mut room,
+            number as u32,
+            &mut tables[number],
+        )?;
+        changed.push(one)?;
+    }
+    Ok(changed)
 }

@@ -192,7 +192,7 @@ pub(crate) fn refresh(prices: &[i64], groups: &Groups, grouped: &mut Vec<i64>) -
 }
 
 /// Whether one of two holds.
-fn either(a: bool, b: bool) -> bool
+pub(crate) fn either(a: bool, b: bool) -> bool
     ensures { result ≡ (a || b) }
 {
     a || b

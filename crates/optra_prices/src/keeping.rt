@@ -19,7 +19,7 @@ use crate::{Dead, Dual, Priced};
 use optra_dag::Buffers;
 use optra_graph::Graphs;
 use optra_network::{Cents, NoMemory};
-use optra_node::{Node, Prices};
+use optra_node::{Node, Prices, prices_by_used_rows, tests_tell_allowed};
 use optra_walk::{Instance, RowFamily};
 use std::alloc::Global;
 
@@ -110,6 +110,9 @@ pub fn dead_over<F: RowFamily>(
     requires kept { AreKeptAt F.Row.cmp inst.net.now (F.rows_of rows.now inst.net.now) (F.rows_used rows.now inst.net.now) inst.bids.now node.now kept.now }
     ensures { IsDeadAs F.Row.cmp inst.entry.net.now (F.rows_of rows.now inst.entry.net.now) inst.entry.bids.now node.now result }
 {
+    let _ = inst.net.track_count();
+    tests_tell_allowed(inst, rows);
+    prices_by_used_rows(inst, rows);
     if let Some(row) = node.overfull(inst, rows) {
         return Some(Dead::Forced { row });
     }

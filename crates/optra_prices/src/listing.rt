@@ -6,7 +6,6 @@ ghost use Rattle.optra_prices.specs.Courses.{listed};
 ghost use Rattle.optra_prices.specs.Listings.{capacity_sum};
 ghost use Rattle.optra_prices.specs.Tables.{IsNumbering, Extends, IsRowPrice};
 
-use crate::duals::no_numbers;
 use crate::numbering::Numbering;
 use crate::stepping::push_price;
 use crate::touching::number;
@@ -35,23 +34,6 @@ pub(crate) fn number_more<F: RowFamily>(
         number::<F>(numbering, entry.0)?;
     }
     Ok(())
-}
-
-/// Numbers of the listed rows.
-pub(crate) fn number_rows<F: RowFamily>(
-    alloc: Global,
-    net: &Network,
-    rows: &F,
-    entries: &[(F::Row, i64)],
-) -> Result<Numbering<F::Row>, NoMemory>
-    requires { ArePrices (F.rows_of rows.now net.now) entries.now }
-    ensures numbering { IfOk result (λ numbering. IsNumbering F.Row.cmp numbering.numbers numbering.rows.items) }
-    ensures rows { IfOk result (λ numbering. All (λ row. (F.rows_of rows.now net.now).is_row row ≡ true) numbering.rows.items) }
-    ensures numbered { IfOk result (λ numbering. All (λ e. Contains numbering.rows.items e.0) entries.now) }
-{
-    let mut numbering = no_numbers(alloc);
-    number_more(net, rows, &mut numbering, entries)?;
-    Ok(numbering)
 }
 
 /// The rows that have numbers, ascending.

@@ -8,7 +8,7 @@ ghost use Rattle.optra_prices.specs.Keepings.{AreBrought};
 ghost use Rattle.optra_prices.specs.declared.numbering.BidTable.{BidTable};
 
 use crate::numbering::{BidTable, Numbering, Standing};
-use crate::settling::{first_standing, renew, update};
+use crate::settling::{first_standing, renew_where, update};
 use crate::tables::bid_table;
 use optra_dag::Buffers;
 use optra_graph::Graphs;
@@ -107,9 +107,12 @@ pub(crate) fn renew_all(
     ensures { OnOk result ((old : List ℤ) × AllStand tables.now old standings.new.items) }
 {
     for number in 0..tables.len() {
-        if changed[number] {
-            renew(buffers, &tables[number], &mut standings[number])?;
-        }
+        renew_where(
+            buffers,
+            &tables[number],
+            changed[number],
+            &mut standings[number],
+        )?;
     }
     Ok(())
 }

@@ -2,6 +2,7 @@
 ghost use Rattle.std.specs.Prelude.{◌≡◌, All, IfOk, OnOk, List, ℤ};
 ghost use Rattle.optra_prices.specs.Tables.{IsRowPrice, IsGroupPrice, AreGroupPrices};
 ghost use Rattle.optra_prices.specs.Standings.{Stands, IsSound};
+ghost use Rattle.optra_prices.specs.Keepings.{KeepsStanding};
 
 use crate::grouping::refresh;
 use crate::numbering::{BidTable, Standing};
@@ -90,4 +91,21 @@ pub(crate) fn renew(
     standing.term = outcome.term;
     standing.stuck = outcome.stuck;
     Ok(())
+}
+
+/// As [`renew`], where something has changed; else what is known of the bid stands.
+pub(crate) fn renew_where(
+    buffers: &mut Buffers,
+    table: &BidTable<'_>,
+    changed: bool,
+    standing: &mut Standing,
+) -> Result<(), NoMemory>
+    requires sound { IsSound table.now }
+    requires range { All IsGroupPrice standing.old.grouped.items }
+    ensures { OnOk result (KeepsStanding changed table.now standing.old standing.new) }
+{
+    if !changed {
+        return Ok(());
+    }
+    renew(buffers, table, standing)
 }

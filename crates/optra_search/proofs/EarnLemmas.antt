@@ -1,5 +1,5 @@
 -- What a choice earns, bid by bid.
-use Rattle.std.proofs.Common.{◌≡◌, ℕ, zero, suc, ◌+◌, ◌≤◌, ◌<◌, List, [], ◌∷◌, length, drop, get_or, slice_get, Option, None, Some, IfSome, refl, ap, arith, add-one}
+use Rattle.std.proofs.Common.{◌≡◌, ℕ, zero, suc, ◌+◌, ◌≤◌, ◌<◌, List, [], ◌∷◌, length, drop, get_or, Option, None, Some, IfSome, refl, ap, arith, add-one}
 use Rattle.std.specs.Prelude.{pos, ◌+ℤ◌}
 use Rattle.std.proofs.lemmas.Int.{ints}
 use Rattle.optra_network.specs.Net.{Net}
@@ -7,10 +7,6 @@ use Rattle.optra_bid.specs.declared.bids.Bid.{Bid}
 use Rattle.optra_walk.specs.declared.Leg.{Leg}
 use Rattle.optra_walk.specs.Walks.{IsWalk}
 use Rattle.optra_walk.specs.Choices.{IsChoice, revenue_of}
-use Rattle.optra_walk.specs.Families.{Rows}
-use Rattle.optra_node.specs.declared.Decision.{Decision}
-use Rattle.optra_node.specs.Duals.{PriceList}
-use Rattle.optra_prices.specs.Replies.{AreReplies, IsReply}
 
 revenue-cons : (net : Net) (bid : Bid) (bids : List Bid) (walk : Option (List Leg)) (walks : List (Option (List Leg)))
     → revenue_of net (bid ∷ bids) (walk ∷ walks) ≡ revenue_of net (bid ∷ []) (walk ∷ []) +ℤ revenue_of net bids walks
@@ -54,19 +50,3 @@ choice_at net [] walks i bid walk h k b w = absurd (omega arith)
 choice_at net (x ∷ bids) [] i bid walk h k b w = absurd h
 choice_at net (x ∷ bids) (y ∷ walks) zero bid walk h k b w = rw (b, w) h.0
 choice_at net (x ∷ bids) (y ∷ walks) (suc i) bid walk h k b w = choice_at net bids walks i bid walk h.1 (omega arith) b w
-
--- entries that are walks of their bids, one for each, are a choice
-pub choice_of : (net : Net) (bids : List Bid) (walks : List (Option (List Leg))) → length walks ≡ length bids
-    → ((number : ℕ) (bid : Bid) (walk : Option (List Leg)) → slice_get bids number ≡ Some bid → slice_get walks number ≡ Some walk → IfSome walk (IsWalk net bid.path)) → IsChoice net bids walks
-choice_of net [] [] l h = tt
-choice_of net [] (w ∷ walks) l h = absurd (omega arith)
-choice_of net (b ∷ bids) [] l h = absurd (omega arith)
-choice_of net (b ∷ bids) (w ∷ walks) l h = (h zero b w refl refl, choice_of net bids walks (omega arith) (λ n. h (suc n)))
-
--- the replies at a node are a choice
-pub replies_choice : {R : Type 0} (net : Net) (rows : Rows R) (bids : List Bid) (node : List Decision) (prices : PriceList R) (replies : List (Option (List Leg))) → AreReplies net rows bids node prices replies → IsChoice net bids replies
-replies_choice net rows bids node prices replies are = choice_of net bids replies are.count (λ n b w at_b at_w. by n b w (are.each n b w at_b at_w))
-  where
-    by : (n : ℕ) (b : Bid) (w : Option (List Leg)) → IsReply net rows bids node prices n b w → IfSome w (IsWalk net b.path)
-    by n b None is = tt
-    by n b (Some legs) is = is.0.allowed.walk

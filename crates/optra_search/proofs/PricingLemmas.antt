@@ -13,13 +13,13 @@ use Rattle.optra_prices.specs.declared.Priced.{Priced as PathResult}
 use Rattle.optra_prices.specs.Deads.{IsDeadAs}
 use Rattle.optra_prices.specs.Paths.{IsPathResult}
 use Rattle.optra_prices.specs.Repairs.{IsRepair}
+use Rattle.optra_prices.proofs.ChoiceLemmas.{replies_are_choice}
 use Rattle.optra_prices.proofs.RepairLemmas.{repair_fits}
 use Rattle.optra_search.specs.Planner.{IsBetter}
 use Rattle.optra_search.specs.Marks.{AreSettled}
 use Rattle.optra_search.specs.Openings.{front, start_below, IsOutcome}
 use Rattle.optra_search.specs.Searches.{Parts, IsReached, IsEntered}
 use Rattle.optra_search.specs.Reached.{settled_as}
-use Rattle.optra_search.proofs.EarnLemmas.{replies_choice}
 use Rattle.optra_search.proofs.ResultLemmas.{result_valued}
 use Rattle.optra_search.proofs.SearchLemmas.{settled_closes, settled_next}
 
@@ -41,7 +41,7 @@ module _ {R : Type 0} (cmp : R → R → Ordering) (net : Net) (proper : IsPrope
   -- the replies are walks of their bids
   pub priced_replies : IsChoice net bids result.dual.replies
   priced_replies =
-      replies_choice net rows bids s.node result.prices result.dual.replies (result_valued cmp net rows bids s.node (unwrap_or start (start_below (front s.waiting))) steps s.revenue result path).replies
+      replies_are_choice net rows bids s.node result.prices result.dual.replies (result_valued cmp net rows bids s.node (unwrap_or start (start_below (front s.waiting))) steps s.revenue result path).replies
 
   module _ (repaired : List (Option (List Leg))) (repair : IsRepair net rows bids s.node result.dual repaired) where
     -- so are those of the repaired choice

@@ -1,5 +1,6 @@
 //! The end of a search: each node that still waits becomes a leaf with its start prices.
-ghost use Rattle.std.specs.Prelude.{◌≡◌, ◌≤◌, ◌++◌, ◌∷◌, [], length, All, Contains, IfOk, unwrap_or};
+ghost use Rattle.std.specs.Prelude.{◌≡◌, ◌≤◌, ◌++◌, ◌∷◌, [], length, IfOk, unwrap_or};
+ghost use Rattle.optra_prices.specs.Keepings.{AreKept};
 ghost use Rattle.optra_search.specs.Openings.{front, start_below};
 ghost use Rattle.optra_search.specs.Reached.{parts_of};
 ghost use Rattle.optra_search.specs.Closings.{MayClose, HasClosed};
@@ -7,10 +8,9 @@ ghost use Rattle.optra_search.specs.Closings.{MayClose, HasClosed};
 use crate::searching::{Search, close, start_under};
 use crate::settling::{whole_cents, zero_prices};
 use crate::waiting::{Waiting, enter};
-use optra_graph::Graphs;
 use optra_network::NoMemory;
 use optra_node::Prices;
-use optra_prices::duals::dual;
+use optra_prices::keeping::{ArcTables, bring_to, dual_over};
 use optra_walk::{Instance, RowFamily};
 use std::alloc::Global;
 
@@ -33,56 +33,62 @@ fn own_start<R: Copy>(
     }
 }
 
-/// The node that was on top of the stack becomes a leaf with its start prices.
-fn close_open<F: RowFamily, G: Graphs>(
+/// The node that was on top of the stack becomes a leaf with its start prices. The tables of arcs are brought to it, and
+/// handed back.
+fn close_open<'g, F: RowFamily>(
     alloc: Global,
     inst: Instance<'_>,
-    graphs: &G,
     rows: &F,
+    kept: ArcTables<'g, F::Row>,
     search: Search<F::Row>,
     top: Waiting<F::Row>,
-) -> Result<Search<F::Row>, NoMemory>
+) -> Result<(Search<F::Row>, ArcTables<'g, F::Row>), NoMemory>
     requires few { length inst.bids.now ≤ 1000 }
-    requires network { G.network graphs.now ≡ inst.net.now }
-    requires held { All (λ bid. Contains (G.held graphs.now) bid.path) inst.bids.now }
+    requires kept { AreKept F.Row.cmp inst.net.now (F.rows_of rows.now inst.net.now) (F.rows_used rows.now inst.net.now) inst.bids.now kept }
     requires closing { MayClose F.Row.cmp inst.net.now (F.rows_of rows.now inst.net.now) inst.bids.now (record (parts_of search) { waiting = search.waiting.items ++ top ∷ [] }) }
-    ensures closing { IfOk result (λ after. MayClose F.Row.cmp inst.entry.net.now (F.rows_of rows.now inst.entry.net.now) inst.entry.bids.now (parts_of after)) }
-    ensures closed { IfOk result (λ after. HasClosed (record (parts_of search) { waiting = search.waiting.items ++ top ∷ [] }) (parts_of after)) }
-    ensures rest { IfOk result (λ after. after.waiting.items ≡ search.waiting.items) }
+    ensures closing { IfOk result (λ both. MayClose F.Row.cmp inst.entry.net.now (F.rows_of rows.now inst.entry.net.now) inst.entry.bids.now (parts_of both.0)) }
+    ensures closed { IfOk result (λ both. HasClosed (record (parts_of search) { waiting = search.waiting.items ++ top ∷ [] }) (parts_of both.0)) }
+    ensures rest { IfOk result (λ both. both.0.waiting.items ≡ search.waiting.items) }
+    ensures kept { IfOk result (λ both. AreKept F.Row.cmp inst.entry.net.now (F.rows_of rows.now inst.entry.net.now) (F.rows_used rows.now inst.entry.net.now) inst.entry.bids.now both.1) }
 {
     let mut search = search;
+    let mut kept = kept;
     let Waiting {
         depth,
         decision,
         start,
     } = top;
     enter(&mut search.node, depth, decision)?;
+    bring_to(alloc, inst, rows, &search.node, &mut kept)?;
     let prices = own_start(alloc, start, &search.waiting)?;
-    let dual = dual(alloc, inst, graphs, rows, &search.node, &prices)?;
+    let (kept, dual) = dual_over(alloc, inst, rows, &search.node, kept, &prices)?;
     let cents = whole_cents(dual.value);
     let after = close(search, prices, cents)?;
-    Ok(after)
+    Ok((after, kept))
 }
 
-/// Each node that waits becomes a leaf with its start prices, from the top of the stack down.
-pub(crate) fn close_all<F: RowFamily, G: Graphs>(
+/// Each node that waits becomes a leaf with its start prices, from the top of the stack down, over the same tables of
+/// arcs.
+pub(crate) fn close_all<F: RowFamily>(
     alloc: Global,
     inst: Instance<'_>,
-    graphs: &G,
     rows: &F,
+    kept: ArcTables<'_, F::Row>,
     search: Search<F::Row>,
 ) -> Result<Search<F::Row>, NoMemory>
     requires few { length inst.bids.now ≤ 1000 }
-    requires network { G.network graphs.now ≡ inst.net.now }
-    requires held { All (λ bid. Contains (G.held graphs.now) bid.path) inst.bids.now }
+    requires kept { AreKept F.Row.cmp inst.net.now (F.rows_of rows.now inst.net.now) (F.rows_used rows.now inst.net.now) inst.bids.now kept }
     requires closing { MayClose F.Row.cmp inst.net.now (F.rows_of rows.now inst.net.now) inst.bids.now (parts_of search) }
     ensures closing { IfOk result (λ after. MayClose F.Row.cmp inst.entry.net.now (F.rows_of rows.now inst.entry.net.now) inst.entry.bids.now (parts_of after)) }
     ensures closed { IfOk result (λ after. HasClosed (parts_of search) (parts_of after)) }
     ensures none { IfOk result (λ after. after.waiting.items ≡ []) }
 {
     let mut search = search;
+    let mut kept = kept;
     'waiting: while let Some(top) = search.waiting.pop() {
-        search = close_open(alloc, inst, graphs, rows, search, top)?;
+        let both = close_open(alloc, inst, rows, kept, search, top)?;
+        search = both.0;
+        kept = both.1;
     }
     Ok(search)
 }

@@ -83,8 +83,8 @@ fn plan_with<F: RowFamily, G: Graphs, P: Repairer<F, G>>(
     let _ = inst.net.track_count();
     let first = first_search(alloc, inst)?;
     let kept = keep_arcs(alloc, inst, graphs, rows)?;
-    let last = take_turns(alloc, inst, graphs, rows, limits, repairer, kept, first)?;
-    let closed = close_all(alloc, inst, graphs, rows, last)?;
+    let (last, kept) = take_turns(alloc, inst, graphs, rows, limits, repairer, kept, first)?;
+    let closed = close_all(alloc, inst, rows, kept, last)?;
     Ok(finish(closed))
 }
 

@@ -5,7 +5,7 @@ ghost use Rattle.optra_walk.specs.Choices.{IsChoice, revenue_of};
 ghost use Rattle.optra_node.specs.Nodes.{IsNode};
 ghost use Rattle.optra_node.specs.Duals.{whole_cents};
 ghost use Rattle.optra_prices.specs.Deads.{IsDeadAs};
-ghost use Rattle.optra_prices.specs.Keepings.{AreKept};
+ghost use Rattle.optra_prices.specs.Keepings.{AreKept, AreKeptAt};
 ghost use Rattle.optra_prices.specs.Paths.{IsPathResult};
 ghost use Rattle.optra_prices.specs.Steps.{AreProper};
 ghost use Rattle.optra_search.specs.Planner.{IsBetter};
@@ -95,10 +95,10 @@ fn path_result<'g, F: RowFamily>(
 ) -> Result<(Priced<F::Row>, ArcTables<'g, F::Row>), NoMemory>
     requires few { length inst.bids.now ≤ 1000 }
     requires node { IsNode inst.net.now (length inst.bids.now) search.now.node }
-    requires kept { AreKept F.Row.cmp inst.net.now (F.rows_of rows.now inst.net.now) (F.rows_used rows.now inst.net.now) inst.bids.now kept }
+    requires kept { AreKeptAt F.Row.cmp inst.net.now (F.rows_of rows.now inst.net.now) (F.rows_used rows.now inst.net.now) inst.bids.now search.now.node kept }
     requires start { AreProper F.Row.cmp (F.rows_of rows.now inst.net.now) (unwrap_or start.now (start_below (front search.now.waiting.items))) }
     ensures path { IfOk result (λ both. IsPathResult F.Row.cmp inst.entry.net.now (F.rows_of rows.now inst.entry.net.now) inst.entry.bids.now search.now.node (unwrap_or start.now (start_below (front search.now.waiting.items))) steps search.now.revenue both.0) }
-    ensures kept { IfOk result (λ both. AreKept F.Row.cmp inst.entry.net.now (F.rows_of rows.now inst.entry.net.now) (F.rows_used rows.now inst.entry.net.now) inst.entry.bids.now both.1) }
+    ensures kept { IfOk result (λ both. AreKeptAt F.Row.cmp inst.entry.net.now (F.rows_of rows.now inst.entry.net.now) (F.rows_used rows.now inst.entry.net.now) inst.entry.bids.now search.now.node both.1) }
 {
     let zero = zero_prices(alloc);
     let from = start_of(start, &search.waiting, &zero);
@@ -162,7 +162,7 @@ pub(crate) fn price_node<'g, F: RowFamily, G: Graphs, P: Repairer<F, G>>(
     requires instance { IsInstance inst.net.now inst.bids.now }
     requires network { G.network graphs.now ≡ inst.net.now }
     requires held { All (λ bid. Contains (G.held graphs.now) bid.path) inst.bids.now }
-    requires kept { AreKept F.Row.cmp inst.net.now (F.rows_of rows.now inst.net.now) (F.rows_used rows.now inst.net.now) inst.bids.now kept }
+    requires kept { AreKeptAt F.Row.cmp inst.net.now (F.rows_of rows.now inst.net.now) (F.rows_used rows.now inst.net.now) inst.bids.now search.node kept }
     requires entered { IsEntered F.Row.cmp inst.net.now (F.rows_of rows.now inst.net.now) inst.bids.now limits.steps limits.budget start (parts_of search) }
     requires lives { IsDeadAs F.Row.cmp inst.net.now (F.rows_of rows.now inst.net.now) inst.bids.now search.node None }
     ensures reached { IfOk result (λ both. IsReached F.Row.cmp inst.entry.net.now (F.rows_of rows.now inst.entry.net.now) inst.entry.bids.now limits.steps limits.budget (parts_of both.0)) }
@@ -172,7 +172,7 @@ pub(crate) fn price_node<'g, F: RowFamily, G: Graphs, P: Repairer<F, G>>(
     let _ = inst.net.track_count();
     let (priced, kept) = path_result(alloc, inst, rows, limits.steps, kept, &search, &start)?;
     let Priced { prices, dual } = priced;
-    let repaired = repairer.repair(alloc, inst, graphs, rows, &search.node, &dual)?;
+    let repaired = repairer.repair_over(alloc, inst, graphs, rows, &search.node, &kept, &dual)?;
     let search = improve(inst, search, repaired);
     let split = outcome(
         alloc,

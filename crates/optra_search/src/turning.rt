@@ -14,8 +14,7 @@ use crate::{Limits, Repairer};
 use optra_graph::Graphs;
 use optra_network::NoMemory;
 use optra_prices::Dead;
-use optra_prices::deads::dead;
-use optra_prices::keeping::ArcTables;
+use optra_prices::keeping::{ArcTables, bring_to, dead_over};
 use optra_walk::{Instance, RowFamily};
 use std::alloc::Global;
 
@@ -30,7 +29,8 @@ fn end_dead<R: Drop>(search: Search<R>, reason: Dead<R>) -> Result<Search<R>, No
     Ok(search)
 }
 
-/// One turn: the node that was on top of the stack is entered and becomes an item. The tables of arcs are handed back.
+/// One turn: the node that was on top of the stack is entered and becomes an item. The tables of arcs are brought to it,
+/// and handed back.
 fn turn<'g, F: RowFamily, G: Graphs, P: Repairer<F, G>>(
     alloc: Global,
     inst: Instance<'_>,
@@ -54,13 +54,15 @@ fn turn<'g, F: RowFamily, G: Graphs, P: Repairer<F, G>>(
 {
     let _ = inst.net.track_count();
     let mut search = search;
+    let mut kept = kept;
     let Waiting {
         depth,
         decision,
         start,
     } = top;
     enter(&mut search.node, depth, decision)?;
-    match dead(alloc, inst, graphs, rows, &search.node)? {
+    bring_to(alloc, inst, rows, &search.node, &mut kept)?;
+    match dead_over(inst, rows, &search.node, &kept) {
         Some(reason) => {
             let after = end_dead(search, reason)?;
             Ok((after, kept))
@@ -74,31 +76,32 @@ fn turn<'g, F: RowFamily, G: Graphs, P: Repairer<F, G>>(
     }
 }
 
-/// Turns while a node waits and the count is below the budget, over the same tables of arcs at each node.
-pub(crate) fn take_turns<F: RowFamily, G: Graphs, P: Repairer<F, G>>(
+/// Turns while a node waits and the count is below the budget, over the same tables of arcs, which are handed back.
+pub(crate) fn take_turns<'g, F: RowFamily, G: Graphs, P: Repairer<F, G>>(
     alloc: Global,
     inst: Instance<'_>,
     graphs: &G,
     rows: &F,
     limits: Limits,
     repairer: &P,
-    kept: ArcTables<'_, F::Row>,
+    kept: ArcTables<'g, F::Row>,
     search: Search<F::Row>,
-) -> Result<Search<F::Row>, NoMemory>
+) -> Result<(Search<F::Row>, ArcTables<'g, F::Row>), NoMemory>
     requires instance { IsInstance inst.net.now inst.bids.now }
     requires network { G.network graphs.now ≡ inst.net.now }
     requires held { All (λ bid. Contains (G.held graphs.now) bid.path) inst.bids.now }
     requires kept { AreKept F.Row.cmp inst.net.now (F.rows_of rows.now inst.net.now) (F.rows_used rows.now inst.net.now) inst.bids.now kept }
     requires first { search.count ≡ 0 }
     requires reached { IsReached F.Row.cmp inst.net.now (F.rows_of rows.now inst.net.now) inst.bids.now limits.steps limits.budget (parts_of search) }
-    ensures reached { IfOk result (λ after. IsReached F.Row.cmp inst.entry.net.now (F.rows_of rows.now inst.entry.net.now) inst.entry.bids.now limits.steps limits.budget (parts_of after)) }
-    ensures over { IfOk result (λ after. IsOver limits.budget (state_of after.node after.waiting.items after.items.items after.incumbent after.count)) }
+    ensures reached { IfOk result (λ both. IsReached F.Row.cmp inst.entry.net.now (F.rows_of rows.now inst.entry.net.now) inst.entry.bids.now limits.steps limits.budget (parts_of both.0)) }
+    ensures over { IfOk result (λ both. IsOver limits.budget (state_of both.0.node both.0.waiting.items both.0.items.items both.0.incumbent both.0.count)) }
+    ensures kept { IfOk result (λ both. AreKept F.Row.cmp inst.entry.net.now (F.rows_of rows.now inst.entry.net.now) (F.rows_used rows.now inst.entry.net.now) inst.entry.bids.now both.1) }
 {
     let mut search = search;
     let mut kept = kept;
     'turns: for _taken in 0..limits.budget {
         let Some(top) = search.waiting.pop() else {
-            return Ok(search);
+            return Ok((search, kept));
         };
         let both = turn(
             alloc, inst, graphs, rows, limits, repairer, kept, search, top,
@@ -106,5 +109,5 @@ pub(crate) fn take_turns<F: RowFamily, G: Graphs, P: Repairer<F, G>>(
         search = both.0;
         kept = both.1;
     }
-    Ok(search)
+    Ok((search, kept))
 }

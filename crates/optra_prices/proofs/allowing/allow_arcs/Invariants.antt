@@ -1,5 +1,11 @@
+use Rattle.std.proofs.Common.{◌≡◌, false}
+use Rattle.optra_prices.specs.Allowing.{IsTold}
 use Rattle.optra_prices.proofs.AllowLemmas.{AreToldUpTo}
 use Rattle.optra_prices.proofs.allowing.allow_arcs.Given as goal
 
 abbrev pub invariant-loop-k : goal.invariant-loop-k
-invariant-loop-k g l = AreToldUpTo l.summary.net (g.F.RowFamily.rows_of l.summary.family l.summary.net) l.summary.bids l.summary.node l.number l.graph l.k l.initial.arcs.items l.arcs.items
+invariant-loop-k g l = record {
+  told : AreToldUpTo l.summary.net (g.F.RowFamily.rows_of l.summary.family l.summary.net) l.summary.bids l.summary.node l.number l.graph l.k l.initial.arcs.items l.arcs.items;
+  last : IsTold l.room l.groups l.last;
+  same : l.changed ≡ false → l.arcs.items ≡ l.initial.arcs.items;
+}

@@ -78,5 +78,6 @@ returns-clause-priced g c =
       prices = is.prices;
       stand = stand;
       use_count = is.use_count;
+      rest = is.rest;
     })
     capacity priced (to_z-of_z w128 c.dual_value-course.result fits_value ∙ c.dual_value-course.ensures ∙ ap (λ (ss : List Standing). value_of capacity ss) c.deref-6.ensures.value)

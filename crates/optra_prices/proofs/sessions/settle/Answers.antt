@@ -22,9 +22,9 @@ loop-number-preserved c =
     let l : n < length tables = omega arith in
     let table = c.index-tables-number.result in
     let at : slice_get tables n ≡ Some table = slice_get_read tables (length tables) n table refl l c.index-tables-number.is in
-    (c.loop-number.invariant.0, mixed_more tables c.loop-number.invariant.0 c.args.prices.now n c.loop-number.standings.items table c.update.new.standing c.loop-number.invariant.1 at c.in_ok-update.ensures)
+    (c.loop-number.invariant.0, mixed_more tables tables c.loop-number.invariant.0 c.args.prices.now n c.loop-number.standings.items table c.update.new.standing c.loop-number.invariant.1 at c.in_ok-update.ensures)
 
 pub returns : goal.returns
 returns c =
     let l : length c.args.tables.now ≤ c.loop-number.number = omega arith in
-    mixed_all c.args.tables.now c.loop-number.invariant.0 c.args.prices.now c.loop-number.number c.loop-number.standings.items c.loop-number.invariant.1 l
+    mixed_all c.args.tables.now c.args.tables.now c.loop-number.invariant.0 c.args.prices.now c.loop-number.number c.loop-number.standings.items c.loop-number.invariant.1 l

@@ -4,4 +4,4 @@ use Rattle.optra_prices.proofs.TableLemmas.{StandMixed}
 use Rattle.optra_prices.proofs.sessions.settle.Given as goal
 
 abbrev pub invariant-loop-number : goal.invariant-loop-number
-invariant-loop-number l = (old : List ℤ) × StandMixed l.tables old l.prices l.number l.standings.items
+invariant-loop-number l = (old : List ℤ) × StandMixed l.tables l.tables old l.prices l.number l.standings.items

@@ -16,13 +16,18 @@ use Rattle.optra_search.proofs.closing.close_open.Goals as goal
 pub enter-requires : goal.enter-requires
 enter-requires g c = top_within c.args.search.node c.args.search.waiting.items c.args.top c.requires.closing.nested
 
-pub dual-requires-clause-node : goal.dual-requires-clause-node
-dual-requires-clause-node g c =
+pub bring_to-requires-clause-node : goal.bring_to-requires-clause-node
+bring_to-requires-clause-node g c =
     let net = c.args.inst.net.now in
     closing_node g.F.Row.Ord.cmp net (g.F.RowFamily.rows_of c.args.rows.now net) c.args.inst.bids.now (parts_of c.args.search) c.args.top c.enter.new.node c.requires.closing c.in_ok-enter.ensures
 
-pub dual-requires-clause-prices : goal.dual-requires-clause-prices
-dual-requires-clause-prices g c =
+pub dual_over-requires-clause-node : goal.dual_over-requires-clause-node
+dual_over-requires-clause-node g c =
+    let net = c.args.inst.net.now in
+    closing_node g.F.Row.Ord.cmp net (g.F.RowFamily.rows_of c.args.rows.now net) c.args.inst.bids.now (parts_of c.args.search) c.args.top c.enter.new.node c.requires.closing c.in_ok-enter.ensures
+
+pub dual_over-requires-clause-prices : goal.dual_over-requires-clause-prices
+dual_over-requires-clause-prices g c =
     let net = c.args.inst.net.now in
     let rows = g.F.RowFamily.rows_of c.args.rows.now net in
     let start = unwrap_or c.args.top.start (start_below (front c.args.search.waiting.items)) in
@@ -38,18 +43,19 @@ returns g c =
     let s = parts_of c.args.search in
     let top = c.args.top in
     let node = c.enter.new.node in
-    let v = c.in_ok-dual.dual in
+    let v = c.in_ok-kept.dual in
     let after = parts_of c.in_ok-after.after in
     let start = unwrap_or top.start (start_below (front c.args.search.waiting.items)) in
     let are : c.in_ok-prices.prices ≡ start = rw c.deref.ensures.value at c.in_ok-prices.ensures in
-    let valued : IsValuation net rows bids node start v = subst (λ (prices : PriceList g.row.F-Row.Denot). IsValuation net rows bids node prices v) are c.in_ok-dual.ensures in
-    let value : FitsSigned w128 c.dual-2.inside.value = search rules in
+    let valued : IsValuation net rows bids node start v = subst (λ (prices : PriceList g.row.F-Row.Denot). IsValuation net rows bids node prices v) are c.in_ok-kept.ensures.dual in
+    let value : FitsSigned w128 c.dual.inside.value = search rules in
     let whole : FitsSigned w128 c.whole_cents-cents.result = search rules in
-    let cents_is : c.whole_cents-cents.result ≡ whole_cents v.value = (simp to_z-of_z at c.whole_cents-cents.ensures) ∙ ap (λ (v : Valuation). whole_cents v.value) c.dual-2.view_is in
+    let cents_is : c.whole_cents-cents.result ≡ whole_cents v.value = (simp to_z-of_z at c.whole_cents-cents.ensures) ∙ ap (λ (v : Valuation). whole_cents v.value) c.dual.view_is in
     let after_is : after ≡ settled_as (record s { node = node }) None start (whole_cents v.value) =
     (simp to_z-of_z at c.in_ok-after.ensures) ∙ (λ i. settled_as (record s { node = node }) None (are i) (cents_is i)) in
     record {
       closing = subst (MayClose g.F.Row.Ord.cmp net rows bids) (sym after_is) (closing_next g.F.Row.Ord.cmp net rows bids s top node c.requires.closing c.in_ok-enter.ensures v valued);
       closed = subst (HasClosed (record s { waiting = c.args.search.waiting.items ++ top ∷ [] })) (sym after_is) (closing_same g.F.Row.Ord.cmp net rows bids s top node c.requires.closing c.in_ok-enter.ensures v valued);
       rest = ap (λ (p : Parts g.row.F-Row.Denot). p.waiting) after_is;
+      kept = (node, c.in_ok-kept.ensures.kept);
     }

@@ -21,19 +21,19 @@ path_result-requires-clause-start g c =
     let net = c.args.inst.net.now in
     entered_start g.F.Row.Ord.cmp net c.track_count.ensures.proper (g.F.RowFamily.rows_of c.args.rows.now net) c.args.inst.bids.now c.args.limits.steps c.args.limits.budget c.args.start (parts_of c.args.search) c.requires.entered
 
-pub repair-requires-clause-node : goal.repair-requires-clause-node
-repair-requires-clause-node g c =
+pub repair_over-requires-clause-node : goal.repair_over-requires-clause-node
+repair_over-requires-clause-node g c =
     let net = c.args.inst.net.now in
     entered_node g.F.Row.Ord.cmp net c.track_count.ensures.proper (g.F.RowFamily.rows_of c.args.rows.now net) c.args.inst.bids.now c.args.limits.steps c.args.limits.budget c.args.start (parts_of c.args.search) c.requires.entered
 
-pub repair-requires-clause-terms : goal.repair-requires-clause-terms
-repair-requires-clause-terms g c =
+pub repair_over-requires-clause-terms : goal.repair_over-requires-clause-terms
+repair_over-requires-clause-terms g c =
     let net = c.args.inst.net.now in
     priced_terms g.F.Row.Ord.cmp net c.track_count.ensures.proper (g.F.RowFamily.rows_of c.args.rows.now net) c.args.inst.bids.now c.args.limits.steps c.args.limits.budget c.args.start (parts_of c.args.search) c.requires.entered c.requires.lives
     c.in_ok-priced.priced c.in_ok-priced.ensures.path
 
-pub repair-requires-clause-replies : goal.repair-requires-clause-replies
-repair-requires-clause-replies g c =
+pub repair_over-requires-clause-replies : goal.repair_over-requires-clause-replies
+repair_over-requires-clause-replies g c =
     let net = c.args.inst.net.now in
     priced_replies g.F.Row.Ord.cmp net c.track_count.ensures.proper (g.F.RowFamily.rows_of c.args.rows.now net) c.args.inst.bids.now c.args.limits.steps c.args.limits.budget c.args.start (parts_of c.args.search) c.requires.entered c.requires.lives
     c.in_ok-priced.priced c.in_ok-priced.ensures.path
@@ -79,4 +79,4 @@ returns g c =
     let t = priced_next g.F.Row.Ord.cmp net c.track_count.ensures.proper (g.F.RowFamily.rows_of c.args.rows.now net) c.args.inst.bids.now c.args.limits.steps c.args.limits.budget c.args.start (parts_of c.args.search) c.requires.entered c.requires.lives
     priced c.in_ok-priced.ensures.path c.in_ok-repaired.repaired c.in_ok-repaired.ensures more c.improve-search.ensures.parts c.improve-search.ensures.better c.improve-search.ensures.earned
     split (simp to_z-of_z at c.in_ok-split.ensures) after after_is in
-    record { reached = t.0; count = t.1; kept = c.in_ok-priced.ensures.kept }
+    record { reached = t.0; count = t.1; kept = (c.args.search.node, c.in_ok-priced.ensures.kept) }

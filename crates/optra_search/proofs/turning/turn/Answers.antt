@@ -10,8 +10,17 @@ enter-requires g c =
     let net = c.args.inst.net.now in
     top_depth g.F.Row.Ord.cmp net (g.F.RowFamily.rows_of c.args.rows.now net) c.args.inst.bids.now c.args.limits.steps c.args.limits.budget (parts_of c.args.search) c.args.top c.requires.reached
 
-pub dead-requires-clause-node : goal.dead-requires-clause-node
-dead-requires-clause-node g c =
+pub bring_to-requires-clause-node : goal.bring_to-requires-clause-node
+bring_to-requires-clause-node g c =
+    let net = c.args.inst.net.now in
+    let rows = g.F.RowFamily.rows_of c.args.rows.now net in
+    let s = parts_of c.args.search in
+    let node = c.enter.new.node in
+    let is = entered_top g.F.Row.Ord.cmp net rows c.args.inst.bids.now c.args.limits.steps c.args.limits.budget s c.args.top node c.requires.reached c.in_ok-enter.ensures c.requires.below in
+    entered_node g.F.Row.Ord.cmp net c.track_count.ensures.proper rows c.args.inst.bids.now c.args.limits.steps c.args.limits.budget c.args.top.start (record s { node = node }) is
+
+pub dead_over-requires-clause-node : goal.dead_over-requires-clause-node
+dead_over-requires-clause-node g c =
     let net = c.args.inst.net.now in
     let rows = g.F.RowFamily.rows_of c.args.rows.now net in
     let s = parts_of c.args.search in
@@ -26,5 +35,5 @@ returns-in_ok-after-in-Some-clause-reached g c =
     let s = parts_of c.args.search in
     let node = c.enter.new.node in
     let is = entered_top g.F.Row.Ord.cmp net rows c.args.inst.bids.now c.args.limits.steps c.args.limits.budget s c.args.top node c.requires.reached c.in_ok-enter.ensures c.requires.below in
-    let next = dead_next g.F.Row.Ord.cmp net c.track_count.ensures.proper rows c.args.inst.bids.now c.args.limits.steps c.args.limits.budget c.args.top.start (record s { node = node }) is c.in-Some.reason (rw c.in-Some.is at c.in_ok-reason.ensures) in
+    let next = dead_next g.F.Row.Ord.cmp net c.track_count.ensures.proper rows c.args.inst.bids.now c.args.limits.steps c.args.limits.budget c.args.top.start (record s { node = node }) is c.in-Some.reason (rw c.in-Some.is at c.dead_over.ensures) in
     subst (IsReached g.F.Row.Ord.cmp net rows c.args.inst.bids.now c.args.limits.steps c.args.limits.budget) (sym c.in_ok-after-in-Some.ensures) next
