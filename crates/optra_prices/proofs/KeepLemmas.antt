@@ -1,8 +1,7 @@
 -- Tables that are brought to a node, and what is known of the bids whatever the prices.
-use Rattle.std.proofs.Common.{◌≡◌, ℕ, zero, suc, ◌+◌, ◌-◌, ◌≤◌, ◌<◌, Bool, true, false, List, [], ◌∷◌, length, replicate, Some, None, slice_get, refl, sym, ap, ◌∙◌, subst, arith, inl, inr}
+use Rattle.std.proofs.Common.{◌≡◌, ℕ, ◌-◌, Bool, true, false, List, [], ◌∷◌, length, replicate, Some, None, slice_get, refl, sym, ap, ◌∙◌, subst, arith}
 use Rattle.std.specs.Prelude.{◌↔◌, All, ℤ, pos, ◌*ℤ◌, slice_index_or}
 use Rattle.std.specs.declared.cmp.Ordering.{Ordering}
-use Rattle.std.proofs.lemmas.Bool.{cases_lt}
 use Rattle.std.proofs.lemmas.Int.{ints}
 use Rattle.std.proofs.lemmas.List.{length-replicate}
 use Rattle.std.proofs.lemmas.Option.{same_Some, slice_get_within}
@@ -14,7 +13,7 @@ use Rattle.optra_walk.specs.Families.{Rows}
 use Rattle.optra_graph.specs.Timed.{Timed}
 use Rattle.optra_node.specs.declared.Decision.{Decision}
 use Rattle.optra_node.specs.Laws.{TestsTellAllowed, PricesByUsedRows}
-use Rattle.optra_node.specs.Duals.{sum_of, IsStuck, IsDead}
+use Rattle.optra_node.specs.Duals.{IsStuck, IsDead}
 use Rattle.optra_node.proofs.SumLemmas.{sum_of-cons}
 use Rattle.optra_prices.specs.Arcs.{IsFound}
 use Rattle.optra_prices.specs.Deads.{IsFirstStuck}

@@ -1,7 +1,6 @@
 use Rattle.std.proofs.Common.{None, Some, Option, sym, subst}
 use Rattle.optra_prices.specs.Deads.{IsDeadAs}
 use Rattle.optra_prices.specs.Terms.{Setting, setting}
-use Rattle.optra_prices.specs.Standings.{AllStand}
 use Rattle.optra_prices.specs.Keepings.{IsFirstStuckIn}
 use Rattle.optra_prices.specs.declared.Dead.{Dead}
 use Rattle.optra_prices.specs.declared.numbering.Standing.{Standing}

@@ -1,5 +1,5 @@
-use Rattle.std.proofs.Common.{◌≡◌, List, sym, rules, subst}
-use Rattle.std.specs.Prelude.{FitsSigned, All, ℤ}
+use Rattle.std.proofs.Common.{sym, rules, subst}
+use Rattle.std.specs.Prelude.{FitsSigned, All}
 use Rattle.std.specs.Int.{w128}
 use Rattle.std.proofs.lemmas.Int.{to_z-of_z}
 use Rattle.optra_prices.specs.Tables.{IsGroupPrice}
