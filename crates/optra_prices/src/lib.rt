@@ -35,7 +35,7 @@ mod tests;
 mod touching;
 mod using;
 mod valuing;
-pub mod weighing;
+mod weighing;
 
 pub use laws::price_laws;
 pub use paths::price_path;
