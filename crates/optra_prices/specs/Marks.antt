@@ -1,28 +1,15 @@
 -- Which arcs of a bid's graph an allowed walk may take.
-use Rattle.std.specs.Prelude.{◌≡◌, ◌↔◌, ℕ, ◌<◌, Bool, true, false, List, length, Some, slice_get, slice_index_or}
+use Rattle.std.specs.Prelude.{◌≡◌, ◌↔◌, ℕ, Bool, true, List, Some}
 use Rattle.optra_network.specs.Net.{Net}
 use Rattle.optra_bid.specs.declared.bids.Bid.{Bid}
 use Rattle.optra_walk.specs.declared.Leg.{Leg}
 use Rattle.optra_walk.specs.Families.{Rows}
 use Rattle.optra_graph.specs.Timed.{Timed, leg_of, start_of}
 use Rattle.optra_node.specs.declared.Decision.{Decision}
-use Rattle.optra_node.specs.Nodes.{IsFormedLeg, kind_at}
+use Rattle.optra_node.specs.Nodes.{kind_at}
 use Rattle.optra_node.specs.Spans.{IsLegOk, IsStartOk}
-
--- whether an arc is marked
-abbrev pub is_marked : List Bool → ℕ → Bool
-is_marked marks k = slice_index_or marks k false
 
 -- the mark tells whether the start or the leg of the arc passes the node's test
 pub record IsMark {R : Type 0} (net : Net) (rows : Rows R) (bids : List Bid) (node : List Decision) (number : ℕ) (t : Timed) (k : ℕ) (mark : Bool) : Type 0 where
   pub start_is : (minute : ℕ) → start_of t k ≡ Some minute → (mark ≡ true) ↔ IsStartOk node number minute
   pub leg_is : (leg : Leg) → leg_of t k ≡ Some leg → (mark ≡ true) ↔ IsLegOk net rows bids node number (kind_at bids number) leg
-
--- a mark for each of the first arcs
-pub record AreMarks {R : Type 0} (net : Net) (rows : Rows R) (bids : List Bid) (node : List Decision) (number : ℕ) (t : Timed) (count : ℕ) (marks : List Bool) : Type 0 where
-  pub count_is : length marks ≡ count
-  pub each : (k : ℕ) (mark : Bool) → slice_get marks k ≡ Some mark → IsMark net rows bids node number t k mark
-
--- each leg of the graph is one that may be decided
-abbrev pub HasFormedLegs : Net → Timed → Type 0
-HasFormedLegs net t = (k : ℕ) (leg : Leg) → k < length t.dag.arcs → leg_of t k ≡ Some leg → IsFormedLeg net leg
