@@ -110,11 +110,3 @@ module _ {R : Type 0} (cmp : R → R → Ordering) where
               let g = h e.0 first'.is_row in
               let l = first'.least in
               absurd (omega (arith, ints))
-
--- proper prices are prices of rows
-pub prices_in : {R : Type 0} (rows : Rows R) (prices : PriceList R) → ArePrices rows prices → All (λ (e : R × ℤ). IsRowPrice e.1) prices
-prices_in rows prices h k d l =
-    let p = h k d l in
-    let a = p.least in
-    let b = p.most in
-    (omega (arith, ints), b)

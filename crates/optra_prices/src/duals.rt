@@ -1,4 +1,4 @@
-//! The dual value of a node at prices, and whether a node is dead.
+//! The dual value of a node at prices.
 ghost use Rattle.std.specs.Prelude.{◌≡◌, ◌≤◌, ◌<◌, ◌^◌, [], List, ℤ, pos, All, Contains, IfOk, length};
 ghost use Rattle.optra_bid.specs.Specs.{IsBetween};
 ghost use Rattle.optra_node.specs.Nodes.{IsNode};
@@ -8,13 +8,12 @@ ghost use Rattle.optra_prices.specs.Tables.{IsNumbering};
 ghost use Rattle.optra_prices.specs.Standings.{IsTermSize, AllStand, valuation_of};
 
 use crate::Dual;
+use crate::keeping::{bring_to, dual_over, keep_arcs};
 use crate::numbering::{BidTable, Numbering, Standing};
-use crate::sessions::{first_standings, make_tables};
-use crate::valuing::{capacity_price, dual_value, replies, row_prices, terms};
-use optra_dag::Buffers;
+use crate::valuing::{dual_value, replies, terms};
 use optra_graph::Graphs;
 use optra_network::NoMemory;
-use optra_node::{Node, Prices, prices_by_used_rows, tests_tell_allowed};
+use optra_node::{Node, Prices};
 use optra_walk::{Instance, RowFamily};
 use std::alloc::Global;
 use std::collections::BTreeMap;
@@ -87,15 +86,8 @@ pub fn dual<F: RowFamily, G: Graphs>(
     requires prices { AreProper F.Row.cmp (F.rows_of rows.now inst.net.now) prices.now }
     ensures { IfOk result (λ dual. IsValuation inst.entry.net.now (F.rows_of rows.now inst.entry.net.now) inst.entry.bids.now node.now prices.now dual) }
 {
-    let _ = inst.net.track_count();
-    tests_tell_allowed(inst, rows);
-    prices_by_used_rows(inst, rows);
-    let entries = entries(prices);
-    let mut numbering = no_numbers(alloc);
-    let tables = make_tables(alloc, inst, graphs, rows, node, &mut numbering)?;
-    let vector = row_prices::<F>(alloc, &numbering, entries)?;
-    let mut buffers = Buffers::new(alloc);
-    let standings = first_standings(alloc, &mut buffers, &tables, &vector)?;
-    let capacity = capacity_price(inst.net, rows, entries);
-    assemble(alloc, capacity, &tables, &standings)
+    let mut kept = keep_arcs(alloc, inst, graphs, rows)?;
+    bring_to(alloc, inst, rows, node, &mut kept)?;
+    let (_kept, dual) = dual_over(alloc, inst, rows, node, kept, prices)?;
+    Ok(dual)
 }

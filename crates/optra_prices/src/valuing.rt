@@ -1,8 +1,8 @@
 //! Dual values and replies of what stands.
-ghost use Rattle.std.specs.Prelude.{◌≡◌, ◌≤◌, ◌<◌, ◌*◌, [], List, ℤ, All, IfOk, length, replicate, pos, ◌*ℤ◌, ◌+ℤ◌};
+ghost use Rattle.std.specs.Prelude.{◌≡◌, ◌≤◌, [], List, ℤ, All, IfOk, length, replicate, pos, ◌*ℤ◌, ◌+ℤ◌};
 ghost use Rattle.std.specs.List.{list_any};
 ghost use Rattle.optra_bid.specs.Specs.{IsBetween};
-ghost use Rattle.optra_node.specs.Duals.{ArePrices, capacity_price, sum_of};
+ghost use Rattle.optra_node.specs.Duals.{sum_of};
 ghost use Rattle.optra_node.specs.Certificates.{AreAscending};
 ghost use Rattle.optra_graph.specs.Timed.{IsRoute};
 ghost use Rattle.optra_prices.specs.Arcs.{path_reply};
@@ -11,7 +11,7 @@ ghost use Rattle.optra_prices.specs.Standings.{Agrees, IsTermSize, value_of, ter
 
 use crate::numbering::{BidTable, Numbering, Standing};
 use optra_graph::TimeGraph;
-use optra_network::{Network, NoMemory};
+use optra_network::NoMemory;
 use optra_walk::{RowFamily, Walk};
 use std::alloc::Global;
 
@@ -23,24 +23,6 @@ pub(crate) fn capacity_product(price: i64, capacity: u32) -> i128
     ensures range { IsBetween (pos 0) (pos 131070000000000000) result }
 {
     i128::from(price) * i128::from(capacity)
-}
-
-/// The price of all capacity. A price list of fewer than 2^63 rows keeps it below 2^120.
-pub(crate) fn capacity_price<F: RowFamily>(
-    net: &Network,
-    rows: &F,
-    entries: &[(F::Row, i64)],
-) -> i128
-    requires { ArePrices (F.rows_of rows.now net.now) entries.now }
-    ensures value { result ≡ capacity_price (F.rows_of rows.now net.now) entries.now }
-    ensures range { IsBetween (pos 0) (pos (131070000000000000 * length entries.now)) result }
-{
-    let _proper = net.track_count();
-    let mut total: i128 = 0;
-    for entry in entries {
-        total += capacity_product(entry.1, rows.cap(net, entry.0));
-    }
-    total
 }
 
 /// Whether some bid is stuck.
@@ -116,24 +98,6 @@ pub(crate) fn replies(
         replies.push(walk)?;
     }
     Ok(replies)
-}
-
-/// The prices of the rows with numbers, by number. A row that is not listed has price 0.
-pub(crate) fn row_prices<F: RowFamily>(
-    alloc: Global,
-    numbering: &Numbering<F::Row>,
-    entries: &[(F::Row, i64)],
-) -> Result<Vec<i64>, NoMemory>
-    requires numbering { IsNumbering F.Row.cmp numbering.now.numbers numbering.now.rows.items }
-    requires ascending { AreAscending F.Row.cmp entries.now }
-    requires range { All (λ entry. IsRowPrice entry.1) entries.now }
-    ensures agrees { IfOk result (λ prices. Agrees F.Row.cmp numbering.now.rows.items prices.items entries.now) }
-    ensures range { IfOk result (λ prices. All IsRowPrice prices.items) }
-    ensures count { IfOk result (λ prices. length prices.items ≡ length numbering.now.rows.items) }
-{
-    let mut prices = vec![in alloc; 0; numbering.rows.len()]?;
-    put_prices::<F>(numbering, &mut prices, entries);
-    Ok(prices)
 }
 
 /// Sets the listed prices of rows that have numbers, where all prices were 0.
