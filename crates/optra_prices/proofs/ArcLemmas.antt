@@ -1,8 +1,7 @@
 -- The allowed paths of a bid's graph are its allowed walks, and what a search over them finds is the bid's reply and term.
-use Rattle.std.proofs.Common.{◌≡◌, ℕ, zero, suc, ◌≤◌, ◌<◌, Bool, true, false, List, [], ◌∷◌, map, length, Option, Some, None, IsSome, refl, sym, ap, ◌∙◌, subst, arith, inl, inr}
-use Rattle.std.specs.Prelude.{All, ◌⊎◌, ◌↔◌, ℤ, pos, ◌+ℤ◌, ◌-ℤ◌, ◌*ℤ◌, ◌≤ℤ◌, ◌<ℤ◌}
-use Rattle.std.specs.Ordering.{is_gt, nat_cmp}
-use Rattle.std.specs.Cmp.Lexicographic.{slice_cmp}
+use Rattle.std.proofs.Common.{◌≡◌, ℕ, ◌<◌, Bool, true, false, List, [], ◌∷◌, map, length, Some, IsSome, refl, sym, ap, ◌∙◌, subst, arith, inl, inr}
+use Rattle.std.specs.Prelude.{All, ◌⊎◌, ◌↔◌, ℤ, pos, ◌-ℤ◌, ◌≤ℤ◌, ◌<ℤ◌}
+use Rattle.std.specs.Ordering.{is_gt}
 use Rattle.std.proofs.lemmas.Int.{ints}
 use Rattle.std.proofs.lemmas.List.Elements.{All-nil, All-cons, All-head, All-tail}
 use Rattle.optra_network.specs.Net.{Net, IsProper}
@@ -10,17 +9,16 @@ use Rattle.optra_bid.specs.declared.bids.Bid.{Bid}
 use Rattle.optra_walk.specs.declared.Leg.{Leg}
 use Rattle.optra_walk.specs.Families.{Rows}
 use Rattle.optra_walk.specs.Orders.{walk_cmp}
-use Rattle.optra_walk.specs.Values.{value_of, first_departure}
-use Rattle.optra_walk.specs.Walks.{IsWalk}
+use Rattle.optra_walk.specs.Values.{first_departure}
 use Rattle.optra_dag.specs.Paths.{Graph, LeadsToEnd, IsPath, IsFirstBest, weight_of, to_of}
-use Rattle.optra_graph.specs.Timed.{Timed, IsGraphOf, IsRoute, IsLegArc, IsStartArc, leg_of, leg_at, start_of, walk_of}
+use Rattle.optra_graph.specs.Timed.{Timed, IsGraphOf, IsRoute, IsLegArc, leg_of, leg_at, walk_of}
 use Rattle.optra_node.specs.declared.Decision.{Decision}
 use Rattle.optra_node.specs.Laws.{TestsTellAllowed}
 use Rattle.optra_node.specs.Nodes.{has_yes, IsAllowed}
-use Rattle.optra_node.specs.Spans.{IsLegOk, IsStartOk}
-use Rattle.optra_node.specs.Duals.{PriceList, sum_of, leg_price, walk_price, reduced_value, IsOffer, IsTerm, IsStuck}
+use Rattle.optra_node.specs.Spans.{IsLegOk}
+use Rattle.optra_node.specs.Duals.{PriceList, sum_of, leg_price, reduced_value, IsTerm, IsStuck}
 use Rattle.optra_node.proofs.SumLemmas.{sum_of-cons}
-use Rattle.optra_prices.specs.Arcs.{start_value, leg_value, AreWeighed, FindsNone, FindsNothing, FindsPath, IsFound, path_reply}
+use Rattle.optra_prices.specs.Arcs.{leg_value, AreWeighed, IsFound, path_reply}
 use Rattle.optra_prices.specs.Replies.{IsFirstGreatest, IsReply}
 use Rattle.optra_prices.proofs.ValueLemmas.{walk_sum}
 

@@ -1,5 +1,5 @@
 -- The replies of the bids are a choice.
-use Rattle.std.proofs.Common.{◌≡◌, ℕ, List, Option, Some, None, sym}
+use Rattle.std.proofs.Common.{ℕ, List, Option, Some, None, sym}
 use Rattle.std.specs.Prelude.{IfSome}
 use Rattle.optra_network.specs.Net.{Net}
 use Rattle.optra_bid.specs.declared.bids.Bid.{Bid}

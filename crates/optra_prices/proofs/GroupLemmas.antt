@@ -1,5 +1,5 @@
 -- Groups of touches that stand one after the other.
-use Rattle.std.proofs.Common.{◌≡◌, ℕ, zero, suc, ◌+◌, ◌-◌, ◌≤◌, ◌<◌, List, [], ◌∷◌, ◌++◌, length, take, drop, get_or, sum_by, refl, sym, ap, ◌∙◌, subst, arith, inl, inr}
+use Rattle.std.proofs.Common.{◌≡◌, ℕ, ◌+◌, ◌-◌, ◌≤◌, ◌<◌, List, [], ◌∷◌, ◌++◌, length, take, drop, sum_by, refl, sym, ap, ◌∙◌, subst, arith, inl, inr}
 use Rattle.std.specs.Prelude.{slice_index}
 use Rattle.std.specs.List.{slice_range}
 use Rattle.std.proofs.lemmas.Bool.{cases_lt}
@@ -7,7 +7,7 @@ use Rattle.std.proofs.lemmas.List.{take_all, take-append-le, drop-append-le, get
 use Rattle.std.proofs.lemmas.List.Sums.{sum_by-cons}
 use Rattle.std.proofs.Math.Seq.{drop-append_seam, get_or-append_seam}
 use Rattle.optra_prices.specs.declared.numbering.Touch.{Touch}
-use Rattle.optra_prices.specs.Tables.{IsTouch, AreTouches, group_at, uses_in_all, AreGroups, KeepsGroups}
+use Rattle.optra_prices.specs.Tables.{AreTouches, group_at, uses_in_all, AreGroups, KeepsGroups}
 
 -- what touches use is what the rows are used
 pub touches_use : {R : Type 0} (numbered : List R) (uses : R → ℕ) (touches : List Touch) (used : List R) → AreTouches numbered uses touches used → uses_in_all touches ≡ sum_by uses used

@@ -1,6 +1,6 @@
 -- A node has one valuation at prices, and a price path has one result.
-use Rattle.std.proofs.Common.{◌≡◌, ℕ, zero, suc, ◌+◌, ◌≤◌, ◌<◌, true, false, List, length, Option, Some, None, slice_get, refl, sym, ap, ◌∙◌, subst, arith, inl, inr}
-use Rattle.std.specs.Prelude.{◌⊎◌, IfSome, ℤ, pos, ◌≤ℤ◌, ◌<ℤ◌}
+use Rattle.std.proofs.Common.{◌≡◌, ℕ, zero, suc, ◌+◌, ◌<◌, true, false, List, length, Option, Some, None, slice_get, refl, sym, ap, ◌∙◌, subst, arith, inl, inr}
+use Rattle.std.specs.Prelude.{◌⊎◌, ℤ}
 use Rattle.std.specs.declared.cmp.Ordering.{Ordering}
 use Rattle.std.specs.declared.cmp.Ordering.TheVariants.{Less, Equal, Greater}
 use Rattle.std.specs.Ordering.{is_gt, ordering_reverse, eq_by_cmp}
@@ -12,13 +12,11 @@ use Rattle.optra_network.specs.Net.{Net}
 use Rattle.optra_bid.specs.declared.bids.Bid.{Bid}
 use Rattle.optra_walk.specs.declared.Leg.{Leg}
 use Rattle.optra_walk.specs.Families.{Rows, TellsApart}
-use Rattle.optra_walk.specs.Orders.{walk_cmp}
 use Rattle.optra_walk.proofs.OrderLemmas.{walk_cmp_total, tied_walks}
 use Rattle.optra_node.specs.declared.Decision.{Decision}
-use Rattle.optra_node.specs.Nodes.{has_yes, IsAllowed}
 use Rattle.optra_node.specs.Duals.{PriceList, reduced_value, price_of}
 use Rattle.optra_node.proofs.UniqueLemmas.{dual_unique, terms_unique}
-use Rattle.optra_prices.specs.Replies.{IsFirstGreatest, GainsNothing, IsReply, AreReplies, Valuation, IsValuation}
+use Rattle.optra_prices.specs.Replies.{IsReply, AreReplies, Valuation, IsValuation}
 use Rattle.optra_prices.specs.Steps.{IsStep, next_price, step_length, reply_load}
 use Rattle.optra_prices.specs.Paths.{IsLow, IsPricePath, IsFirstLeast, IsPathResult}
 use Rattle.optra_prices.specs.declared.Priced.{Priced}

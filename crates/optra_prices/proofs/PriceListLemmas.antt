@@ -1,6 +1,6 @@
 -- Lists of prices by the price of each row.
-use Rattle.std.proofs.Common.{◌≡◌, ℕ, zero, suc, ◌<◌, Bool, true, false, cond, List, [], ◌∷◌, refl, sym, ap, ◌∙◌, subst, arith}
-use Rattle.std.specs.Prelude.{All, ℤ, pos, ◌+ℤ◌, ◌≤ℤ◌}
+use Rattle.std.proofs.Common.{◌≡◌, zero, suc, Bool, true, false, cond, [], ◌∷◌, refl, ap, ◌∙◌, arith}
+use Rattle.std.specs.Prelude.{All, ℤ, pos, ◌+ℤ◌}
 use Rattle.std.specs.declared.cmp.Ordering.{Ordering}
 use Rattle.std.specs.declared.cmp.Ordering.TheVariants.{Less, Equal, Greater}
 use Rattle.std.specs.Ordering.{is_eq, eq_by_cmp, ordering_reverse}
@@ -12,7 +12,6 @@ use Rattle.optra_node.specs.Duals.{PriceList, IsPrice, ArePrices, price_of}
 use Rattle.optra_node.specs.Certificates.{AreAscending}
 use Rattle.optra_node.proofs.SumLemmas.{sum_of-cons}
 use Rattle.optra_node.proofs.LoadLemmas.{all_head, all_tail, pairs_head, pairs_tail}
-use Rattle.optra_prices.specs.Tables.{IsRowPrice}
 
 module _ {R : Type 0} (cmp : R → R → Ordering) where
   pub price_of-cons : (e : R × ℤ) (xs : PriceList R) (row : R)

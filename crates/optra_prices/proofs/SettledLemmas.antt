@@ -1,6 +1,6 @@
 -- What stands of the bids is their valuation at the prices.
-use Rattle.std.proofs.Common.{◌≡◌, ℕ, zero, suc, ◌+◌, ◌≤◌, ◌<◌, Bool, true, false, cond, List, [], ◌∷◌, map, length, get_or, Option, Some, None, slice_get, refl, sym, ap, ◌∙◌, subst, arith, inl, inr}
-use Rattle.std.specs.Prelude.{◌⊎◌, ◌↔◌, All, ℤ, pos, ◌+ℤ◌, ◌-ℤ◌, ◌*ℤ◌, slice_index_or}
+use Rattle.std.proofs.Common.{◌≡◌, ℕ, zero, suc, ◌+◌, ◌<◌, Bool, true, false, cond, List, [], ◌∷◌, length, get_or, Option, Some, slice_get, refl, sym, ap, ◌∙◌, subst, arith, inl, inr}
+use Rattle.std.specs.Prelude.{◌⊎◌, ◌↔◌, ℤ, pos, ◌+ℤ◌, ◌*ℤ◌, slice_index_or}
 use Rattle.std.specs.List.{list_any}
 use Rattle.std.specs.declared.cmp.Ordering.{Ordering}
 use Rattle.std.specs.Ordering.{eq_by_cmp}
@@ -9,11 +9,10 @@ use Rattle.std.proofs.lemmas.Option.{slice_get_within, slice_get-get_or, none-so
 use Rattle.optra_network.specs.Net.{IsProper}
 use Rattle.optra_bid.specs.declared.bids.Bid.{Bid}
 use Rattle.optra_walk.specs.declared.Leg.{Leg}
-use Rattle.optra_graph.specs.Timed.{Timed, leg_of, start_of}
 use Rattle.optra_node.specs.Laws.{TestsTellAllowed, PricesByUsedRows}
-use Rattle.optra_node.specs.Duals.{PriceList, price_of, sum_of, leg_price, capacity_price, IsTerm, IsStuck, IsDead, IsDual}
+use Rattle.optra_node.specs.Duals.{PriceList, price_of, sum_of, capacity_price, IsTerm, IsStuck, IsDead}
 use Rattle.optra_node.proofs.SumLemmas.{sum_of-cons}
-use Rattle.optra_prices.specs.Arcs.{AreWeighed, IsFound, path_reply}
+use Rattle.optra_prices.specs.Arcs.{AreWeighed, path_reply}
 use Rattle.optra_prices.specs.Replies.{IsReply, IsValuation}
 use Rattle.optra_prices.specs.Tables.{AreTouches, group_at, group_price, AreGroupPrices, allows_by, weight_by, no_arc}
 use Rattle.optra_prices.specs.Terms.{Setting, AreBidArcs}

@@ -1,11 +1,9 @@
 -- How large a term may be.
-use Rattle.std.proofs.Common.{◌≡◌, ℕ, zero, suc, ◌+◌, ◌*◌, ◌^◌, ◌≤◌, ◌<◌, Bool, true, List, [], ◌∷◌, map, length, take, get_or, refl, sym, ap, ◌∙◌, subst, arith, inl, inr}
-use Rattle.std.specs.Prelude.{◌⊎◌, All, ℤ, pos, negsuc, neg_ℤ, ◌+ℤ◌, ◌-ℤ◌, ◌≤ℤ◌, slice_index_or}
+use Rattle.std.proofs.Common.{ℕ, zero, suc, ◌+◌, ◌*◌, ◌<◌, Bool, List, [], ◌∷◌, length, get_or, arith, inl, inr}
+use Rattle.std.specs.Prelude.{All, ℤ, pos, neg_ℤ, slice_index_or}
 use Rattle.std.proofs.lemmas.Int.{ints}
-use Rattle.std.proofs.lemmas.Bool.{cases_lt}
-use Rattle.std.proofs.lemmas.List.Elements.{All-nil, All-cons, All-head, All-tail}
 use Rattle.optra_bid.specs.Specs.{IsBetween}
-use Rattle.optra_dag.specs.Paths.{Graph, IsForward, IsWeight, LeadsToEnd, IsPath, from_of, to_of, weight_of}
+use Rattle.optra_dag.specs.Paths.{Graph, IsForward, IsWeight, LeadsToEnd, to_of, weight_of}
 use Rattle.optra_prices.specs.Arcs.{IsArcValue, IsFound}
 use Rattle.optra_prices.specs.Tables.{IsGroupPrice, allows_by, weight_by, no_arc}
 use Rattle.optra_prices.specs.Standings.{Stands, IsSound, IsTermSize}

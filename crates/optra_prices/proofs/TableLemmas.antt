@@ -1,11 +1,10 @@
 -- Tables that are made one after the other, and what stands of them.
-use Rattle.std.proofs.Common.{◌≡◌, ◌≢◌, ℕ, zero, suc, ◌+◌, ◌≤◌, ◌<◌, List, [], ◌∷◌, ◌++◌, length, set, get_or, Option, Some, None, slice_get, refl, sym, ap, ◌∙◌, subst, arith, inl, inr}
-use Rattle.std.specs.Prelude.{◌⊎◌, All, ℤ}
+use Rattle.std.proofs.Common.{◌≡◌, ◌≢◌, ℕ, zero, suc, ◌+◌, ◌≤◌, ◌<◌, List, [], ◌∷◌, ◌++◌, length, set, get_or, Some, slice_get, refl, sym, ap, ◌∙◌, subst, arith, inl, inr}
+use Rattle.std.specs.Prelude.{All, ℤ}
 use Rattle.std.proofs.lemmas.List.{length-append}
 use Rattle.std.proofs.lemmas.Bool.{cases_eq}
 use Rattle.std.proofs.lemmas.Option.{none-some, same_Some, slice_get_within, get_or_from_slice_get}
 use Rattle.optra_bid.specs.declared.bids.Bid.{Bid}
-use Rattle.optra_graph.specs.Timed.{Timed}
 use Rattle.optra_prices.specs.Tables.{Extends}
 use Rattle.optra_prices.specs.Terms.{Setting, AreBidArcs}
 use Rattle.optra_prices.specs.Standings.{Stands, IsSound, AreTables, AllStand, IsTermSize}

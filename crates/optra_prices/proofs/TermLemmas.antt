@@ -1,18 +1,17 @@
 -- Arcs that are added one after the other, while rows get numbers and groups are added.
-use Rattle.std.proofs.Common.{◌≡◌, ℕ, zero, suc, ◌+◌, ◌≤◌, ◌<◌, Bool, true, cond, unwrap_or, List, [], ◌∷◌, ◌++◌, map, length, Option, Some, None, IsSome, slice_get, refl, sym, ap, ◌∙◌, subst, arith, inl, inr}
-use Rattle.std.specs.Prelude.{◌⊎◌, ◌↔◌, All, Contains, IfSome}
+use Rattle.std.proofs.Common.{◌≡◌, ℕ, ◌+◌, ◌<◌, Bool, true, cond, unwrap_or, List, [], ◌∷◌, ◌++◌, map, length, Option, Some, None, IsSome, slice_get, refl, sym, ap, ◌∙◌, subst, arith, inl, inr}
+use Rattle.std.specs.Prelude.{◌↔◌, Contains, IfSome}
 use Rattle.std.specs.Option.{option_map_or}
 use Rattle.std.proofs.lemmas.Bool.{lt-ltb}
-use Rattle.std.proofs.lemmas.List.Elements.{All-contains, All-push, All-weaker, All-head, All-tail, All-nil}
+use Rattle.std.proofs.lemmas.List.Elements.{All-contains, All-push, All-nil}
 use Rattle.std.proofs.lemmas.Option.{none-some, same_Some, slice_get_within}
-use Rattle.optra_network.specs.Net.{Net, IsProper, MayUse, IsTrack, times_of, IsRunningRow}
-use Rattle.optra_network.specs.declared.TrackId.{TrackId}
+use Rattle.optra_network.specs.Net.{Net, IsProper, IsTrack, times_of, IsRunningRow}
 use Rattle.optra_network.specs.declared.TypeId.{TypeId}
 use Rattle.optra_network.specs.declared.Times.{Times}
 use Rattle.optra_network.proofs.NetLemmas.{times_built}
 use Rattle.optra_bid.specs.declared.bids.Bid.{Bid}
 use Rattle.optra_walk.specs.declared.Leg.{Leg}
-use Rattle.optra_walk.specs.Families.{Rows, IsUsable}
+use Rattle.optra_walk.specs.Families.{IsUsable}
 use Rattle.optra_walk.proofs.UsableLemmas.{walk_usable}
 use Rattle.optra_graph.specs.Timed.{Timed, IsGraphOf, IsRoute, IsLegArc, leg_of, leg_at, start_of, walk_of}
 use Rattle.optra_node.specs.Nodes.{IsFormedLeg, kind_at}

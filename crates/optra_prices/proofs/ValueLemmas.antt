@@ -1,19 +1,18 @@
 -- The arcs of a walk add up to its value.
-use Rattle.std.proofs.Common.{◌≡◌, ℕ, zero, suc, ◌+◌, ◌-◌, ◌≤◌, ◌<◌, true, false, List, [], ◌∷◌, length, get_or, sum_by, Option, Some, None, IsSomeAnd, slice_get, unwrap_or, refl, sym, ap, ◌∙◌, subst, arith}
+use Rattle.std.proofs.Common.{◌≡◌, ℕ, zero, suc, ◌+◌, ◌-◌, ◌≤◌, false, List, [], ◌∷◌, length, get_or, Option, Some, None, IsSomeAnd, slice_get, unwrap_or, refl, sym, ap, ◌∙◌, arith}
 use Rattle.std.specs.Prelude.{ℤ, pos, ◌+ℤ◌, ◌-ℤ◌, ◌*ℤ◌}
-use Rattle.std.specs.Option.{option_and_then, option_map}
+use Rattle.std.specs.Option.{option_and_then}
 use Rattle.std.proofs.lemmas.Int.{ints}
 use Rattle.std.proofs.lemmas.List.Sums.{sum_by-cons}
-use Rattle.std.proofs.lemmas.Option.{MatchOption-at_some, same_Some, get_or_from_slice_get, slice_get_within}
+use Rattle.std.proofs.lemmas.Option.{same_Some, get_or_from_slice_get, slice_get_within}
 use Rattle.std.proofs.Math.IntN.{suc_ℤ-*ℤ, *ℤ_comm, *ℤ-zero}
 use Rattle.optra_network.specs.Net.{Net, IsProper}
-use Rattle.optra_bid.specs.Specs.{Path}
 use Rattle.optra_bid.specs.declared.bids.Bid.{Bid}
 use Rattle.optra_walk.specs.declared.Action.{Action}
 use Rattle.optra_walk.specs.declared.Action.TheVariants.{Pass, Halt, Wait, Finish}
 use Rattle.optra_walk.specs.declared.Leg.{Leg}
 use Rattle.optra_walk.specs.Legs.{is_finish, wait_of, arrival_of}
-use Rattle.optra_walk.specs.Walks.{IsWalk, IsEnd, FinishesLast, first_leg, last_leg}
+use Rattle.optra_walk.specs.Walks.{IsWalk, IsEnd, FinishesLast, last_leg}
 use Rattle.optra_walk.specs.Values.{first_departure, last_arrival, wait_minutes, price_off, price_under_way, value_of}
 use Rattle.optra_walk.proofs.WalkLemmas.{arrival_later, rises}
 use Rattle.optra_node.specs.Duals.{sum_of}

@@ -1,5 +1,5 @@
 -- Rows by number while prices go along a path, and what the prices by number mean.
-use Rattle.std.specs.Prelude.{◌≡◌, ℕ, true, cond, List, [], ◌∷◌, length, All, Contains, Some, slice_get, slice_index_or, map}
+use Rattle.std.specs.Prelude.{◌≡◌, ℕ, true, cond, List, [], ◌∷◌, length, All, Contains, Some, slice_get, slice_index_or}
 use Rattle.std.specs.Prelude.{ℤ, pos}
 use Rattle.std.specs.Int.{is_positive}
 use Rattle.std.specs.declared.cmp.Ordering.{Ordering}
@@ -9,7 +9,7 @@ use Rattle.optra_prices.specs.Replies.{Valuation, IsValuation}
 use Rattle.optra_prices.specs.Steps.{AreProper}
 use Rattle.optra_prices.specs.Tables.{IsNumbering, IsRowPrice}
 use Rattle.optra_prices.specs.Terms.{Setting}
-use Rattle.optra_prices.specs.Standings.{AreTables, AllStand, valuation_of, replies_of}
+use Rattle.optra_prices.specs.Standings.{AreTables, AllStand, valuation_of}
 use Rattle.optra_prices.specs.declared.courses.Course.{Course}
 
 -- the rows with a price above zero, with their prices; each row stands with its number

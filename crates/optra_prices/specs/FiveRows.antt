@@ -1,6 +1,6 @@
 -- The family of the tests: five rows of capacity 1, of which each usable leg uses each once.
-use Rattle.std.proofs.Common.{◌≡◌, ℕ, zero, suc, ◌+◌, ◌<◌, ◌≤◌, Bool, true, false, cond, nat_lt, ◌&&◌, is_some, Option, None, Some, slice_get, List, [], ◌∷◌, length, get_or, refl, sym, ap, ◌∙◌, subst, zero-add, arith, lit≤}
-use Rattle.std.specs.Prelude.{All, Contains, IsSome, sum_by}
+use Rattle.std.proofs.Common.{◌≡◌, ℕ, zero, suc, ◌+◌, ◌<◌, ◌≤◌, Bool, true, false, cond, nat_lt, ◌&&◌, is_some, Some, slice_get, List, get_or, refl, sym, ap, ◌∙◌, subst, zero-add, arith, lit≤}
+use Rattle.std.specs.Prelude.{sum_by}
 use Rattle.std.specs.Cmp.{nat_cmp_is}
 use Rattle.std.specs.List.{range_with_len}
 use Rattle.std.specs.Ordering.{nat_cmp}

@@ -1,5 +1,5 @@
 -- What is known of each bid at prices.
-use Rattle.std.specs.Prelude.{◌≡◌, ◌⊎◌, ℕ, Bool, cond, slice_set, List, [], ◌∷◌, map, length, All, Option, Some, slice_get, slice_index_or}
+use Rattle.std.specs.Prelude.{◌≡◌, ◌⊎◌, ℕ, cond, slice_set, List, [], ◌∷◌, map, length, All, Option, Some, slice_get, slice_index_or}
 use Rattle.std.specs.Prelude.{ℤ, pos, negsuc, ◌+ℤ◌}
 use Rattle.std.specs.List.{list_any}
 use Rattle.std.specs.declared.cmp.Ordering.{Ordering}

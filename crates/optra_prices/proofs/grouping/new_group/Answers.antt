@@ -1,6 +1,6 @@
 use Rattle.std.proofs.Common.{◌≡◌, ◌-◌, ◌≤◌, length, sym, subst, arith}
 use Rattle.optra_prices.specs.Tables.{AreTouches, uses_in_all}
-use Rattle.optra_prices.proofs.GroupLemmas.{touches_use, Added, group_added}
+use Rattle.optra_prices.proofs.GroupLemmas.{touches_use, group_added}
 use Rattle.optra_prices.proofs.grouping.new_group.Goals as goal
 
 pub returns : goal.returns

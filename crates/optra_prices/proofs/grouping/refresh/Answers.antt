@@ -1,4 +1,4 @@
-use Rattle.std.proofs.Common.{◌≡◌, ◌≢◌, ℕ, ◌<◌, Bool, true, false, pos, refl, sym, ◌∙◌, arith, below_more, rules, w64}
+use Rattle.std.proofs.Common.{◌≡◌, ◌≢◌, ℕ, Bool, true, false, pos, refl, sym, ◌∙◌, arith, below_more, rules, w64}
 use Rattle.std.specs.Prelude.{◌||◌, slice_index_or, FitsSigned}
 use Rattle.std.proofs.lemmas.Int.{to_z-of_z}
 use Rattle.optra_prices.specs.Tables.{group_at, group_price}

@@ -1,4 +1,4 @@
-use Rattle.std.proofs.Common.{List, ap, ◌∙◌}
+use Rattle.std.proofs.Common.{ap, ◌∙◌}
 use Rattle.std.specs.List.{list_any}
 use Rattle.optra_node.specs.declared.Decision.{Decision}
 use Rattle.optra_prices.proofs.MarkLemmas.{own_yes}

@@ -1,6 +1,6 @@
 use Rattle.std.proofs.Common.{◌≡◌, ◌+◌, ◌<◌, length, Some, slice_get, refl, sym, subst, arith}
 use Rattle.std.proofs.lemmas.Option.{slice_get_read}
-use Rattle.optra_prices.proofs.TableLemmas.{StandBelow, stand_push, all_stand}
+use Rattle.optra_prices.proofs.TableLemmas.{StandBelow, stand_push}
 use Rattle.optra_prices.proofs.sessions.first_standings.Goals as goal
 
 pub loop-number-preserved : goal.loop-number-preserved

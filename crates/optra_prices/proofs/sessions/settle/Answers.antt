@@ -1,6 +1,6 @@
-use Rattle.std.proofs.Common.{◌≡◌, ◌+◌, ◌≤◌, ◌<◌, length, Some, slice_get, refl, sym, subst, arith}
+use Rattle.std.proofs.Common.{◌≡◌, ◌≤◌, ◌<◌, length, Some, slice_get, refl, arith}
 use Rattle.std.proofs.lemmas.Option.{slice_get_read}
-use Rattle.optra_prices.proofs.TableLemmas.{StandMixed, mixed_more, mixed_all}
+use Rattle.optra_prices.proofs.TableLemmas.{mixed_more, mixed_all}
 use Rattle.optra_prices.proofs.sessions.settle.Goals as goal
 
 pub update-requires-clause-before : goal.update-requires-clause-before

@@ -1,5 +1,5 @@
-use Rattle.std.proofs.Common.{◌≡◌, ◌+◌, ℕ, true, sym, ap, ◌∙◌, subst, arith, rules, to_z, of_z}
-use Rattle.std.specs.Prelude.{All, ℤ, pos, ◌≤ℤ◌, FitsSigned}
+use Rattle.std.proofs.Common.{◌≡◌, ◌+◌, sym, ◌∙◌, subst, arith, rules, to_z, of_z}
+use Rattle.std.specs.Prelude.{pos, ◌≤ℤ◌, FitsSigned}
 use Rattle.std.specs.Int.{w64}
 use Rattle.std.specs.Ordering.{eq_by_cmp}
 use Rattle.std.proofs.lemmas.Int.{ints, to_z-of_z}

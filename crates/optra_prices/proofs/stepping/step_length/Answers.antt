@@ -1,4 +1,4 @@
-use Rattle.std.proofs.Common.{◌≡◌, ◌+◌, ◌*◌, ap, ◌∙◌, rules, arith}
+use Rattle.std.proofs.Common.{◌+◌, ◌*◌, ap, ◌∙◌, rules, arith}
 use Rattle.std.specs.Prelude.{ℤ, pos, ◌*ℤ◌, FitsSigned}
 use Rattle.std.specs.Int.{w64, int_max, int_div_euclid}
 use Rattle.std.proofs.lemmas.Int.{ints, to_z-of_z}

@@ -1,5 +1,4 @@
-use Rattle.std.proofs.Common.{◌≡◌, ◌≤◌, ℕ, true, List, [], take, length, refl, sym, ◌∙◌, arith}
-use Rattle.optra_prices.specs.Tables.{IsNumbering, Extends, AddsTouches}
+use Rattle.std.proofs.Common.{◌≡◌, ◌≤◌, true, length, sym, ◌∙◌, arith}
 use Rattle.optra_node.proofs.LeastLemmas.{at_contains, none_past}
 use Rattle.optra_prices.proofs.NumberLemmas.{grows_extends, extends_more, adds_touch, all_touches, all_grows, adds_none}
 use Rattle.optra_prices.proofs.touching.push_touches.Goals as goal

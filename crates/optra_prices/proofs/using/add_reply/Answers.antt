@@ -1,4 +1,4 @@
-use Rattle.std.proofs.Common.{◌≡◌, List, Option, map, sym, ap, ◌∙◌, subst}
+use Rattle.std.proofs.Common.{List, Option, map, sym, ap, ◌∙◌, subst}
 use Rattle.std.specs.Prelude.{All}
 use Rattle.std.proofs.lemmas.Option.{MatchOption-at_some}
 use Rattle.optra_network.specs.declared.TypeId.{TypeId}

@@ -1,4 +1,4 @@
-use Rattle.std.proofs.Common.{◌≡◌, ◌≤◌, ◌<◌, length, take, Some, slice_get, refl, sym, ap, ◌∙◌, subst, rules, arith}
+use Rattle.std.proofs.Common.{◌≡◌, ◌≤◌, length, Some, slice_get, refl, subst, rules, arith}
 use Rattle.std.specs.Prelude.{FitsSigned}
 use Rattle.std.specs.Int.{w64}
 use Rattle.std.proofs.lemmas.Int.{to_z-of_z}
@@ -8,7 +8,7 @@ use Rattle.std.proofs.lemmas.Option.{slice_get_read}
 use Rattle.optra_node.specs.Duals.{IsPrice, price_of}
 use Rattle.optra_prices.specs.Holdings.{Holds}
 use Rattle.optra_prices.proofs.ListLemmas.{all_at}
-use Rattle.optra_prices.proofs.HoldLemmas.{holds_none, holds_price}
+use Rattle.optra_prices.proofs.HoldLemmas.{holds_price}
 use Rattle.optra_prices.proofs.using.priced_rows.Goals as goal
 
 pub loop-entry-preserved : goal.loop-entry-preserved
