@@ -18,15 +18,15 @@ use Rattle.optra_node.specs.Nodes.{IsBlocked, kind_at, uses_at, yes_uses, yes_lo
 use Rattle.optra_node.specs.Spans.{Lets, IsLetBy, IsLegOk}
 use Rattle.optra_node.specs.Summaries.{decisions_for}
 use Rattle.optra_node.proofs.SummaryLemmas.{all_for, load_split}
-use Rattle.optra_prices.specs.Allowing.{IsToldAnew, AreToldAnew, IsTableAnew, IsTableAt, RoomTells, IsTold, IsLetMark}
+use Rattle.optra_prices.specs.Allowing.{IsToldAnew, AreToldAnew, IsTableAnew, IsTableAt, RoomTells, IsLetMark}
 use Rattle.optra_prices.specs.Arcs.{IsArcValue}
 use Rattle.optra_prices.specs.Keepings.{IsBrought, AreBrought}
 use Rattle.optra_prices.specs.Marks.{IsMark}
-use Rattle.optra_prices.specs.Rooms.{IsRoom, HasRoomFor, HasRoomForAll}
+use Rattle.optra_prices.specs.Rooms.{IsTold, IsRoom, HasRoomFor, HasRoomForAll}
 use Rattle.optra_prices.specs.Tables.{Extends, AreTouches, AreGroups, group_at}
 use Rattle.optra_prices.specs.Terms.{Setting, setting, AreTerms}
 use Rattle.optra_prices.specs.Standings.{AreTables}
-use Rattle.optra_prices.specs.declared.allowing.Told.{Told}
+use Rattle.optra_prices.specs.declared.rooms.Told.{Told}
 use Rattle.optra_prices.specs.declared.numbering.ArcTerm.{ArcTerm}
 use Rattle.optra_prices.specs.declared.numbering.BidTable.{BidTable}
 use Rattle.optra_prices.specs.declared.numbering.Groups.{Groups}
@@ -147,9 +147,6 @@ pub record AreToldUpTo {R : Type 0} (net : Net) (rows : Rows R) (bids : List Bid
   pub left : (k : ℕ) → n ≤ k → slice_get new k ≡ slice_get old k
 
 module _ {R : Type 0} (net : Net) (rows : Rows R) (bids : List Bid) (node : List Decision) (number : ℕ) (t : Timed) where
-  pub told_none : (arcs : List ArcTerm) → AreToldUpTo net rows bids node number t 0 arcs arcs
-  told_none arcs = record { count_is = refl; done = λ k before after l x y. absurd (omega arith); left = λ k l. refl }
-
   -- one more arc
   pub told_more : (n : ℕ) (old new : List ArcTerm) (arc after : ArcTerm) → AreToldUpTo net rows bids node number t n old new → slice_get new n ≡ Some arc → IsToldAnew net rows bids node number t n arc after
       → AreToldUpTo net rows bids node number t (n + 1) old (set new n after)

@@ -161,9 +161,6 @@ module _ {R : Type 0} (net : Net) (proper : IsProper net) (rows : Rows R) (bids 
       let same = route_weight p.0 p.2 ∙ ap (reduced_value net rows prices bid) p.3 in
       omega (arith, ints)
 
-  forced_yes : (forced : Bool) → forced ≡ has_yes node number → (forced ≡ true) → has_yes node number ≡ true
-  forced_yes forced e h = sym e ∙ h
-
   pub found_reply : (forced stuck : Bool) (path : List ℕ) (term : ℤ) → forced ≡ has_yes node number → IsFound t.dag allows weight forced path term stuck → IsReply net rows bids node prices number bid (path_reply t path)
   found_reply forced stuck path term e (inl none) =
       subst (λ p. IsReply net rows bids node prices number bid (path_reply t p)) (sym none.path_is) (inl (none_allowed none.none))

@@ -233,10 +233,6 @@ replies_more {R} rows bids walks n bid walk row b w =
         omega arith
 
 module _ {R : Type 0} (cmp : R → R → Ordering) (total : IsTotalOrder cmp) (apart : TellsApart cmp) (is_row : R → Bool) where
-  -- nothing is held at first
-  pub holds_none : (entries : PriceList R) (m : BTreeMap R Held) → ((row : R) → get cmp m row ≡ None) → Holds cmp is_row (price_of (eq_by_cmp cmp) (take 0 entries)) (λ row. 0) m
-  holds_none entries m none row = subst (λ o. MatchOption o ((pos 0 ≡ pos 0) × (◌≡◌ {A = ℕ} 0 0)) (λ held. (is_row row ≡ true) × (held.price ≡ pos 0) × (◌≡◌ {A = ℕ} held.used 0))) (sym (none row)) (refl, refl)
-
   -- one more price
   pub holds_price : (entries : PriceList R) (i : ℕ) (e : R × ℤ) (old new : BTreeMap R Held) (held : Held) → AreAscending cmp entries → slice_get entries i ≡ Some e → is_row e.0 ≡ true → held.price ≡ e.1 → held.used ≡ 0
       → ((q : R) → get cmp new q ≡ cond (is_at (cmp e.0) q) (Some held) (get cmp old q)) → Holds cmp is_row (price_of (eq_by_cmp cmp) (take i entries)) (λ row. 0) old

@@ -4,7 +4,7 @@ use Rattle.std.specs.Prelude.{◌↔◌, ◌&&◌, All, IsTrue}
 use Rattle.std.specs.declared.cmp.Ordering.{Ordering}
 use Rattle.std.proofs.lemmas.List.{length-append}
 use Rattle.std.proofs.lemmas.List.Elements.{All-nil, All-from_get_or}
-use Rattle.std.proofs.lemmas.Option.{none-some, same_Some, slice_get-get_or}
+use Rattle.std.proofs.lemmas.Option.{same_Some, slice_get-get_or}
 use Rattle.optra_network.specs.Net.{Net, IsProper}
 use Rattle.optra_network.specs.declared.TypeId.{TypeId}
 use Rattle.optra_bid.specs.declared.bids.Bid.{Bid}
@@ -31,9 +31,6 @@ pub room_for_none : (room : Room) (touches : List Touch) → touches ≡ [] → 
 room_for_none room touches none = subst (HasRoomForAll room) (sym none) (All-nil (HasRoomFor room))
 
 module _ (room : Room) (starts : List ℕ) (touches : List Touch) (arcs : List ArcTerm) where
-  pub no_parts : ArePartsOf room starts touches arcs 0 []
-  no_parts = record { count_is = refl; each = λ k arc part at there. absurd (none-some part there) }
-
   -- one more part
   pub parts_more : (n : ℕ) (parts : List ArcPart) (arc : ArcTerm) (part : ArcPart) → ArePartsOf room starts touches arcs n parts → slice_get arcs n ≡ Some arc → IsPartOf room (group_at starts touches arc.group) arc part
       → ArePartsOf room starts touches arcs (n + 1) (parts ++ part ∷ [])

@@ -1,13 +1,14 @@
 -- Tables that are made one after the other, and what stands of them.
 use Rattle.std.proofs.Common.{◌≡◌, ◌≢◌, ℕ, zero, suc, ◌+◌, ◌≤◌, ◌<◌, List, [], ◌∷◌, ◌++◌, length, set, get_or, Some, slice_get, refl, sym, ap, ◌∙◌, subst, arith, inl, inr}
-use Rattle.std.specs.Prelude.{All, ℤ}
+use Rattle.std.specs.Prelude.{All, Bool, ℤ}
 use Rattle.std.proofs.lemmas.List.{length-append}
 use Rattle.std.proofs.lemmas.Bool.{cases_eq}
 use Rattle.std.proofs.lemmas.Option.{none-some, same_Some, slice_get_within, get_or_from_slice_get}
 use Rattle.optra_bid.specs.declared.bids.Bid.{Bid}
-use Rattle.optra_prices.specs.Tables.{Extends}
+use Rattle.optra_prices.specs.Arcs.{IsFound}
+use Rattle.optra_prices.specs.Tables.{Extends, allows_by, weight_by, IsGroupPrice, AreGroupPrices}
 use Rattle.optra_prices.specs.Terms.{Setting, AreBidArcs}
-use Rattle.optra_prices.specs.Standings.{Stands, IsSound, AreTables, AllStand, IsTermSize}
+use Rattle.optra_prices.specs.Standings.{Stands, IsCopy, IsSound, AreTables, AllStand, AreCopies, IsTermSize}
 use Rattle.optra_prices.specs.declared.numbering.BidTable.{BidTable}
 use Rattle.optra_prices.specs.declared.numbering.Standing.{Standing}
 use Rattle.optra_prices.proofs.ListLemmas.{some_at, all_at}
@@ -28,9 +29,6 @@ module _ {R : Type 0} (s : Setting R) where
     terms = terms_kept s number bid table.graph.now numbered after table.groups.starts.items table.groups.starts.items table.groups.touches.items table.groups.touches.items table.arcs.items extends (groups_stay table.groups.starts.items table.groups.touches.items) is.terms;
     forced_is = is.forced_is;
   }
-
-  pub no_tables : (numbered : List R) → AreTables s 0 numbered []
-  no_tables numbered = record { count_is = refl; each = λ number bid table b t. absurd (none-some table t) }
 
   pub tables_push : (n : ℕ) (numbered after : List R) (tables : List BidTable) (bid : Bid) (table : BidTable) → AreTables s n numbered tables → Extends numbered after → slice_get s.bids n ≡ Some bid → IsTableOf s after n bid table
       → AreTables s (n + 1) after (tables ++ table ∷ [])
@@ -67,9 +65,6 @@ pub record StandBelow (tables : List BidTable) (prices : List ℤ) (n : ℕ) (st
   pub count_is : length standings ≡ n
   pub each : (number : ℕ) (table : BidTable) (standing : Standing) → slice_get tables number ≡ Some table → slice_get standings number ≡ Some standing → Stands table prices standing
 
-pub none_stand : (tables : List BidTable) (prices : List ℤ) → StandBelow tables prices 0 []
-none_stand tables prices = record { count_is = refl; each = λ number table standing t s. absurd (none-some standing s) }
-
 pub stand_push : (tables : List BidTable) (prices : List ℤ) (n : ℕ) (standings : List Standing) (table : BidTable) (standing : Standing) → StandBelow tables prices n standings → slice_get tables n ≡ Some table → Stands table prices standing
     → StandBelow tables prices (n + 1) (standings ++ standing ∷ [])
 stand_push tables prices n standings table standing below at is = record {
@@ -82,9 +77,6 @@ stand_push tables prices n standings table standing below at is = record {
         subst (λ z. Stands x prices z) new.1 (subst (λ z. Stands z prices standing) same is)
   ];
 }
-
-pub all_stand : (tables : List BidTable) (prices : List ℤ) (n : ℕ) (standings : List Standing) → StandBelow tables prices n standings → n ≡ length tables → AllStand tables prices standings
-all_stand tables prices n standings below e = record { count_is = below.count_is ∙ e; each = below.each }
 
 -- the first ones stand by the tables and the prices that are now, and the others by those before
 pub record StandMixed (before tables : List BidTable) (old prices : List ℤ) (n : ℕ) (standings : List Standing) : Type 0 where
@@ -145,3 +137,43 @@ terms_small tables prices standings sound stand k d l =
     let s = some_at standings k l in
     let here = term_size t.0 prices s.0 (all_at IsSound tables k t.0 sound t.1) (stand.each k t.0 s.0 t.1 s.1) in
     subst (λ (x : Standing). IsTermSize x.term) (sym (get_or_from_slice_get standings k s.0 d s.1)) here
+
+-- a copy of what stands stands
+pub copy_stands : (table : BidTable) (prices : List ℤ) (standing copy : Standing) → IsCopy standing copy → Stands table prices standing → Stands table prices copy
+copy_stands table prices standing copy same is =
+    let found = λ (grouped : List ℤ) (path : List ℕ) (term : ℤ) (stuck : Bool). IsFound table.graph.now.dag (allows_by table.arcs.items) (weight_by table.arcs.items grouped) table.forced path term stuck in
+    record {
+      grouped = subst (λ (xs : List ℤ). AreGroupPrices prices table.groups.starts.items table.groups.touches.items xs) (sym same.grouped) is.grouped;
+      range = subst (λ (xs : List ℤ). All IsGroupPrice xs) (sym same.grouped) is.range;
+      found = subst (λ (b : Bool). found copy.grouped.items copy.path.items copy.term b) (sym same.stuck)
+          (subst (λ (z : ℤ). found copy.grouped.items copy.path.items z standing.stuck) (sym same.term)
+          (subst (λ (xs : List ℕ). found copy.grouped.items xs standing.term standing.stuck) (sym same.path)
+          (subst (λ (xs : List ℤ). found xs standing.path.items standing.term standing.stuck) (sym same.grouped) is.found)));
+    }
+
+pub copies_stand : (tables : List BidTable) (prices : List ℤ) (standings copies : List Standing) → AreCopies standings copies → AllStand tables prices standings → AllStand tables prices copies
+copies_stand tables prices standings copies same stand = record {
+  count_is = same.count ∙ stand.count_is;
+  each = λ number table copy t c.
+      let l = slice_get_within copies number copy c in
+      let count = same.count in
+      let standing = some_at standings number (omega arith) in
+      copy_stands table prices standing.0 copy (same.each number standing.0 copy standing.1 c) (stand.each number table standing.0 t standing.1);
+}
+
+-- copies of the first ones
+pub record CopiesBelow (standings : List Standing) (n : ℕ) (copies : List Standing) : Type 0 where
+  pub count_is : length copies ≡ n
+  pub each : (number : ℕ) (standing copy : Standing) → slice_get standings number ≡ Some standing → slice_get copies number ≡ Some copy → IsCopy standing copy
+
+pub copy_push : (standings : List Standing) (n : ℕ) (copies : List Standing) (standing copy : Standing) → CopiesBelow standings n copies → slice_get standings n ≡ Some standing → IsCopy standing copy → CopiesBelow standings (n + 1) (copies ++ copy ∷ [])
+copy_push standings n copies standing copy below at is = record {
+  count_is = let c = below.count_is in let l = length-append copies (copy ∷ []) in omega arith;
+  each = λ number x y x_at y_at. elim (push_cases copies copy number y y_at) as (λ _. IsCopy x y) [
+    | inl old ↦ below.each number x y x_at old
+    | inr new ↦
+        let place : n ≡ number = sym (new.0 ∙ below.count_is) in
+        let same : standing ≡ x = same_Some standing x (sym at ∙ ap (slice_get standings) place ∙ x_at) in
+        subst (λ (z : Standing). IsCopy x z) new.1 (subst (λ (z : Standing). IsCopy z copy) same is)
+  ];
+}

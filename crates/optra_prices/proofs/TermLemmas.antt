@@ -3,7 +3,7 @@ use Rattle.std.proofs.Common.{◌≡◌, ℕ, ◌+◌, ◌<◌, Bool, true, cond
 use Rattle.std.specs.Prelude.{◌↔◌, Contains, IfSome}
 use Rattle.std.specs.Option.{option_map_or}
 use Rattle.std.proofs.lemmas.Bool.{lt-ltb}
-use Rattle.std.proofs.lemmas.List.Elements.{All-contains, All-push, All-nil}
+use Rattle.std.proofs.lemmas.List.Elements.{All-contains, All-push}
 use Rattle.std.proofs.lemmas.Option.{none-some, same_Some, slice_get_within}
 use Rattle.optra_network.specs.Net.{Net, IsProper, IsTrack, times_of, IsRunningRow}
 use Rattle.optra_network.specs.declared.TypeId.{TypeId}
@@ -90,19 +90,8 @@ module _ {R : Type 0} (s : Setting R) (number : ℕ) (bid : Bid) (t : Timed) whe
     values = All-push (λ (a : ArcTerm). IsArcValue a.value) arcs arc are.values is.value_in;
   }
 
-  pub no_terms : (numbered : List R) (starts : List ℕ) (touches : List Touch) → AreTerms s number bid t numbered starts touches []
-  no_terms numbered starts touches = record {
-    starts_are = λ k minute a at start. absurd (none-some a at);
-    legs_are = λ k leg a at there. absurd (none-some a at);
-    within = All-nil (λ (a : ArcTerm). a.group + 1 < length starts);
-    values = All-nil (λ (a : ArcTerm). IsArcValue a.value);
-  }
-
 pub groups_stay : (starts : List ℕ) (touches : List Touch) → KeepsGroups starts touches starts touches
 groups_stay starts touches = record { more = omega arith; same = λ g l. refl }
-
-pub rows_stay : {R : Type 0} (numbered : List R) → Extends numbered numbered
-rows_stay numbered n row at = at
 
 -- a start arc has no leg
 pub no_start : (t : Timed) (k m : ℕ) (leg : Leg) → leg_of t k ≡ Some leg → start_of t k ≡ Some m → ⊥

@@ -12,16 +12,15 @@ use Rattle.std.proofs.lemmas.Option.{none-some, same_Some, slice_get_within, get
 use Rattle.std.proofs.lemmas.List.Sums.{fold_more}
 use Rattle.std.proofs.lemmas.List.{length-take, get_or-take}
 use Rattle.std.proofs.lemmas.List.Elements.{All-set}
-use Rattle.optra_bid.specs.Specs.{IsBetween}
 use Rattle.optra_walk.specs.declared.Leg.{Leg}
 use Rattle.optra_graph.specs.Timed.{IsRoute}
 use Rattle.optra_node.specs.Duals.{PriceList, price_of, sum_of}
 use Rattle.optra_node.specs.Certificates.{AreAscending}
 use Rattle.optra_node.proofs.RowLemmas.{equal_is}
-use Rattle.optra_node.proofs.SumLemmas.{sum_of-cons, sum_of-append, sum_of-map}
+use Rattle.optra_node.proofs.SumLemmas.{sum_of-cons, sum_of-append}
 use Rattle.optra_prices.specs.Arcs.{path_reply, IsFound}
 use Rattle.optra_prices.specs.Tables.{IsRowPrice, allows_by, weight_by}
-use Rattle.optra_prices.specs.Standings.{Stands, Agrees, SetsPrice, IsTermSize, replies_of, terms_of}
+use Rattle.optra_prices.specs.Standings.{Stands, Agrees, SetsPrice, IsTermSize, replies_of}
 use Rattle.optra_prices.specs.declared.numbering.BidTable.{BidTable}
 use Rattle.optra_prices.specs.declared.numbering.Standing.{Standing}
 use Rattle.optra_prices.proofs.NumberLemmas.{take_push}
@@ -34,9 +33,6 @@ pub record IsTermSum (capacity : ℤ) (standings : List Standing) (n : ℕ) (tot
   pub low : neg_ℤ (pos (4951760157141521099596496896 * n)) ≤ℤ total
   pub high : total ≤ℤ pos (2417851639229258349412352000000000000 + 4951760157141521099596496896 * n)
 
-pub term_sum_first : (capacity : ℤ) (standings : List Standing) → IsBetween (pos 0) (pos 2417851639229258349412352000000000000) capacity → IsTermSum capacity standings 0 capacity
-term_sum_first capacity standings range = record { is = omega (arith, ints); low = let a = range.0 in omega (arith, ints); high = let b = range.1 in omega (arith, ints) }
-
 pub term_sum_more : (capacity : ℤ) (standings : List Standing) (n : ℕ) (total : ℤ) (standing : Standing) → IsTermSum capacity standings n total → n < length standings → standing ≡ get_or standings n standing → IsTermSize standing.term
     → IsTermSum capacity standings (n + 1) (total +ℤ standing.term)
 term_sum_more capacity standings n total standing so_far l at small =
@@ -48,9 +44,6 @@ term_sum_more capacity standings n total standing so_far l at small =
     let a = small.0 in
     let b = small.1 in
     record { is = omega (arith, ints); low = omega (arith, ints); high = omega (arith, ints) }
-
-pub terms_sum : (standings : List Standing) → sum_of (λ term. term) (terms_of standings) ≡ sum_of (λ standing. standing.term) standings
-terms_sum standings = sum_of-map (λ (z : ℤ). z) (λ (x : Standing). x.term) standings
 
 -- one more reply
 pub replies_push : (tables : List BidTable) (standings : List Standing) (n : ℕ) (table : BidTable) (standing : Standing) → slice_get tables n ≡ Some table → slice_get standings n ≡ Some standing

@@ -12,7 +12,6 @@ use Rattle.optra_prices.specs.Marks.{IsMark}
 use Rattle.optra_prices.specs.Rooms.{HasRoomForAll}
 use Rattle.optra_prices.specs.Tables.{AreGroups, group_at}
 use Rattle.optra_prices.specs.Terms.{Setting, AreBidArcs}
-use Rattle.optra_prices.specs.declared.allowing.Told.{Told}
 use Rattle.optra_prices.specs.declared.numbering.ArcTerm.{ArcTerm}
 use Rattle.optra_prices.specs.declared.numbering.BidTable.{BidTable}
 use Rattle.optra_prices.specs.declared.numbering.Groups.{Groups}
@@ -48,10 +47,6 @@ pub record RoomTells {R : Type 0} (rows : Rows R) (bids : List Bid) (node : List
   pub starts_are : (k minute : ℕ) (arc : ArcTerm) → slice_get arcs k ≡ Some arc → start_of t k ≡ Some minute → group_at groups.starts.items groups.touches.items arc.group ≡ []
   pub legs_are : (k : ℕ) (leg : Leg) (arc : ArcTerm) → slice_get arcs k ≡ Some arc → leg_of t k ≡ Some leg
       → HasRoomForAll room (group_at groups.starts.items groups.touches.items arc.group) ↔ (IsBlocked rows bids node number (kind_at bids number) leg → ⊥)
-
--- what is told of a group is whether there is room for it
-abbrev pub IsTold : Room → Groups → Told → Type 0
-IsTold room groups told = (told.has_room ≡ true) ↔ HasRoomForAll room (group_at groups.starts.items groups.touches.items told.group)
 
 -- the mark tells whether there is room and the bid's own decisions let its walk take the arc
 pub record IsLetMark (net : Net) (bids : List Bid) (node : List Decision) (number : ℕ) (t : Timed) (k : ℕ) (has_room mark : Bool) : Type 0 where

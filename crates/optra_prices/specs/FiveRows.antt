@@ -1,5 +1,5 @@
 -- The family of the tests: five rows of capacity 1, of which each usable leg uses each once.
-use Rattle.std.proofs.Common.{◌≡◌, ℕ, zero, suc, ◌+◌, ◌<◌, ◌≤◌, Bool, true, false, cond, nat_lt, ◌&&◌, is_some, Some, slice_get, List, get_or, refl, sym, ap, ◌∙◌, subst, zero-add, arith, lit≤}
+use Rattle.std.proofs.Common.{◌≡◌, ℕ, zero, suc, ◌+◌, ◌<◌, ◌≤◌, Bool, true, false, cond, nat_lt, ◌&&◌, is_some, List, get_or, refl, sym, ap, ◌∙◌, subst, zero-add, arith, lit≤}
 use Rattle.std.specs.Prelude.{sum_by}
 use Rattle.std.specs.Cmp.{nat_cmp_is}
 use Rattle.std.specs.List.{range_with_len}
@@ -7,7 +7,6 @@ use Rattle.std.specs.Ordering.{nat_cmp}
 use Rattle.std.specs.declared.cmp.Ordering.TheVariants.{Less}
 use Rattle.std.proofs.lemmas.Bool.{lt-ltb, ltb-true}
 use Rattle.std.proofs.lemmas.List.FromFn.{length-range_with_len, get_or-range_with_len}
-use Rattle.std.proofs.lemmas.Option.{slice_get-get_or}
 use Rattle.optra_network.specs.Net.{Net, MayUse, times_of}
 use Rattle.optra_network.specs.declared.TypeId.{TypeId}
 use Rattle.optra_walk.specs.declared.Leg.{Leg}
@@ -69,7 +68,3 @@ five_unusable net kind leg row may_not = by (is_some (times_of net leg.track kin
     by : (m : Bool) → (m ≡ true → ⊥) → five_uses m row ≡ 0
     by true n = absurd (n refl)
     by false n = refl
-
--- the row at a place
-pub five_at : (k : ℕ) → k < 5 → slice_get five k ≡ Some k
-five_at k l = slice_get-get_or five k 0 l ∙ ap Some (get_or-range_with_len 0 5 k 0 l ∙ zero-add k)

@@ -45,12 +45,6 @@ pub record IsPathResult {R : Type 0} (cmp : R → R → Ordering) (net : Net) (r
   pub is_path : IsPricePath cmp net rows bids node start steps incumbent path
   pub is_result : IsFirstLeast path result
 
--- the candidate at this place is the first of least dual value among the first n
-abbrev pub IsLeastPlace : {R : Type 0} → List (Priced R) → ℕ → ℕ → Type 0
-IsLeastPlace {R} path n place =
-    (i : ℕ) (best candidate : Priced R) → i < n → slice_get path place ≡ Some best → slice_get path i ≡ Some candidate
-    → (best.dual.value ≤ℤ candidate.dual.value) × (i < place → best.dual.value <ℤ candidate.dual.value)
-
 -- the prices of the candidate after place n of the path: the start prices after the zero prices, and then those after each step
 abbrev pub IsNextPrices : {R : Type 0} → (R → R → Ordering) → Rows R → List Bid → PriceList R → Priced R → ℕ → PriceList R → Type 0
 IsNextPrices cmp rows bids start last zero prices = prices ≡ start

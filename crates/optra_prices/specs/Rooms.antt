@@ -1,10 +1,13 @@
 -- How much is used of rows by their numbers, and the room that is left.
-use Rattle.std.specs.Prelude.{◌≡◌, ℕ, ◌+◌, ◌≤◌, ◌<◌, cond, nat_eq, List, length, All, Some, slice_get, slice_index, slice_index_or}
+use Rattle.std.specs.Prelude.{◌≡◌, ◌↔◌, ℕ, ◌+◌, ◌≤◌, ◌<◌, true, cond, nat_eq, List, length, All, Some, slice_get, slice_index, slice_index_or}
 use Rattle.std.specs.declared.cmp.Ordering.{Ordering}
 use Rattle.std.specs.Ordering.{eq_by_cmp}
 use Rattle.optra_walk.specs.Families.{Rows}
+use Rattle.optra_prices.specs.Tables.{group_at}
+use Rattle.optra_prices.specs.declared.numbering.Groups.{Groups}
 use Rattle.optra_prices.specs.declared.numbering.Touch.{Touch}
 use Rattle.optra_prices.specs.declared.rooms.Room.{Room}
+use Rattle.optra_prices.specs.declared.rooms.Told.{Told}
 
 -- so much is used of each row that has a number, beside its capacity
 pub record IsRoom {R : Type 0} (rows : Rows R) (numbered : List R) (total : R → ℕ) (room : Room) : Type 0 where
@@ -18,6 +21,10 @@ HasRoomFor room touch = slice_index_or room.uses.items touch.row 0 + touch.uses 
 -- there is room for each of the touches
 abbrev pub HasRoomForAll : Room → List Touch → Type 0
 HasRoomForAll room touches = All (HasRoomFor room) touches
+
+-- what is told of a group is whether there is room for it
+abbrev pub IsTold : Room → Groups → Told → Type 0
+IsTold room groups told = (told.has_room ≡ true) ↔ HasRoomForAll room (group_at groups.starts.items groups.touches.items told.group)
 
 -- the use at number m is changed, and the others are as they were
 pub record ChangesUse (m : ℕ) (change : ℕ → ℕ) (old new : List ℕ) : Type 0 where

@@ -23,6 +23,18 @@ pub record Stands (table : BidTable) (prices : List ℤ) (standing : Standing) :
   pub range : All IsGroupPrice standing.grouped.items
   pub found : IsFound table.graph.now.dag (allows_by table.arcs.items) (weight_by table.arcs.items standing.grouped.items) table.forced standing.path.items standing.term standing.stuck
 
+-- all that is known of a bid is the same
+pub record IsCopy (standing copy : Standing) : Type 0 where
+  pub grouped : copy.grouped.items ≡ standing.grouped.items
+  pub path : copy.path.items ≡ standing.path.items
+  pub term : copy.term ≡ standing.term
+  pub stuck : copy.stuck ≡ standing.stuck
+
+-- all that is known of each bid is the same
+pub record AreCopies (standings copies : List Standing) : Type 0 where
+  pub count : length copies ≡ length standings
+  pub each : (number : ℕ) (standing copy : Standing) → slice_get standings number ≡ Some standing → slice_get copies number ≡ Some copy → IsCopy standing copy
+
 -- the arcs fit the graph and the groups
 pub record IsSound (table : BidTable) : Type 0 where
   pub count : length table.graph.now.dag.arcs ≡ length table.arcs.items

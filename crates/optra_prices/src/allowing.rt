@@ -12,12 +12,12 @@ ghost use Rattle.optra_prices.specs.Terms.{setting};
 ghost use Rattle.optra_prices.specs.Keepings.{IsBrought, AreBrought};
 ghost use Rattle.optra_prices.specs.Rooms.{IsRoom};
 ghost use Rattle.optra_prices.specs.Standings.{AreTables};
-ghost use Rattle.optra_prices.specs.Allowing.{AreToldAnew, IsTableAnew, IsTold, IsLetMark, RoomTells, IsTableAt};
+ghost use Rattle.optra_prices.specs.Allowing.{AreToldAnew, IsTableAnew, IsLetMark, RoomTells, IsTableAt};
 
-use crate::grouping::{either, group};
+use crate::grouping::either;
 use crate::marking::has_yes;
 use crate::numbering::{ArcTerm, BidTable, Groups, Numbering};
-use crate::rooms::{Room, add_leg, empty_room, has_room, take_leg};
+use crate::rooms::{Room, Told, add_leg, empty_room, take_leg, tell_group};
 use optra_graph::TimeGraph;
 use optra_network::{Network, NoMemory, TrackId, TypeId};
 use optra_node::{Decision, Node, Summary};
@@ -116,30 +116,6 @@ fn take_decisions<F: RowFamily>(
 {
     for decision in decisions {
         take_decision(room, inst, rows, numbering, *decision);
-    }
-}
-
-/// A group of rows that arcs touch, and whether there is room for it.
-#[derive(Clone, Copy)]
-pub(crate) struct Told {
-    pub(crate) group: u32,
-    pub(crate) has_room: bool,
-}
-
-/// Whether there is room for a group: what was told last, where that was of the same group.
-fn tell_group(room: &Room, groups: &Groups, number: u32, last: Told) -> Told
-    requires groups { AreGroups groups.now.starts.items groups.now.touches.items }
-    requires within { number + 1 < length groups.now.starts.items }
-    requires last { IsTold room.now groups.now last }
-    ensures group { result.group ≡ number }
-    ensures told { IsTold room.now groups.now result }
-{
-    if number == last.group {
-        return last;
-    }
-    Told {
-        group: number,
-        has_room: has_room(room, group(groups, number as usize)),
     }
 }
 

@@ -1,5 +1,5 @@
 //! Groups of touches, one after the other, and their prices.
-ghost use Rattle.std.specs.Prelude.{◌≡◌, ◌≢◌, ◌||◌, ℕ, ◌+◌, ◌-◌, ◌*◌, ◌≤◌, ◌<◌, true, false, All, Some, IfSome, IfOk, OnOk, length, slice_index_or, pos, ◌*ℤ◌};
+ghost use Rattle.std.specs.Prelude.{◌≡◌, ◌≢◌, ◌||◌, ℕ, ◌+◌, ◌-◌, ◌*◌, ◌≤◌, ◌<◌, true, false, All, Some, IfSome, IfOk, OnOk, length, slice_get, slice_index_or, pos, ◌*ℤ◌};
 ghost use Rattle.optra_bid.specs.Specs.{IsBetween};
 ghost use Rattle.optra_walk.specs.Families.{IsUsable};
 ghost use Rattle.optra_prices.specs.Tables.{IsNumbering, Extends, AreTouches, group_at, uses_in_all, AreGroups, KeepsGroups, IsRowPrice, IsGroupPrice, group_price, AreGroupPrices};
@@ -31,6 +31,26 @@ pub(crate) fn group(groups: &Groups, g: usize) -> &[Touch]
     &groups.touches[start..end]
 }
 
+/// Whether there is a group of this number with exactly what the leg touches.
+fn is_group_of<F: RowFamily>(
+    net: &Network,
+    rows: &F,
+    numbering: &Numbering<F::Row>,
+    groups: &Groups,
+    kind: TypeId,
+    leg: Leg,
+    g: u32,
+) -> bool
+    requires usable { IsUsable net.now kind leg }
+    requires groups { AreGroups groups.now.starts.items groups.now.touches.items }
+    ensures within { result ≡ true → g + 1 < length groups.now.starts.items }
+    ensures touches { result ≡ true → AreTouches numbering.now.rows.items ((F.rows_of rows.now net.now).uses kind leg) (group_at groups.now.starts.items groups.now.touches.items g) (F.rows_used rows.now net.now kind leg) }
+{
+    let g = g as usize;
+    g + 1 < groups.starts.len()
+        && touches_same(net, rows, &numbering.rows, group(groups, g), kind, leg)
+}
+
 /// The group that was added last, where it has exactly what the leg touches.
 fn last_group<F: RowFamily>(
     net: &Network,
@@ -45,13 +65,58 @@ fn last_group<F: RowFamily>(
     ensures within { IfSome result (λ g. g + 1 < length groups.now.starts.items) }
     ensures touches { IfSome result (λ g. AreTouches numbering.now.rows.items ((F.rows_of rows.now net.now).uses kind leg) (group_at groups.now.starts.items groups.now.touches.items g) (F.rows_used rows.now net.now kind leg)) }
 {
-    let last = groups.starts.len() - 2;
-    let number = u32::try_from(last).ok()?;
-    if touches_same(net, rows, &numbering.rows, group(groups, last), kind, leg) {
-        Some(number)
+    let last = u32::try_from(groups.starts.len() - 2).ok()?;
+    if is_group_of(net, rows, numbering, groups, kind, leg, last) {
+        Some(last)
     } else {
         None
     }
+}
+
+/// The group that the hints have for the first row that the leg touches, where it has exactly what the leg touches.
+fn hinted_group<F: RowFamily>(
+    net: &Network,
+    rows: &F,
+    numbering: &Numbering<F::Row>,
+    groups: &Groups,
+    hints: &[u32],
+    kind: TypeId,
+    leg: Leg,
+) -> Option<u32>
+    requires usable { IsUsable net.now kind leg }
+    requires groups { AreGroups groups.now.starts.items groups.now.touches.items }
+    ensures within { IfSome result (λ g. g + 1 < length groups.now.starts.items) }
+    ensures touches { IfSome result (λ g. AreTouches numbering.now.rows.items ((F.rows_of rows.now net.now).uses kind leg) (group_at groups.now.starts.items groups.now.touches.items g) (F.rows_used rows.now net.now kind leg)) }
+{
+    let row = rows.touched(net, kind, leg, 0)?;
+    let number = numbering.numbers.get(&row)?;
+    let g = *hints.get(*number as usize)?;
+    if is_group_of(net, rows, numbering, groups, kind, leg, g) {
+        Some(g)
+    } else {
+        None
+    }
+}
+
+/// A group that is there already, with exactly what the leg touches: the last one, or the hinted one.
+fn known_group<F: RowFamily>(
+    net: &Network,
+    rows: &F,
+    numbering: &Numbering<F::Row>,
+    groups: &Groups,
+    hints: &[u32],
+    kind: TypeId,
+    leg: Leg,
+) -> Option<u32>
+    requires usable { IsUsable net.now kind leg }
+    requires groups { AreGroups groups.now.starts.items groups.now.touches.items }
+    ensures within { IfSome result (λ g. g + 1 < length groups.now.starts.items) }
+    ensures touches { IfSome result (λ g. AreTouches numbering.now.rows.items ((F.rows_of rows.now net.now).uses kind leg) (group_at groups.now.starts.items groups.now.touches.items g) (F.rows_used rows.now net.now kind leg)) }
+{
+    if let Some(g) = last_group(net, rows, numbering, groups, kind, leg) {
+        return Some(g);
+    }
+    hinted_group(net, rows, numbering, groups, hints, kind, leg)
 }
 
 /// A new group with what the leg touches.
@@ -84,12 +149,40 @@ fn new_group<F: RowFamily>(
     Ok(group)
 }
 
-/// The number of a group with what the leg touches. Legs that stand one after the other and touch the same share a group.
+/// Hints the group for the row with this number.
+fn put_hint(hints: &mut Vec<u32>, number: u32, g: u32) -> Result<(), NoMemory>
+    ensures { OnOk result (slice_get hints.new.items number ≡ Some g) }
+{
+    let place = number as usize;
+    if place >= hints.len() {
+        hints.resize(place + 1, 0)?;
+    }
+    hints[place] = g;
+    Ok(())
+}
+
+/// Hints the group for the first row that it touches. A group that touches nothing isn't hinted.
+fn set_hint(hints: &mut Vec<u32>, groups: &Groups, g: u32) -> Result<(), NoMemory>
+    requires groups { AreGroups groups.now.starts.items groups.now.touches.items }
+    requires within { g + 1 < length groups.now.starts.items }
+    ensures { OnOk result (IfSome (slice_get (group_at groups.now.starts.items groups.now.touches.items g) 0) (λ touch. slice_get hints.new.items touch.row ≡ Some g)) }
+{
+    match group(groups, g as usize).get(0) {
+        Some(touch) => put_hint(hints, touch.row, g),
+        None => Ok(()),
+    }
+}
+
+/// The number of a group with what the leg touches. Legs that touch the same share a group where they stand one after the
+/// other, and where no other group has been made since whose first row is the same: the hints have, for the number of a
+/// row, the group last made that touches it first. They are hints alone: each is tried before it is taken, so they may be
+/// those of other bids.
 pub(crate) fn leg_group<F: RowFamily>(
     net: &Network,
     rows: &F,
     numbering: &mut Numbering<F::Row>,
     groups: &mut Groups,
+    hints: &mut Vec<u32>,
     kind: TypeId,
     leg: Leg,
 ) -> Result<u32, NoMemory>
@@ -105,10 +198,12 @@ pub(crate) fn leg_group<F: RowFamily>(
     ensures within { IfOk result (λ g. g + 1 < length groups.new.starts.items) }
     ensures touches { IfOk result (λ g. AreTouches numbering.new.rows.items ((F.rows_of rows.now net.now).uses kind leg) (group_at groups.new.starts.items groups.new.touches.items g) (F.rows_used rows.now net.now kind leg)) }
 {
-    match last_group(net, rows, numbering, groups, kind, leg) {
-        Some(group) => Ok(group),
-        None => new_group(net, rows, numbering, groups, kind, leg),
+    if let Some(g) = known_group(net, rows, numbering, groups, hints, kind, leg) {
+        return Ok(g);
     }
+    let g = new_group(net, rows, numbering, groups, kind, leg)?;
+    set_hint(hints, groups, g)?;
+    Ok(g)
 }
 
 /// The price of a row by its number.

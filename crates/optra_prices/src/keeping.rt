@@ -14,7 +14,7 @@ use crate::duals::{entries, no_numbers};
 use crate::listing::number_more;
 use crate::numbering::{BidTable, Numbering, Standing};
 use crate::paths::go_along;
-use crate::sessions::{first_standings, make_tables, renew_all};
+use crate::sessions::{copy_standings, first_standings, make_tables, renew_all};
 use crate::{Dead, Dual, Priced};
 use optra_dag::Buffers;
 use optra_graph::Graphs;
@@ -54,7 +54,7 @@ pub fn keep_arcs<'g, F: RowFamily, G: Graphs>(
     let prices = Vec::new(alloc);
     let mut buffers = Buffers::new(alloc);
     let first = first_standings(alloc, &mut buffers, &tables, &prices)?;
-    let last = first_standings(alloc, &mut buffers, &tables, &prices)?;
+    let last = copy_standings(alloc, &first)?;
     Ok(ArcTables {
         numbering,
         tables,

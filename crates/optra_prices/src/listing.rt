@@ -1,5 +1,5 @@
 //! Rows with numbers in ascending order, and their prices and capacities.
-ghost use Rattle.std.specs.Prelude.{◌≡◌, ◌≤◌, ◌*◌, true, All, Contains, IfOk, OnOk, length, map, slice_index, slice_index_or, pos};
+ghost use Rattle.std.specs.Prelude.{◌≡◌, ◌≤◌, ◌*◌, true, All, Contains, IfOk, OnOk, length, map, slice_index, slice_index_or, pos, ◌*ℤ◌};
 ghost use Rattle.optra_bid.specs.Specs.{IsBetween};
 ghost use Rattle.optra_node.specs.Duals.{ArePrices};
 ghost use Rattle.optra_prices.specs.Courses.{listed};
@@ -85,6 +85,19 @@ fn capacity_by(capacities: &[u32], number: u32) -> u32
     capacities.get(number as usize).copied().unwrap_or(0)
 }
 
+/// The price of all capacity of the row with this number. Most prices are 0, and then the capacity isn't looked up.
+fn capacity_price(price: i64, capacities: &[u32], number: u32) -> i128
+    requires price { IsRowPrice price }
+    requires capacities { All (λ capacity. capacity ≤ 65535) capacities.now }
+    ensures value { result ≡ price *ℤ pos (slice_index capacities.now number) }
+    ensures range { IsBetween (pos 0) (pos 131070000000000000) result }
+{
+    if price == 0 {
+        return 0;
+    }
+    capacity_product(price, capacity_by(capacities, number))
+}
+
 /// The list of prices above zero.
 pub(crate) fn list_prices<R: Copy>(
     alloc: Global,
@@ -111,8 +124,7 @@ pub(crate) fn capacity_sum<R: Copy>(order: &[(R, u32)], prices: &[i64], capaciti
     let mut total: i128 = 0;
     for entry in order {
         let price = price_by(prices, entry.1);
-        let capacity = capacity_by(capacities, entry.1);
-        total += capacity_product(price, capacity);
+        total += capacity_price(price, capacities, entry.1);
     }
     total
 }

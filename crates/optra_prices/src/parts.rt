@@ -1,17 +1,15 @@
 //! What the arcs of a bid's table add to the value of a walk, and which of them may be taken beside what is placed.
-ghost use Rattle.std.specs.Prelude.{◌≡◌, ◌↔◌, ◌&&◌, ◌+◌, ◌<◌, ℕ, IsTrue, true, Some, All, IfOk, OnOk, length, slice_get};
+ghost use Rattle.std.specs.Prelude.{◌≡◌, ◌&&◌, ◌+◌, ◌<◌, ℕ, Some, All, IfOk, OnOk, length, slice_get};
 ghost use Rattle.optra_bid.specs.declared.bids.Bid.{Bid};
 ghost use Rattle.optra_walk.specs.Families.{IsUsable};
 ghost use Rattle.optra_graph.specs.Timed.{Timed, IsGraphOf};
 ghost use Rattle.optra_prices.specs.Keepings.{AreKept, AreKeptAt};
 ghost use Rattle.optra_prices.specs.Parts.{AreParts, ArePartsOf, IsTableGraph, IsRoomIn};
-ghost use Rattle.optra_prices.specs.Rooms.{HasRoomForAll};
-ghost use Rattle.optra_prices.specs.Tables.{AreGroups, group_at};
+ghost use Rattle.optra_prices.specs.Tables.{AreGroups};
 
-use crate::grouping::group;
 use crate::keeping::ArcTables;
-use crate::numbering::{ArcTerm, BidTable, Groups};
-use crate::rooms::{Room, add_leg, empty_room, has_room};
+use crate::numbering::{ArcTerm, BidTable};
+use crate::rooms::{Room, Told, add_leg, empty_room, tell_group};
 use optra_graph::TimeGraph;
 use optra_network::{NoMemory, TypeId};
 use optra_node::Node;
@@ -25,38 +23,14 @@ pub struct ArcPart {
     pub allowed: bool,
 }
 
-/// A group of rows that arcs touch, and whether there is room for it.
-#[derive(Clone, Copy)]
-struct Fit {
-    group: u32,
-    fits: bool,
-}
-
-/// Whether there is room for a group: what was told last, where that was of the same group.
-fn group_fit(room: &Room, groups: &Groups, number: u32, last: Fit) -> Fit
-    requires groups { AreGroups groups.now.starts.items groups.now.touches.items }
-    requires within { number + 1 < length groups.now.starts.items }
-    requires last { IsTrue last.fits ↔ HasRoomForAll room.now (group_at groups.now.starts.items groups.now.touches.items last.group) }
-    ensures group { result.group ≡ number }
-    ensures fits { IsTrue result.fits ↔ HasRoomForAll room.now (group_at groups.now.starts.items groups.now.touches.items number) }
-{
-    if number == last.group {
-        return last;
-    }
-    Fit {
-        group: number,
-        fits: has_room(room, group(groups, number as usize)),
-    }
-}
-
 /// The part of an arc, with whether there is room for what it touches.
-fn part_of(arc: ArcTerm, fits: bool) -> ArcPart
+fn part_of(arc: ArcTerm, has_room: bool) -> ArcPart
     ensures value { result.value ≡ arc.value }
-    ensures allowed { result.allowed ≡ (arc.allowed && fits) }
+    ensures allowed { result.allowed ≡ (arc.allowed && has_room) }
 {
     ArcPart {
         value: arc.value,
-        allowed: arc.allowed && fits,
+        allowed: arc.allowed && has_room,
     }
 }
 
@@ -68,14 +42,14 @@ fn tell_table(parts: &mut Vec<ArcPart>, table: &BidTable<'_>, room: &Room) -> Re
 {
     parts.clear();
     parts.reserve(table.arcs.len())?;
-    let mut last = Fit {
+    let mut last = Told {
         group: 0,
-        fits: true,
+        has_room: true,
     };
     for k in 0..table.arcs.len() {
         let arc = table.arcs[k];
-        last = group_fit(room, &table.groups, arc.group, last);
-        parts.push(part_of(arc, last.fits))?;
+        last = tell_group(room, &table.groups, arc.group, last);
+        parts.push(part_of(arc, last.has_room))?;
     }
     Ok(())
 }

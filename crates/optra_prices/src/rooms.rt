@@ -1,11 +1,12 @@
 //! How much is used of rows by their numbers, and the room that is left.
-ghost use Rattle.std.specs.Prelude.{◌≡◌, ◌+◌, ◌-◌, ℕ, ◌↔◌, IsTrue, true, All, IfOk, OnOk};
+ghost use Rattle.std.specs.Prelude.{◌≡◌, ◌+◌, ◌-◌, ◌<◌, ℕ, ◌↔◌, IsTrue, true, All, IfOk, OnOk, length};
 ghost use Rattle.optra_walk.specs.Families.{IsUsable};
-ghost use Rattle.optra_prices.specs.Tables.{IsNumbering};
-ghost use Rattle.optra_prices.specs.Rooms.{IsRoom, HasRoomFor, HasRoomForAll, ChangesUse, ChangesRow};
+ghost use Rattle.optra_prices.specs.Tables.{IsNumbering, AreGroups};
+ghost use Rattle.optra_prices.specs.Rooms.{IsRoom, HasRoomFor, HasRoomForAll, ChangesUse, ChangesRow, IsTold};
 
+use crate::grouping::group;
 use crate::listing::capacities_of;
-use crate::numbering::{Numbering, Touch};
+use crate::numbering::{Groups, Numbering, Touch};
 use optra_network::{Network, NoMemory, TypeId};
 use optra_walk::{Leg, RowFamily};
 use std::alloc::{AllocError, Global};
@@ -153,4 +154,28 @@ pub(crate) fn has_room(room: &Room, touches: &[Touch]) -> bool
         }
     }
     true
+}
+
+/// A group of rows that arcs touch, and whether there is room for it.
+#[derive(Clone, Copy)]
+pub(crate) struct Told {
+    pub(crate) group: u32,
+    pub(crate) has_room: bool,
+}
+
+/// Whether there is room for a group: what was told last, where that was of the same group, as neighbouring arcs mostly are.
+pub(crate) fn tell_group(room: &Room, groups: &Groups, number: u32, last: Told) -> Told
+    requires groups { AreGroups groups.now.starts.items groups.now.touches.items }
+    requires within { number + 1 < length groups.now.starts.items }
+    requires last { IsTold room.now groups.now last }
+    ensures group { result.group ≡ number }
+    ensures told { IsTold room.now groups.now result }
+{
+    if number == last.group {
+        return last;
+    }
+    Told {
+        group: number,
+        has_room: has_room(room, group(groups, number as usize)),
+    }
 }

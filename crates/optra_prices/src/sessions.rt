@@ -3,12 +3,12 @@ ghost use Rattle.std.specs.Prelude.{◌≡◌, ◌≤◌, ℕ, true, List, ℤ, 
 ghost use Rattle.optra_node.specs.Nodes.{IsNode};
 ghost use Rattle.optra_prices.specs.Tables.{IsNumbering, Extends, IsRowPrice};
 ghost use Rattle.optra_prices.specs.Terms.{setting};
-ghost use Rattle.optra_prices.specs.Standings.{IsSound, AreTables, AllStand};
+ghost use Rattle.optra_prices.specs.Standings.{IsSound, AreTables, AllStand, AreCopies};
 ghost use Rattle.optra_prices.specs.Keepings.{AreBrought};
 ghost use Rattle.optra_prices.specs.declared.numbering.BidTable.{BidTable};
 
 use crate::numbering::{BidTable, Numbering, Standing};
-use crate::settling::{first_standing, renew_where, update};
+use crate::settling::{copy_standing, first_standing, renew_where, update};
 use crate::tables::bid_table;
 use optra_dag::Buffers;
 use optra_graph::Graphs;
@@ -39,6 +39,7 @@ pub(crate) fn make_tables<'g, F: RowFamily, G: Graphs>(
 {
     let summary = Summary::new(alloc, inst, rows, node)?;
     let bids = inst.bids;
+    let mut hints = Vec::new(alloc);
     let mut tables = Vec::with_capacity(alloc, bids.len())?;
     for number in 0..bids.len() {
         let bid = &bids[number];
@@ -52,6 +53,7 @@ pub(crate) fn make_tables<'g, F: RowFamily, G: Graphs>(
             bid,
             graph,
             numbering,
+            &mut hints,
         )?;
         tables.push(table)?;
     }
@@ -75,6 +77,21 @@ pub(crate) fn first_standings(
         standings.push(standing)?;
     }
     Ok(standings)
+}
+
+/// A copy of what is known of each bid.
+pub(crate) fn copy_standings(
+    alloc: Global,
+    standings: &[Standing],
+) -> Result<Vec<Standing>, NoMemory>
+    ensures { IfOk result (λ copies. AreCopies standings.now copies.items) }
+{
+    let mut copies = Vec::with_capacity(alloc, standings.len())?;
+    for standing in standings {
+        let copy = copy_standing(alloc, standing)?;
+        copies.push(copy)?;
+    }
+    Ok(copies)
 }
 
 /// Brings what is known of each bid up to date.

@@ -1,7 +1,7 @@
 //! What is known of the bids, brought up to date after prices changed.
 ghost use Rattle.std.specs.Prelude.{◌≡◌, All, IfOk, OnOk, List, ℤ};
 ghost use Rattle.optra_prices.specs.Tables.{IsRowPrice, IsGroupPrice, AreGroupPrices};
-ghost use Rattle.optra_prices.specs.Standings.{Stands, IsSound};
+ghost use Rattle.optra_prices.specs.Standings.{Stands, IsCopy, IsSound};
 ghost use Rattle.optra_prices.specs.Keepings.{KeepsStanding};
 
 use crate::grouping::refresh;
@@ -38,6 +38,27 @@ pub(crate) fn first_standing(
         path,
         term: outcome.term,
         stuck: outcome.stuck,
+    })
+}
+
+/// A copy of numbers.
+fn copy_of<T: Copy>(alloc: Global, numbers: &[T]) -> Result<Vec<T>, NoMemory>
+    ensures { IfOk result (λ copy. copy.items ≡ numbers.now) }
+{
+    let mut copy = Vec::with_capacity(alloc, numbers.len())?;
+    copy.extend_from_slice(numbers)?;
+    Ok(copy)
+}
+
+/// A copy of what is known of a bid.
+pub(crate) fn copy_standing(alloc: Global, standing: &Standing) -> Result<Standing, NoMemory>
+    ensures { IfOk result (IsCopy standing.now) }
+{
+    Ok(Standing {
+        grouped: copy_of(alloc, &standing.grouped)?,
+        path: copy_of(alloc, &standing.path)?,
+        term: standing.term,
+        stuck: standing.stuck,
     })
 }
 

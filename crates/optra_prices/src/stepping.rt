@@ -102,12 +102,15 @@ fn moved(price: i64, change: i128) -> i128
     i128::from(price) + change
 }
 
-/// The next price of a row.
+/// The next price of a row. Most rows cost nothing and aren't full, and such a price stays at 0.
 pub(crate) fn next_price(length: i64, price: i64, used: u64, capacity: u32) -> i64
     requires { IsBetween (pos 1) (pos 1000000000000) length }
     ensures value { result ≡ next_price length price used capacity }
     ensures range { IsBetween (pos 0) (pos 2000000000000) result }
 {
+    if price == 0 && used <= u64::from(capacity) {
+        return 0;
+    }
     let uses = above(used, capacity);
     let change = spent(length, uses);
     let next = moved(price, change);

@@ -79,6 +79,7 @@ fn term_at<F: RowFamily>(
     graph: &TimeGraph,
     numbering: &mut Numbering<F::Row>,
     groups: &mut Groups,
+    hints: &mut Vec<u32>,
     k: u32,
 ) -> Result<ArcTerm, NoMemory>
     requires net { summary.now.net ≡ net.now }
@@ -101,7 +102,7 @@ fn term_at<F: RowFamily>(
         let minute = graph.start(k).unwrap_or(0);
         return Ok(start_term(summary, number, bid, minute));
     };
-    let group = leg_group(net, rows, numbering, groups, kind_of(bid), leg)?;
+    let group = leg_group(net, rows, numbering, groups, hints, kind_of(bid), leg)?;
     Ok(leg_term(net, summary, number, bid, leg, group))
 }
 
@@ -115,6 +116,7 @@ pub(crate) fn bid_table<'g, F: RowFamily>(
     bid: &Bid,
     graph: &'g TimeGraph,
     numbering: &mut Numbering<F::Row>,
+    hints: &mut Vec<u32>,
 ) -> Result<BidTable<'g>, NoMemory>
     requires net { summary.now.net ≡ net.now }
     requires family { summary.now.family ≡ rows.now }
@@ -141,6 +143,7 @@ pub(crate) fn bid_table<'g, F: RowFamily>(
             graph,
             numbering,
             &mut groups,
+            hints,
             k,
         )?;
         arcs.push(term)?;

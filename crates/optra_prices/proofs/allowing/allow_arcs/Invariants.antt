@@ -1,5 +1,5 @@
 use Rattle.std.proofs.Common.{◌≡◌, false}
-use Rattle.optra_prices.specs.Allowing.{IsTold}
+use Rattle.optra_prices.specs.Rooms.{IsTold}
 use Rattle.optra_prices.proofs.AllowLemmas.{AreToldUpTo}
 use Rattle.optra_prices.proofs.allowing.allow_arcs.Given as goal
 

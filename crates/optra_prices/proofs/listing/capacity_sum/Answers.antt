@@ -14,12 +14,12 @@ loop-entry-preserved g c =
     let term = λ (e : g.row.R.Denot × ℕ). price_at prices e *ℤ pos (slice_index capacities e.1) in
     let more = fold_more (λ (s : ℤ) (e : g.row.R.Denot × ℕ). s +ℤ term e) (pos 0) c.args.order.now c.loop-entry.entry-index item c.loop-entry-test.true in
     let is = ap term c.entry-item.is in
-    let cap = ap (λ (n : ℕ). price_at prices item *ℤ pos n) c.capacity_by-capacity.ensures.value in
+    let capacity = slice_index capacities item.1 in
     let fits : FitsSigned w64 c.price_by-price.result = search rules in
-    let whole = ap (λ (z : ℤ). z *ℤ pos c.capacity_by-capacity.result) (to_z-of_z w64 c.price_by-price.result fits) in
-    let value = ap (λ (z : ℤ). z *ℤ pos c.capacity_by-capacity.result) c.price_by-price.ensures.value in
-    let product = c.capacity_product-total.ensures.value in
-    let range = c.capacity_product-total.ensures.range in
+    let whole = ap (λ (z : ℤ). z *ℤ pos capacity) (to_z-of_z w64 c.price_by-price.result fits) in
+    let value = ap (λ (z : ℤ). z *ℤ pos capacity) c.price_by-price.ensures.value in
+    let product = c.capacity_price-total.ensures.value in
+    let range = c.capacity_price-total.ensures.range in
     let inv = c.loop-entry.invariant in
     let total = c.loop-entry.total-is in
     (omega (arith, ints), (omega (arith, ints), omega (arith, ints)))

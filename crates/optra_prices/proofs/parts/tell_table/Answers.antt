@@ -19,10 +19,11 @@ loop-k-preserved c =
     let arc = c.index-arc.result.now in
     let l : k < length arcs = omega arith in
     let at : slice_get arcs k ≡ Some arc = slice_get_read arcs (length arcs) k arc refl l c.index-arc.ensures in
-    let fits = c.group_fit-last.result.fits in
-    let tells = c.group_fit-last.ensures in
-    let part = part_told room (group_at starts touches arc.group) arc c.part_of.result fits c.part_of.ensures.value c.part_of.ensures.allowed tells.fits in
+    let told = c.tell_group-last.result in
+    let tells = c.tell_group-last.ensures in
+    let has : IsTrue told.has_room ↔ HasRoomForAll room (group_at starts touches arc.group) = subst (λ (g : ℕ). IsTrue told.has_room ↔ HasRoomForAll room (group_at starts touches g)) tells.group tells.told in
+    let part = part_told room (group_at starts touches arc.group) arc c.part_of.result told.has_room c.part_of.ensures.value c.part_of.ensures.allowed has in
     record {
       told = subst (ArePartsOf room starts touches arcs (k + 1)) (sym {A = List ArcPart} c.in_ok-push.ensures.items) (parts_more room starts touches arcs k c.loop-k.parts.items arc c.part_of.result c.loop-k.invariant.told at part);
-      last = subst (λ (g : ℕ). IsTrue fits ↔ HasRoomForAll room (group_at starts touches g)) (sym {A = ℕ} tells.group) tells.fits;
+      last = tells.told;
     }

@@ -1,12 +1,10 @@
 -- The arcs so far have their parts, and what was told last is so.
-use Rattle.std.specs.Prelude.{◌↔◌, IsTrue}
 use Rattle.optra_prices.specs.Parts.{ArePartsOf}
-use Rattle.optra_prices.specs.Rooms.{HasRoomForAll}
-use Rattle.optra_prices.specs.Tables.{group_at}
+use Rattle.optra_prices.specs.Rooms.{IsTold}
 use Rattle.optra_prices.proofs.parts.tell_table.Given as goal
 
 abbrev pub invariant-loop-k : goal.invariant-loop-k
 invariant-loop-k l = record {
   told : ArePartsOf l.room l.table.groups.starts.items l.table.groups.touches.items l.table.arcs.items l.k l.parts.items;
-  last : IsTrue l.last.fits ↔ HasRoomForAll l.room (group_at l.table.groups.starts.items l.table.groups.touches.items l.last.group);
+  last : IsTold l.room l.table.groups l.last;
 }
