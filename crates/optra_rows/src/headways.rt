@@ -88,6 +88,11 @@ impl RowFamily for HeadwayRows {
         let partners = net.partners(leg.track, kind);
         pair_at(partners, leg.track, kind, leg.depart, k - least)
     }
+
+    /// Legs of a type use the same where they enter the same track at the same minute.
+    fn use_alike(&self, _net: &Network, _kind: TypeId, first: Leg, second: Leg) -> bool {
+        first.track == second.track && first.depart == second.depart
+    }
 }
 
 /// The row of the k-th partner in the day.

@@ -122,4 +122,9 @@ impl<A: RowFamily, B: RowFamily> RowFamily for Both<A, B> {
         let q = self.second.touched(net, kind, leg, k - count)?;
         Some(Either::Second(q))
     }
+
+    fn use_alike(&self, net: &Network, kind: TypeId, first: Leg, second: Leg) -> bool {
+        self.first.use_alike(net, kind, first, second)
+            && self.second.use_alike(net, kind, first, second)
+    }
 }

@@ -317,3 +317,35 @@ fn the_rows_of_the_second_family_come_after_the_first(rt: HostRuntime) -> Result
     assert_eq!(rt; doubled().cap(&net, second), 1);
     Ok(())
 }
+
+/// A leg by which a train that passed the tail passes the head.
+fn passing(depart: u16) -> Leg
+    ensures track { result.track ≡ AB }
+    ensures depart { result.depart ≡ depart }
+    ensures pass { result.action ≡ Action.Pass }
+{
+    Leg {
+        track: AB,
+        depart,
+        from_halt: false,
+        action: Action::Pass,
+    }
+}
+
+/// Whether a family says that legs of x which depart at two minutes, one of which ends the walk, use the same.
+fn alike<F: RowFamily>(rt: &impl Abort, net: &Network, rows: &F, first: u16, second: u16) -> bool {
+    assert!(rt; first <= 2879);
+    assert!(rt; second <= 2879);
+    assert!(rt; net.run(AB, X, false, false).is_some());
+    rows.use_alike(net, X, leg(first), passing(second))
+}
+
+#[test]
+fn legs_that_enter_a_track_at_one_minute_use_alike(rt: HostRuntime) -> Result<(), Fail> {
+    let net = network(&rt, rt.alloc(), &["x", "y", "z"], &THREE)?;
+    assert!(rt; alike(&rt, &net, &HeadwayRows::new(), 5, 5));
+    assert!(rt; !alike(&rt, &net, &HeadwayRows::new(), 5, 6));
+    assert!(rt; alike(&rt, &net, &doubled(), 5, 5));
+    assert!(rt; !alike(&rt, &net, &doubled(), 6, 5));
+    Ok(())
+}

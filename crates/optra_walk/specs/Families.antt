@@ -31,6 +31,10 @@ pub record Rows (R : Type 0) : Type 0 where
   pub capacity : R → ℕ
   pub uses : TypeId → Leg → R → ℕ
 
+-- two legs of a type use as much of each row, and have the same list of rows
+abbrev pub UseAlike : {R : Type 0} → Rows R → (TypeId → Leg → List R) → TypeId → Leg → Leg → Type 0
+UseAlike {R} rows used kind first second = ((row : R) → rows.uses kind first row ≡ rows.uses kind second row) × (used kind first ≡ used kind second)
+
 -- how much of a row the legs use together
 abbrev pub load_of : {R : Type 0} → Rows R → R → List Entry → ℕ
 load_of rows row entries = sum_by (λ e. rows.uses e.0 e.1 row) entries

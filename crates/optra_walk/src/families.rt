@@ -8,7 +8,7 @@ ghost use Rattle.std.specs.Prelude.{◌≡◌, ℕ, ◌≤◌, ◌↔◌, List, 
 ghost use Rattle.optra_network.specs.Net.{Net, IsProper, MayUse};
 ghost use Rattle.optra_network.specs.declared.TypeId.{TypeId as Kind};
 ghost use Rattle.optra_walk.specs.declared.Leg.{Leg as Step};
-ghost use Rattle.optra_walk.specs.Families.{IsUsable, Entry, Rows, ListsRows, TellsApart, FitRows};
+ghost use Rattle.optra_walk.specs.Families.{IsUsable, Entry, Rows, UseAlike, ListsRows, TellsApart, FitRows};
 
 use crate::Leg;
 use optra_network::{Network, TypeId};
@@ -54,6 +54,20 @@ pub trait RowFamily {
     fn touched(&self, net: &Network, kind: TypeId, leg: Leg, k: u32) -> Option<Self::Row>
         requires { IsUsable net.now kind leg }
         ensures { result ≡ slice_get (rows_used self.now net.now kind leg) k };
+
+    /// Whether the family sees at once that two usable legs of the type use as much of each row. It is never true of
+    /// others; a family that doesn't see it says no, and its users then compare row by row.
+    fn use_alike(&self, net: &Network, kind: TypeId, first: Leg, second: Leg) -> bool
+        requires first { IsUsable net.now kind first }
+        requires second { IsUsable net.now kind second }
+        ensures { result ≡ true → UseAlike (rows_of self.now net.now) (rows_used self.now net.now) kind first second }
+    {
+        let _ = net;
+        let _ = kind;
+        let _ = first;
+        let _ = second;
+        false
+    }
 
     /// Rows that compare as equal are the same.
     ghost tells_apart: { TellsApart Self.Row.cmp };
