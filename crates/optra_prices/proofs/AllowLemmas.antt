@@ -18,14 +18,14 @@ use Rattle.optra_node.specs.Nodes.{IsBlocked, kind_at, uses_at, yes_uses, yes_lo
 use Rattle.optra_node.specs.Spans.{Lets, IsLetBy, IsLegOk}
 use Rattle.optra_node.specs.Summaries.{decisions_for}
 use Rattle.optra_node.proofs.SummaryLemmas.{all_for, load_split}
-use Rattle.optra_prices.specs.Allowing.{IsToldAnew, AreToldAnew, IsTableAnew, IsTableAt, RoomTells, IsLetMark}
+use Rattle.optra_prices.specs.Allowing.{IsToldAnew, AreToldAnew, IsTableAnew, IsTableFor, RoomTells, IsLetMark}
 use Rattle.optra_prices.specs.Arcs.{IsArcValue}
 use Rattle.optra_prices.specs.Keepings.{IsBrought, AreBrought}
 use Rattle.optra_prices.specs.Marks.{IsMark}
 use Rattle.optra_prices.specs.Rooms.{IsTold, IsRoom, HasRoomFor, HasRoomForAll}
 use Rattle.optra_prices.specs.Tables.{Extends, AreTouches, AreGroups, group_at}
-use Rattle.optra_prices.specs.Terms.{Setting, setting, AreTerms}
-use Rattle.optra_prices.specs.Standings.{AreTables}
+use Rattle.optra_prices.specs.Terms.{Setting, setting, AreTerms, AreMarked}
+use Rattle.optra_prices.specs.Standings.{IsArcTable, HoldArcs, AreTables}
 use Rattle.optra_prices.specs.declared.rooms.Told.{Told}
 use Rattle.optra_prices.specs.declared.numbering.ArcTerm.{ArcTerm}
 use Rattle.optra_prices.specs.declared.numbering.BidTable.{BidTable}
@@ -86,9 +86,9 @@ module _ {R : Type 0} (rows : Rows R) (bids : List Bid) (numbered : List R) wher
 
 -- ---- what the room tells of a table's arcs
 module _ {R : Type 0} (cmp : R → R → Ordering) (net : Net) (proper : IsProper net) (rows : Rows R) (used : TypeId → Leg → List R)
-    (lists : (kind : TypeId) (leg : Leg) → IsUsable net kind leg → ListsRows cmp rows.is_row (rows.uses kind leg) (used kind leg)) (bids : List Bid) (before node : List Decision) (number : ℕ) (numbered : List R) (room : Room)
+    (lists : (kind : TypeId) (leg : Leg) → IsUsable net kind leg → ListsRows cmp rows.is_row (rows.uses kind leg) (used kind leg)) (bids : List Bid) (node : List Decision) (number : ℕ) (numbered : List R) (room : Room)
     (is : IsRoom rows numbered (others_load rows bids node number) room) (table : BidTable) where
-  pub table_tells : IsTableAt (setting net rows used bids before) numbered number table → RoomTells rows bids node number room table.graph.now table.groups table.arcs.items
+  pub table_tells : IsTableFor net rows used bids numbered number table → RoomTells rows bids node number room table.graph.now table.groups table.arcs.items
   table_tells (bid, here, at) = record {
     count = at.count;
     groups_are = at.groups;
@@ -178,76 +178,79 @@ tables_kept s count numbered after tables extends are = record {
   each = λ number bid table bid_at table_at. table_kept s numbered after extends number bid table (are.each number bid table bid_at table_at);
 }
 
-module _ {R : Type 0} (net : Net) (rows : Rows R) (used : TypeId → Leg → List R) (bids : List Bid) (before node : List Decision) (numbered : List R) where
-  abbrev was : Setting R
-  was = setting net rows used bids before
-
+module _ {R : Type 0} (net : Net) (rows : Rows R) (used : TypeId → Leg → List R) (bids : List Bid) (node : List Decision) (numbered : List R) where
   abbrev now : Setting R
   now = setting net rows used bids node
 
-  -- arcs that are told anew are those of the graph at the node
-  terms_anew : (number : ℕ) (bid : Bid) → slice_get bids number ≡ Some bid → (t : Timed) (starts : List ℕ) (touches : List Touch) (old new : List ArcTerm) → AreToldAnew net rows bids node number t old new
-      → AreTerms was number bid t numbered starts touches old → AreTerms now number bid t numbered starts touches new
-  terms_anew number bid here t starts touches old new told are = record {
-    starts_are = λ k minute arc at start.
-        let b = there k arc at in
-        let is = told.each k b.0 arc b.1 at in
-        let old_is = are.starts_are k minute b.0 b.1 start in
-        record {
-          allowed = is.mark.start_is minute start;
-          value_is = is.value_is ∙ old_is.value_is;
-          group_is = ap (group_at starts touches) is.group_is ∙ old_is.group_is;
-        };
-    legs_are = λ k leg arc at leg_at.
-        let b = there k arc at in
-        let is = told.each k b.0 arc b.1 at in
-        let old_is = are.legs_are k leg b.0 b.1 leg_at in
-        record {
-          allowed = subst (λ (kind : TypeId). (arc.allowed ≡ true) ↔ IsLegOk net rows bids node number kind leg) (kind_is bids number bid here) (is.mark.leg_is leg leg_at);
-          value_is = is.value_is ∙ old_is.value_is;
-          group_is = subst (λ (g : ℕ). AreTouches numbered (rows.uses bid.path.kind leg) (group_at starts touches g) (used bid.path.kind leg)) (sym is.group_is) old_is.group_is;
-        };
-    within = λ k d l.
-        let at = slice_get-get_or new k d l in
-        let b = there k (get_or new k d) at in
-        let is = told.each k b.0 (get_or new k d) b.1 at in
-        subst (λ (g : ℕ). g + 1 < length starts) (sym is.group_is) (all_at (λ (a : ArcTerm). a.group + 1 < length starts) old k b.0 are.within b.1);
-    values = λ k d l.
-        let at = slice_get-get_or new k d l in
-        let b = there k (get_or new k d) at in
-        let is = told.each k b.0 (get_or new k d) b.1 at in
-        subst IsArcValue (sym is.value_is) (all_at (λ (a : ArcTerm). IsArcValue a.value) old k b.0 are.values b.1);
-  }
-    where
-      there : (k : ℕ) (arc : ArcTerm) → slice_get new k ≡ Some arc → (x : ArcTerm) × (slice_get old k ≡ Some x)
-      there k arc at = some_at old k (let w = slice_get_within new k arc at in let c = told.count_is in omega arith)
+  module _ (number : ℕ) (t : Timed) (old new : List ArcTerm) (told : AreToldAnew net rows bids node number t old new) where
+    was : (k : ℕ) (arc : ArcTerm) → slice_get new k ≡ Some arc → (x : ArcTerm) × (slice_get old k ≡ Some x)
+    was k arc at = some_at old k (let w = slice_get_within new k arc at in let c = told.count_is in omega arith)
+
+    -- arcs that are told anew add and touch what they did
+    terms_anew : (bid : Bid) (starts : List ℕ) (touches : List Touch) → AreTerms net rows used bid t numbered starts touches old → AreTerms net rows used bid t numbered starts touches new
+    terms_anew bid starts touches are = record {
+      starts_are = λ k minute arc at start.
+          let b = was k arc at in
+          let is = told.each k b.0 arc b.1 at in
+          let old_is = are.starts_are k minute b.0 b.1 start in
+          record { value_is = is.value_is ∙ old_is.value_is; group_is = ap (group_at starts touches) is.group_is ∙ old_is.group_is };
+      legs_are = λ k leg arc at leg_at.
+          let b = was k arc at in
+          let is = told.each k b.0 arc b.1 at in
+          let old_is = are.legs_are k leg b.0 b.1 leg_at in
+          record {
+            value_is = is.value_is ∙ old_is.value_is;
+            group_is = subst (λ (g : ℕ). AreTouches numbered (rows.uses bid.path.kind leg) (group_at starts touches g) (used bid.path.kind leg)) (sym is.group_is) old_is.group_is;
+          };
+      within = λ k d l.
+          let at = slice_get-get_or new k d l in
+          let b = was k (get_or new k d) at in
+          let is = told.each k b.0 (get_or new k d) b.1 at in
+          subst (λ (g : ℕ). g + 1 < length starts) (sym is.group_is) (all_at (λ (a : ArcTerm). a.group + 1 < length starts) old k b.0 are.within b.1);
+      values = λ k d l.
+          let at = slice_get-get_or new k d l in
+          let b = was k (get_or new k d) at in
+          let is = told.each k b.0 (get_or new k d) b.1 at in
+          subst IsArcValue (sym is.value_is) (all_at (λ (a : ArcTerm). IsArcValue a.value) old k b.0 are.values b.1);
+    }
+
+    -- and their marks are those of the node
+    marks_anew : (bid : Bid) → slice_get bids number ≡ Some bid → AreMarked now number bid.path.kind t new
+    marks_anew bid here = record {
+      starts_are = λ k minute arc at start. let b = was k arc at in (told.each k b.0 arc b.1 at).mark.start_is minute start;
+      legs_are = λ k leg arc at leg_at.
+          let b = was k arc at in
+          subst (λ (kind : TypeId). (arc.allowed ≡ true) ↔ IsLegOk net rows bids node number kind leg) (kind_is bids number bid here) ((told.each k b.0 arc b.1 at).mark.leg_is leg leg_at);
+    }
 
   -- a table that is told anew is that of the bid at the node
-  pub table_anew : (number : ℕ) (bid : Bid) → slice_get bids number ≡ Some bid → (old new : BidTable) → IsTableAnew net rows bids node number old new → IsTableOf was numbered number bid old → IsTableOf now numbered number bid new
+  pub table_anew : (number : ℕ) (bid : Bid) → slice_get bids number ≡ Some bid → (old new : BidTable) → IsTableAnew net rows bids node number old new → IsArcTable net rows used numbered bid old → IsTableOf now numbered number bid new
   table_anew number bid here old new anew is =
-      let terms = terms_anew number bid here old.graph.now old.groups.starts.items old.groups.touches.items old.arcs.items new.arcs.items anew.arcs is.terms in
+      let terms = terms_anew number old.graph.now old.arcs.items new.arcs.items anew.arcs bid old.groups.starts.items old.groups.touches.items is.terms in
+      let marks = marks_anew number old.graph.now old.arcs.items new.arcs.items anew.arcs bid here in
       record {
         graph = subst (IsGraphOf net bid.path) (sym anew.graph) is.graph;
         count = anew.arcs.count_is ∙ is.count ∙ ap (λ (t : Timed). length t.dag.arcs) (sym anew.graph);
         groups = subst (λ (x : Groups). AreGroups x.starts.items x.touches.items) (sym anew.groups) is.groups;
-        terms = subst (λ (t : Timed). AreTerms now number bid t numbered new.groups.starts.items new.groups.touches.items new.arcs.items) (sym anew.graph)
-            (subst (λ (x : Groups). AreTerms now number bid old.graph.now numbered x.starts.items x.touches.items new.arcs.items) (sym anew.groups) terms);
+        terms = subst (λ (t : Timed). AreTerms net rows used bid t numbered new.groups.starts.items new.groups.touches.items new.arcs.items) (sym anew.graph)
+            (subst (λ (x : Groups). AreTerms net rows used bid old.graph.now numbered x.starts.items x.touches.items new.arcs.items) (sym anew.groups) terms);
+        marks = subst (λ (t : Timed). AreMarked now number bid.path.kind t new.arcs.items) (sym anew.graph) marks;
         forced_is = anew.forced_is;
       }
 
--- the first tables are at the node, and the others where they were
-pub record AreTablesUpTo {R : Type 0} (net : Net) (rows : Rows R) (used : TypeId → Leg → List R) (bids : List Bid) (before node : List Decision) (numbered : List R) (n : ℕ) (tables : List BidTable) : Type 0 where
+-- the first tables are at the node, and the others as they were made
+pub record AreTablesUpTo {R : Type 0} (net : Net) (rows : Rows R) (used : TypeId → Leg → List R) (bids : List Bid) (node : List Decision) (numbered : List R) (n : ℕ) (tables : List BidTable) : Type 0 where
   pub count_is : length tables ≡ length bids
   pub done : (number : ℕ) (bid : Bid) (table : BidTable) → number < n → slice_get bids number ≡ Some bid → slice_get tables number ≡ Some table → IsTableOf (setting net rows used bids node) numbered number bid table
-  pub left : (number : ℕ) (bid : Bid) (table : BidTable) → n ≤ number → slice_get bids number ≡ Some bid → slice_get tables number ≡ Some table → IsTableOf (setting net rows used bids before) numbered number bid table
+  pub left : (number : ℕ) (bid : Bid) (table : BidTable) → n ≤ number → slice_get bids number ≡ Some bid → slice_get tables number ≡ Some table → IsArcTable net rows used numbered bid table
 
-module _ {R : Type 0} (net : Net) (rows : Rows R) (used : TypeId → Leg → List R) (bids : List Bid) (before node : List Decision) (numbered : List R) where
-  pub tables_first : (tables : List BidTable) → AreTables (setting net rows used bids before) (length bids) numbered tables → AreTablesUpTo net rows used bids before node numbered 0 tables
+module _ {R : Type 0} (net : Net) (rows : Rows R) (used : TypeId → Leg → List R) (bids : List Bid) (node : List Decision) (numbered : List R) where
+  pub tables_first : (tables : List BidTable) → HoldArcs net rows used bids (length bids) numbered tables → AreTablesUpTo net rows used bids node numbered 0 tables
   tables_first tables are = record { count_is = are.count_is; done = λ number bid table l b t. absurd (omega arith); left = λ number bid table l b t. are.each number bid table b t }
 
   -- one more table
-  pub tables_more : (n : ℕ) (tables : List BidTable) (bid : Bid) (old new : BidTable) → AreTablesUpTo net rows used bids before node numbered n tables → slice_get bids n ≡ Some bid → slice_get tables n ≡ Some old
-      → IsTableAnew net rows bids node n old new → AreTablesUpTo net rows used bids before node numbered (n + 1) (set tables n new)
+  pub tables_more : (n : ℕ) (tables : List BidTable) (bid : Bid) (old new : BidTable) → AreTablesUpTo net rows used bids node numbered n tables → slice_get bids n ≡ Some bid → slice_get tables n ≡ Some old
+      → IsTableAnew net rows bids node n old new → AreTablesUpTo net rows used bids node numbered (n + 1) (set tables n new)
   tables_more n tables bid old new so_far at old_at anew = record {
     count_is = set_length tables n new ∙ so_far.count_is;
     done = λ number b x l b_at x_at. elim (cases_eq number n) as (λ _. IsTableOf (setting net rows used bids node) numbered number b x) [
@@ -256,7 +259,7 @@ module _ {R : Type 0} (net : Net) (rows : Rows R) (used : TypeId → Leg → Lis
           let bid_here : slice_get bids n ≡ Some b = ap (slice_get bids) (sym e) ∙ b_at in
           let w = slice_get_within tables n old old_at in
           let same : new ≡ x = set_same tables n new x w here in
-          let is = table_anew net rows used bids before node numbered n b bid_here old new anew (so_far.left n b old (omega arith) bid_here old_at) in
+          let is = table_anew net rows used bids node numbered n b bid_here old new anew (so_far.left n b old (omega arith) bid_here old_at) in
           subst (λ (j : ℕ). IsTableOf (setting net rows used bids node) numbered j b x) (sym e) (subst (λ (z : BidTable). IsTableOf (setting net rows used bids node) numbered n b z) same is)
       | inr apart ↦ so_far.done number b x (omega arith) b_at (sym (set_other tables n number new apart) ∙ x_at)
     ];
@@ -265,7 +268,7 @@ module _ {R : Type 0} (net : Net) (rows : Rows R) (used : TypeId → Leg → Lis
         so_far.left number b x (omega arith) b_at (sym (set_other tables n number new apart) ∙ x_at);
   }
 
-  pub tables_all : (n : ℕ) (tables : List BidTable) → AreTablesUpTo net rows used bids before node numbered n tables → length bids ≤ n → AreTables (setting net rows used bids node) (length bids) numbered tables
+  pub tables_all : (n : ℕ) (tables : List BidTable) → AreTablesUpTo net rows used bids node numbered n tables → length bids ≤ n → AreTables (setting net rows used bids node) (length bids) numbered tables
   tables_all n tables so_far l = record {
     count_is = so_far.count_is;
     each = λ number bid table b t. so_far.done number bid table (let w = slice_get_within bids number bid b in omega arith) b t;

@@ -7,6 +7,7 @@ pub mod ArcLemmas
 pub mod MarkLemmas
 pub mod NumberLemmas
 pub mod GroupLemmas
+pub mod ShareLemmas
 pub mod PriceSumLemmas
 pub mod FoundLemmas
 pub mod TouchLemmas

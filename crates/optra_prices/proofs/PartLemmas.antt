@@ -59,13 +59,15 @@ module _ {R : Type 0} (cmp : R → R → Ordering) (net : Net) (proper : IsPrope
       record {
         start_allowed = λ minute start.
             let term = are.terms.starts_are k minute arc.0 arc.1 start in
-            ((λ e. term.allowed.0 (is.allowed.0 e).0), (λ ok. is.allowed.1 (term.allowed.1 ok, room_for_none room (group_at starts touches arc.0.group) term.group_is)));
+            let mark = are.marks.starts_are k minute arc.0 arc.1 start in
+            ((λ e. mark.0 (is.allowed.0 e).0), (λ ok. is.allowed.1 (mark.1 ok, room_for_none room (group_at starts touches arc.0.group) term.group_is)));
         start_is = λ minute start. is.value_is ∙ (are.terms.starts_are k minute arc.0 arc.1 start).value_is;
         leg_allowed = λ leg there.
             let term = are.terms.legs_are k leg arc.0 arc.1 there in
+            let mark = are.marks.legs_are k leg arc.0 arc.1 there in
             let law = lists bid.path.kind leg (arc_usable net proper bid t are.graph k leg l there) in
             let tells = room_tells cmp rows numbered total room is_room (group_at starts touches arc.0.group) bid.path.kind leg (used bid.path.kind leg) term.group_is law in
-            ((λ e. let both = is.allowed.0 e in (term.allowed.0 both.0, tells.0 both.1)), (λ both. is.allowed.1 (term.allowed.1 both.0, tells.1 both.1)));
+            ((λ e. let both = is.allowed.0 e in (mark.0 both.0, tells.0 both.1)), (λ both. is.allowed.1 (mark.1 both.0, tells.1 both.1)));
         leg_is = λ leg there. is.value_is ∙ (are.terms.legs_are k leg arc.0 arc.1 there).value_is;
         range = subst IsArcValue (sym is.value_is) (all_at (λ (a : ArcTerm). IsArcValue a.value) arcs k arc.0 are.terms.values arc.1);
       }

@@ -53,14 +53,14 @@ module _ {R : Type 0} (cmp : R → R → Ordering) (s : Setting R) (proper : IsP
 
     pub weighed : AreWeighed s.net s.rows s.bids s.node listed number bid table.graph.now (allows_by table.arcs.items) (weight_by table.arcs.items grouped)
     weighed = record {
-      start_allowed = λ k minute l at. (are.terms.starts_are k minute (get_or table.arcs.items k no_arc) (arc_there k l) at).allowed;
+      start_allowed = λ k minute l at. are.marks.starts_are k minute (get_or table.arcs.items k no_arc) (arc_there k l) at;
       start_weight = λ k minute l at.
           let is = are.terms.starts_are k minute (get_or table.arcs.items k no_arc) (arc_there k l) at in
           let g = group_is k l in
           let none = ap (group_price prices) is.group_is in
           let v = is.value_is in
           omega (arith, ints);
-      leg_allowed = λ k leg l at. (are.terms.legs_are k leg (get_or table.arcs.items k no_arc) (arc_there k l) at).allowed;
+      leg_allowed = λ k leg l at. are.marks.legs_are k leg (get_or table.arcs.items k no_arc) (arc_there k l) at;
       leg_weight = λ k leg l at.
           let is = are.terms.legs_are k leg (get_or table.arcs.items k no_arc) (arc_there k l) at in
           let g = group_is k l in

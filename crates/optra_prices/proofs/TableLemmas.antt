@@ -4,11 +4,17 @@ use Rattle.std.specs.Prelude.{All, Bool, ℤ}
 use Rattle.std.proofs.lemmas.List.{length-append}
 use Rattle.std.proofs.lemmas.Bool.{cases_eq}
 use Rattle.std.proofs.lemmas.Option.{none-some, same_Some, slice_get_within, get_or_from_slice_get}
+use Rattle.optra_network.specs.Net.{Net}
+use Rattle.optra_network.specs.declared.TypeId.{TypeId}
 use Rattle.optra_bid.specs.declared.bids.Bid.{Bid}
+use Rattle.optra_walk.specs.declared.Leg.{Leg}
+use Rattle.optra_walk.specs.Families.{Rows}
+use Rattle.optra_node.specs.declared.Decision.{Decision}
 use Rattle.optra_prices.specs.Arcs.{IsFound}
-use Rattle.optra_prices.specs.Tables.{Extends, allows_by, weight_by, IsGroupPrice, AreGroupPrices}
-use Rattle.optra_prices.specs.Terms.{Setting, AreBidArcs}
-use Rattle.optra_prices.specs.Standings.{Stands, IsCopy, IsSound, AreTables, AllStand, AreCopies, IsTermSize}
+use Rattle.optra_prices.specs.Tables.{Extends, AreGroups, allows_by, weight_by, IsGroupPrice, AreGroupPrices}
+use Rattle.optra_prices.specs.Terms.{Setting, setting, AreBidArcs}
+use Rattle.optra_prices.specs.Sharings.{HaveGroups}
+use Rattle.optra_prices.specs.Standings.{Stands, IsCopy, IsSound, IsArcTable, HoldArcs, AreTables, AllStand, AreCopies, IsTermSize}
 use Rattle.optra_prices.specs.declared.numbering.BidTable.{BidTable}
 use Rattle.optra_prices.specs.declared.numbering.Standing.{Standing}
 use Rattle.optra_prices.proofs.ListLemmas.{some_at, all_at}
@@ -16,8 +22,54 @@ use Rattle.optra_prices.proofs.SizeLemmas.{term_size}
 use Rattle.optra_prices.proofs.NumberLemmas.{push_cases}
 use Rattle.optra_prices.proofs.TermLemmas.{terms_kept, groups_stay}
 
+-- what stands at a place
+got : (xs : List BidTable) (k : ℕ) (d x : BidTable) → slice_get xs k ≡ Some x → get_or xs k d ≡ x
+got [] k d x e = absurd (none-some x e)
+got (y ∷ xs) zero d x e = same_Some y x e
+got (y ∷ xs) (suc k) d x e = got xs k d x e
+
 abbrev pub IsTableOf : {R : Type 0} → Setting R → List R → ℕ → Bid → BidTable → Type 0
 IsTableOf s numbered number bid table = AreBidArcs s number bid table.graph.now numbered table.arcs.items table.groups.starts.items table.groups.touches.items table.forced
+
+module _ {R : Type 0} (net : Net) (rows : Rows R) (used : TypeId → Leg → List R) (bids : List Bid) where
+  -- the arcs serve while rows get numbers
+  pub arcs_kept : (numbered after : List R) → Extends numbered after → (bid : Bid) (table : BidTable) → IsArcTable net rows used numbered bid table → IsArcTable net rows used after bid table
+  arcs_kept numbered after extends bid table is = record {
+    graph = is.graph;
+    count = is.count;
+    groups = is.groups;
+    terms = terms_kept net rows used bid table.graph.now numbered after table.groups.starts.items table.groups.starts.items table.groups.touches.items table.groups.touches.items table.arcs.items extends
+        (groups_stay table.groups.starts.items table.groups.touches.items) is.terms;
+  }
+
+  pub arcs_push : (n : ℕ) (numbered after : List R) (tables : List BidTable) (bid : Bid) (table : BidTable) → HoldArcs net rows used bids n numbered tables → Extends numbered after → slice_get bids n ≡ Some bid → IsArcTable net rows used after bid table
+      → HoldArcs net rows used bids (n + 1) after (tables ++ table ∷ [])
+  arcs_push n numbered after tables bid table are extends at is = record {
+    count_is = let c = are.count_is in let l = length-append tables (table ∷ []) in omega arith;
+    each = λ number b x b_at x_at. elim (push_cases tables table number x x_at) as (λ _. IsArcTable net rows used after b x) [
+      | inl old ↦ arcs_kept numbered after extends b x (are.each number b x b_at old)
+      | inr new ↦
+          let c = are.count_is in
+          let place : n ≡ number = sym (new.0 ∙ c) in
+          let same_bid : bid ≡ b = same_Some bid b (sym at ∙ ap (slice_get bids) place ∙ b_at) in
+          subst (λ (y : BidTable). IsArcTable net rows used after b y) new.1 (subst (λ (c : Bid). IsArcTable net rows used after c table) same_bid is)
+    ];
+  }
+
+  -- the tables made so far have their groups
+  pub arcs_groups : (numbered : List R) (tables : List BidTable) (n : ℕ) → n ≤ length bids → HoldArcs net rows used bids n numbered tables → HaveGroups tables
+  arcs_groups numbered tables n few are k d l =
+      let c = are.count_is in
+      let b = some_at bids k (omega arith) in
+      let t = some_at tables k l in
+      subst (λ (table : BidTable). AreGroups table.groups.starts.items table.groups.touches.items) (sym (got tables k d t.0 t.1)) (are.each k b.0 t.0 b.1 t.1).groups
+
+  -- tables at a node have what is the same at all nodes
+  pub tables_hold : (node : List Decision) (count : ℕ) (numbered : List R) (tables : List BidTable) → AreTables (setting net rows used bids node) count numbered tables → HoldArcs net rows used bids count numbered tables
+  tables_hold node count numbered tables are = record {
+    count_is = are.count_is;
+    each = λ number bid table b t. let is = are.each number bid table b t in record { graph = is.graph; count = is.count; groups = is.groups; terms = is.terms };
+  }
 
 module _ {R : Type 0} (s : Setting R) where
   -- a table serves while rows get numbers
@@ -26,23 +78,10 @@ module _ {R : Type 0} (s : Setting R) where
     graph = is.graph;
     count = is.count;
     groups = is.groups;
-    terms = terms_kept s number bid table.graph.now numbered after table.groups.starts.items table.groups.starts.items table.groups.touches.items table.groups.touches.items table.arcs.items extends (groups_stay table.groups.starts.items table.groups.touches.items) is.terms;
+    terms = terms_kept s.net s.rows s.used bid table.graph.now numbered after table.groups.starts.items table.groups.starts.items table.groups.touches.items table.groups.touches.items table.arcs.items extends
+        (groups_stay table.groups.starts.items table.groups.touches.items) is.terms;
+    marks = is.marks;
     forced_is = is.forced_is;
-  }
-
-  pub tables_push : (n : ℕ) (numbered after : List R) (tables : List BidTable) (bid : Bid) (table : BidTable) → AreTables s n numbered tables → Extends numbered after → slice_get s.bids n ≡ Some bid → IsTableOf s after n bid table
-      → AreTables s (n + 1) after (tables ++ table ∷ [])
-  tables_push n numbered after tables bid table are extends at is = record {
-    count_is = let c = are.count_is in let l = length-append tables (table ∷ []) in omega arith;
-    each = λ number b x b_at x_at. elim (push_cases tables table number x x_at) as (λ _. IsTableOf s after number b x) [
-      | inl old ↦ table_kept numbered after extends number b x (are.each number b x b_at old)
-      | inr new ↦
-          let c = are.count_is in
-          let place : n ≡ number = sym (new.0 ∙ c) in
-          let same_bid : bid ≡ b = same_Some bid b (sym at ∙ ap (slice_get s.bids) place ∙ b_at) in
-          subst (λ (y : BidTable). IsTableOf s after number b y) new.1
-          (subst (λ (c : Bid). IsTableOf s after number c table) same_bid (subst (λ (m : ℕ). IsTableOf s after m bid table) place is))
-    ];
   }
 
   -- each table is sound
@@ -53,12 +92,7 @@ module _ {R : Type 0} (s : Setting R) where
       let t = some_at tables k l in
       let is = are.each k b.0 t.0 b.1 t.1 in
       let here : IsSound t.0 = record { count = sym is.count; forward = is.graph.laid_out.forward; values = is.terms.values; groups = is.groups } in
-      subst IsSound (sym (at tables k d t.0 t.1)) here
-    where
-      at : (xs : List BidTable) (k : ℕ) (d x : BidTable) → slice_get xs k ≡ Some x → get_or xs k d ≡ x
-      at [] k d x e = absurd (none-some x e)
-      at (y ∷ xs) zero d x e = same_Some y x e
-      at (y ∷ xs) (suc k) d x e = at xs k d x e
+      subst IsSound (sym (got tables k d t.0 t.1)) here
 
 -- what stands of the first tables
 pub record StandBelow (tables : List BidTable) (prices : List ℤ) (n : ℕ) (standings : List Standing) : Type 0 where

@@ -1,6 +1,6 @@
 -- Arcs that are added one after the other, while rows get numbers and groups are added.
-use Rattle.std.proofs.Common.{◌≡◌, ℕ, ◌+◌, ◌<◌, Bool, true, cond, unwrap_or, List, [], ◌∷◌, ◌++◌, map, length, Option, Some, None, IsSome, slice_get, refl, sym, ap, ◌∙◌, subst, arith, inl, inr}
-use Rattle.std.specs.Prelude.{◌↔◌, Contains, IfSome}
+use Rattle.std.proofs.Common.{◌≡◌, ℕ, ◌+◌, ◌<◌, Bool, cond, unwrap_or, List, [], ◌∷◌, ◌++◌, map, length, Option, Some, None, IsSome, slice_get, refl, sym, ap, ◌∙◌, subst, arith, inl, inr}
+use Rattle.std.specs.Prelude.{Contains, IfSome}
 use Rattle.std.specs.Option.{option_map_or}
 use Rattle.std.proofs.lemmas.Bool.{lt-ltb}
 use Rattle.std.proofs.lemmas.List.Elements.{All-contains, All-push}
@@ -11,15 +11,14 @@ use Rattle.optra_network.specs.declared.Times.{Times}
 use Rattle.optra_network.proofs.NetLemmas.{times_built}
 use Rattle.optra_bid.specs.declared.bids.Bid.{Bid}
 use Rattle.optra_walk.specs.declared.Leg.{Leg}
-use Rattle.optra_walk.specs.Families.{IsUsable}
+use Rattle.optra_walk.specs.Families.{Rows, IsUsable}
 use Rattle.optra_walk.proofs.UsableLemmas.{walk_usable}
 use Rattle.optra_graph.specs.Timed.{Timed, IsGraphOf, IsRoute, IsLegArc, leg_of, leg_at, start_of, walk_of}
 use Rattle.optra_node.specs.Nodes.{IsFormedLeg, kind_at}
-use Rattle.optra_node.specs.Spans.{IsLegOk, IsStartOk}
 use Rattle.optra_node.proofs.LoadLemmas.{contains_cases, contains-map}
 use Rattle.optra_prices.specs.Arcs.{IsArcValue, start_value, leg_value}
 use Rattle.optra_prices.specs.Tables.{Extends, AreTouches, group_at, AreGroups, KeepsGroups}
-use Rattle.optra_prices.specs.Terms.{Setting, IsStartTerm, IsLegTerm, AreTerms, IsTerm}
+use Rattle.optra_prices.specs.Terms.{IsStartTerm, IsLegTerm, AreTerms, IsTerm}
 use Rattle.optra_prices.specs.declared.numbering.ArcTerm.{ArcTerm}
 use Rattle.optra_prices.specs.declared.numbering.Touch.{Touch}
 use Rattle.optra_prices.proofs.ListLemmas.{all_at}
@@ -50,24 +49,23 @@ usable_formed net proper kind leg usable = record { track = by (times_of net leg
     by None some row = cc
     by (Some times) some row = row.0
 
-module _ {R : Type 0} (s : Setting R) (number : ℕ) (bid : Bid) (t : Timed) where
+module _ {R : Type 0} (net : Net) (rows : Rows R) (used : TypeId → Leg → List R) (bid : Bid) (t : Timed) where
   leg_kept : (numbered after : List R) (starts starts' : List ℕ) (touches touches' : List Touch) (leg : Leg) (arc : ArcTerm) → Extends numbered after → KeepsGroups starts touches starts' touches' → arc.group + 1 < length starts
-      → IsLegTerm s number bid numbered starts touches leg arc → IsLegTerm s number bid after starts' touches' leg arc
+      → IsLegTerm net rows used bid numbered starts touches leg arc → IsLegTerm net rows used bid after starts' touches' leg arc
   leg_kept numbered after starts starts' touches touches' leg arc extends keeps l is = record {
-    allowed = is.allowed;
     value_is = is.value_is;
-    group_is = subst (λ group. AreTouches after (s.rows.uses bid.path.kind leg) group (s.used bid.path.kind leg)) (sym (keeps.same arc.group l))
-        (touches_kept numbered after (s.rows.uses bid.path.kind leg) extends (group_at starts touches arc.group) (s.used bid.path.kind leg) is.group_is);
+    group_is = subst (λ group. AreTouches after (rows.uses bid.path.kind leg) group (used bid.path.kind leg)) (sym (keeps.same arc.group l))
+        (touches_kept numbered after (rows.uses bid.path.kind leg) extends (group_at starts touches arc.group) (used bid.path.kind leg) is.group_is);
   }
 
   -- arcs stay those of the graph while rows get numbers and groups are added
   pub terms_kept : (numbered after : List R) (starts starts' : List ℕ) (touches touches' : List Touch) (arcs : List ArcTerm) → Extends numbered after → KeepsGroups starts touches starts' touches'
-      → AreTerms s number bid t numbered starts touches arcs → AreTerms s number bid t after starts' touches' arcs
+      → AreTerms net rows used bid t numbered starts touches arcs → AreTerms net rows used bid t after starts' touches' arcs
   terms_kept numbered after starts starts' touches touches' arcs extends keeps are = record {
     starts_are = λ k minute arc at start.
         let l = all_at (λ (a : ArcTerm). a.group + 1 < length starts) arcs k arc are.within at in
         let is = are.starts_are k minute arc at start in
-        record { allowed = is.allowed; value_is = is.value_is; group_is = keeps.same arc.group l ∙ is.group_is };
+        record { value_is = is.value_is; group_is = keeps.same arc.group l ∙ is.group_is };
     legs_are = λ k leg arc at is.
         leg_kept numbered after starts starts' touches touches' leg arc extends keeps (all_at (λ (a : ArcTerm). a.group + 1 < length starts) arcs k arc are.within at) (are.legs_are k leg arc at is);
     within = λ k d l. let w = are.within k d l in let m = keeps.more in omega arith;
@@ -75,16 +73,16 @@ module _ {R : Type 0} (s : Setting R) (number : ℕ) (bid : Bid) (t : Timed) whe
   }
 
   -- one more arc
-  pub terms_push : (numbered : List R) (starts : List ℕ) (touches : List Touch) (arcs : List ArcTerm) (arc : ArcTerm) → AreTerms s number bid t numbered starts touches arcs
-      → IsTerm s number bid t numbered starts touches (length arcs) arc → AreTerms s number bid t numbered starts touches (arcs ++ arc ∷ [])
+  pub terms_push : (numbered : List R) (starts : List ℕ) (touches : List Touch) (arcs : List ArcTerm) (arc : ArcTerm) → AreTerms net rows used bid t numbered starts touches arcs
+      → IsTerm net rows used bid t numbered starts touches (length arcs) arc → AreTerms net rows used bid t numbered starts touches (arcs ++ arc ∷ [])
   terms_push numbered starts touches arcs arc are is = record {
-    starts_are = λ k minute a at start. elim (push_cases arcs arc k a at) as (λ _. IsStartTerm s.node number bid starts touches minute a) [
+    starts_are = λ k minute a at start. elim (push_cases arcs arc k a at) as (λ _. IsStartTerm bid starts touches minute a) [
       | inl old ↦ are.starts_are k minute a old start
-      | inr new ↦ subst (IsStartTerm s.node number bid starts touches minute) new.1 (is.start_is minute (sym (ap (start_of t) new.0) ∙ start))
+      | inr new ↦ subst (IsStartTerm bid starts touches minute) new.1 (is.start_is minute (sym (ap (start_of t) new.0) ∙ start))
     ];
-    legs_are = λ k leg a at there. elim (push_cases arcs arc k a at) as (λ _. IsLegTerm s number bid numbered starts touches leg a) [
+    legs_are = λ k leg a at there. elim (push_cases arcs arc k a at) as (λ _. IsLegTerm net rows used bid numbered starts touches leg a) [
       | inl old ↦ are.legs_are k leg a old there
-      | inr new ↦ subst (IsLegTerm s number bid numbered starts touches leg) new.1 (is.leg_is leg (sym (ap (leg_of t) new.0) ∙ there))
+      | inr new ↦ subst (IsLegTerm net rows used bid numbered starts touches leg) new.1 (is.leg_is leg (sym (ap (leg_of t) new.0) ∙ there))
     ];
     within = All-push (λ (a : ArcTerm). a.group + 1 < length starts) arcs arc are.within is.within;
     values = All-push (λ (a : ArcTerm). IsArcValue a.value) arcs arc are.values is.value_in;
@@ -100,34 +98,28 @@ no_start t k m leg e start =
     let none : leg_of t k ≡ None = ap (λ (b : Bool). cond b None (Some (leg_at t k))) (lt-ltb k (length t.minutes) l) in
     none-some leg (sym none ∙ e)
 
-module _ {R : Type 0} (s : Setting R) (number : ℕ) (bid : Bid) (t : Timed) (numbered : List R) (starts : List ℕ) (touches : List Touch) where
-  pub start_is_term : (k minute : ℕ) (arc : ArcTerm) → AreGroups starts touches → leg_of t k ≡ None → minute ≡ unwrap_or (start_of t k) 0 → (arc.allowed ≡ true) ↔ IsStartOk s.node number minute
-      → arc.value ≡ start_value bid minute → IsArcValue arc.value → arc.group ≡ 0 → IsTerm s number bid t numbered starts touches k arc
-  start_is_term k minute arc groups none at allowed value range zero_group = record {
+module _ {R : Type 0} (net : Net) (rows : Rows R) (used : TypeId → Leg → List R) (bid : Bid) (t : Timed) (numbered : List R) (starts : List ℕ) (touches : List Touch) where
+  pub start_is_term : (k minute : ℕ) (arc : ArcTerm) → AreGroups starts touches → leg_of t k ≡ None → minute ≡ unwrap_or (start_of t k) 0
+      → arc.value ≡ start_value bid minute → IsArcValue arc.value → arc.group ≡ 0 → IsTerm net rows used bid t numbered starts touches k arc
+  start_is_term k minute arc groups none at value range zero_group = record {
     start_is = λ m start.
         let same : minute ≡ m = at ∙ ap (λ (o : Option ℕ). unwrap_or o 0) start in
-        record {
-          allowed = subst (λ (n : ℕ). (arc.allowed ≡ true) ↔ IsStartOk s.node number n) same allowed;
-          value_is = value ∙ ap (start_value bid) same;
-          group_is = ap (group_at starts touches) zero_group ∙ groups.none;
-        };
+        record { value_is = value ∙ ap (start_value bid) same; group_is = ap (group_at starts touches) zero_group ∙ groups.none };
     leg_is = λ leg there. absurd (none-some leg (sym none ∙ there));
     within = let two = groups.two in omega arith;
     value_in = range;
   }
 
-  pub leg_is_term : (k : ℕ) (leg : Leg) (arc : ArcTerm) (kind : TypeId) (g : ℕ) → leg_of t k ≡ Some leg → kind ≡ bid.path.kind → (arc.allowed ≡ true) ↔ IsLegOk s.net s.rows s.bids s.node number kind leg
-      → arc.value ≡ leg_value s.net bid leg → IsArcValue arc.value → arc.group ≡ g → g + 1 < length starts
-      → AreTouches numbered (s.rows.uses bid.path.kind leg) (group_at starts touches g) (s.used bid.path.kind leg) → IsTerm s number bid t numbered starts touches k arc
-  leg_is_term k leg arc kind g at same allowed value range group l touched = record {
+  pub leg_is_term : (k : ℕ) (leg : Leg) (arc : ArcTerm) (g : ℕ) → leg_of t k ≡ Some leg → arc.value ≡ leg_value net bid leg → IsArcValue arc.value → arc.group ≡ g → g + 1 < length starts
+      → AreTouches numbered (rows.uses bid.path.kind leg) (group_at starts touches g) (used bid.path.kind leg) → IsTerm net rows used bid t numbered starts touches k arc
+  leg_is_term k leg arc g at value range group l touched = record {
     start_is = λ m start. absurd (no_start t k m leg at start);
     leg_is = λ other there.
         let one : leg ≡ other = same_Some leg other (sym at ∙ there) in
-        subst (λ x. IsLegTerm s number bid numbered starts touches x arc) one
+        subst (λ x. IsLegTerm net rows used bid numbered starts touches x arc) one
         (record {
-          allowed = subst (λ x. (arc.allowed ≡ true) ↔ IsLegOk s.net s.rows s.bids s.node number x leg) same allowed;
           value_is = value;
-          group_is = subst (λ (x : ℕ). AreTouches numbered (s.rows.uses bid.path.kind leg) (group_at starts touches x) (s.used bid.path.kind leg)) (sym group) touched;
+          group_is = subst (λ (x : ℕ). AreTouches numbered (rows.uses bid.path.kind leg) (group_at starts touches x) (used bid.path.kind leg)) (sym group) touched;
         });
     within = omega arith;
     value_in = range;

@@ -1,6 +1,7 @@
 -- Tables of arcs that are brought from one node to another.
 use Rattle.std.specs.Prelude.{◌≡◌, ◌↔◌, ℕ, ◌+◌, ◌<◌, Bool, true, List, [], length, All, Some, slice_get}
 use Rattle.optra_network.specs.Net.{Net}
+use Rattle.optra_network.specs.declared.TypeId.{TypeId}
 use Rattle.optra_bid.specs.declared.bids.Bid.{Bid}
 use Rattle.optra_walk.specs.declared.Leg.{Leg}
 use Rattle.optra_walk.specs.Families.{Rows}
@@ -11,7 +12,7 @@ use Rattle.optra_node.specs.Spans.{IsLetBy, IsStartOk}
 use Rattle.optra_prices.specs.Marks.{IsMark}
 use Rattle.optra_prices.specs.Rooms.{HasRoomForAll}
 use Rattle.optra_prices.specs.Tables.{AreGroups, group_at}
-use Rattle.optra_prices.specs.Terms.{Setting, AreBidArcs}
+use Rattle.optra_prices.specs.Standings.{IsArcTable}
 use Rattle.optra_prices.specs.declared.numbering.ArcTerm.{ArcTerm}
 use Rattle.optra_prices.specs.declared.numbering.BidTable.{BidTable}
 use Rattle.optra_prices.specs.declared.numbering.Groups.{Groups}
@@ -36,8 +37,8 @@ pub record IsTableAnew {R : Type 0} (net : Net) (rows : Rows R) (bids : List Bid
   pub forced_is : new.forced ≡ has_yes node number
 
 -- the table is that of a bid
-abbrev pub IsTableAt : {R : Type 0} → Setting R → List R → ℕ → BidTable → Type 0
-IsTableAt s numbered number table = (bid : Bid) × (slice_get s.bids number ≡ Some bid) × AreBidArcs s number bid table.graph.now numbered table.arcs.items table.groups.starts.items table.groups.touches.items table.forced
+abbrev pub IsTableFor : {R : Type 0} → Net → Rows R → (TypeId → Leg → List R) → List Bid → List R → ℕ → BidTable → Type 0
+IsTableFor net rows used bids numbered number table = (bid : Bid) × (slice_get bids number ≡ Some bid) × IsArcTable net rows used numbered bid table
 
 -- arcs are in groups of touches: that of a start is empty, and there is room for that of a leg exactly where the leg is not blocked
 pub record RoomTells {R : Type 0} (rows : Rows R) (bids : List Bid) (node : List Decision) (number : ℕ) (room : Room) (t : Timed) (groups : Groups) (arcs : List ArcTerm) : Type 0 where

@@ -9,6 +9,7 @@ pub mod Repairs
 pub mod Arcs
 pub mod Tables
 pub mod Terms
+pub mod Sharings
 pub mod Standings
 pub mod Holdings
 pub mod FiveRows

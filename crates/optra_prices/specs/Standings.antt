@@ -5,15 +5,18 @@ use Rattle.std.specs.List.{list_any}
 use Rattle.std.specs.declared.cmp.Ordering.{Ordering}
 use Rattle.std.specs.declared.cmp.Ordering.TheVariants.{Equal}
 use Rattle.std.specs.Ordering.{eq_by_cmp}
+use Rattle.optra_network.specs.Net.{Net}
+use Rattle.optra_network.specs.declared.TypeId.{TypeId}
 use Rattle.optra_bid.specs.Specs.{IsBetween}
 use Rattle.optra_bid.specs.declared.bids.Bid.{Bid}
 use Rattle.optra_walk.specs.declared.Leg.{Leg}
+use Rattle.optra_walk.specs.Families.{Rows}
 use Rattle.optra_dag.specs.Paths.{IsForward}
 use Rattle.optra_node.specs.Duals.{PriceList, price_of, sum_of}
 use Rattle.optra_prices.specs.Replies.{Valuation}
 use Rattle.optra_prices.specs.Arcs.{IsFound, IsArcValue, path_reply}
 use Rattle.optra_prices.specs.Tables.{allows_by, weight_by, AreGroups, IsGroupPrice, AreGroupPrices}
-use Rattle.optra_prices.specs.Terms.{Setting, AreBidArcs}
+use Rattle.optra_prices.specs.Terms.{Setting, AreArcs, AreBidArcs}
 use Rattle.optra_prices.specs.declared.numbering.BidTable.{BidTable}
 use Rattle.optra_prices.specs.declared.numbering.Standing.{Standing}
 
@@ -46,7 +49,16 @@ pub record IsSound (table : BidTable) : Type 0 where
 abbrev pub Agrees : {R : Type 0} → (R → R → Ordering) → List R → List ℤ → PriceList R → Type 0
 Agrees {R} cmp numbered prices listed = (n : ℕ) (row : R) → slice_get numbered n ≡ Some row → price_of (eq_by_cmp cmp) listed row ≡ slice_index_or prices n (pos 0)
 
--- a table for each bid
+-- the table has the arcs of the bid, as they are at all nodes
+abbrev pub IsArcTable : {R : Type 0} → Net → Rows R → (TypeId → Leg → List R) → List R → Bid → BidTable → Type 0
+IsArcTable net rows used numbered bid table = AreArcs net rows used bid table.graph.now numbered table.arcs.items table.groups.starts.items table.groups.touches.items
+
+-- a table for each bid, as it is at all nodes
+pub record HoldArcs {R : Type 0} (net : Net) (rows : Rows R) (used : TypeId → Leg → List R) (bids : List Bid) (count : ℕ) (numbered : List R) (tables : List BidTable) : Type 0 where
+  pub count_is : length tables ≡ count
+  pub each : (number : ℕ) (bid : Bid) (table : BidTable) → slice_get bids number ≡ Some bid → slice_get tables number ≡ Some table → IsArcTable net rows used numbered bid table
+
+-- a table for each bid at a node
 pub record AreTables {R : Type 0} (s : Setting R) (count : ℕ) (numbered : List R) (tables : List BidTable) : Type 0 where
   pub count_is : length tables ≡ count
   pub each : (number : ℕ) (bid : Bid) (table : BidTable) → slice_get s.bids number ≡ Some bid → slice_get tables number ≡ Some table

@@ -1,18 +1,17 @@
-//! Which arcs may be taken at a node, told anew in tables that were made at another node.
+//! Which arcs may be taken at a node, told anew in tables that were made for all nodes.
 //!
 //! The room that the yes legs leave is held by the numbers of rows, so that no row is looked up in a map for an arc. A
 //! bid's own yes legs are taken out of it while the bid's arcs are told.
-ghost use Rattle.std.specs.Prelude.{◌≡◌, ◌+◌, ◌<◌, ◌≤◌, ◌↔◌, ℕ, IsTrue, [], true, false, List, All, IfOk, OnOk, length};
+ghost use Rattle.std.specs.Prelude.{◌≡◌, ◌+◌, ◌<◌, ◌≤◌, ◌↔◌, ℕ, IsTrue, [], true, false, All, IfOk, OnOk, length};
 ghost use Rattle.optra_network.specs.Net.{MayUse};
-ghost use Rattle.optra_node.specs.declared.Decision.{Decision};
 ghost use Rattle.optra_node.specs.Nodes.{IsNode, IsFormedDecision, kind_at, yes_uses, yes_load};
 ghost use Rattle.optra_node.specs.Summaries.{summed, decisions_for};
-ghost use Rattle.optra_prices.specs.Tables.{IsNumbering, AreGroups};
+ghost use Rattle.optra_prices.specs.Tables.{IsNumbering};
 ghost use Rattle.optra_prices.specs.Terms.{setting};
 ghost use Rattle.optra_prices.specs.Keepings.{IsBrought, AreBrought};
 ghost use Rattle.optra_prices.specs.Rooms.{IsRoom};
-ghost use Rattle.optra_prices.specs.Standings.{AreTables};
-ghost use Rattle.optra_prices.specs.Allowing.{AreToldAnew, IsTableAnew, IsLetMark, RoomTells, IsTableAt};
+ghost use Rattle.optra_prices.specs.Standings.{AreTables, HoldArcs};
+ghost use Rattle.optra_prices.specs.Allowing.{AreToldAnew, IsTableAnew, IsLetMark, RoomTells, IsTableFor};
 
 use crate::grouping::either;
 use crate::marking::has_yes;
@@ -240,7 +239,7 @@ fn allow_bid<F: RowFamily>(
     requires summary { summary.now ≡ summed rows.now inst.net.now inst.bids.now node.now }
     requires numbering { IsNumbering F.Row.cmp numbering.now.numbers numbering.now.rows.items }
     requires room { IsRoom (F.rows_of rows.now inst.net.now) numbering.now.rows.items (yes_load (F.rows_of rows.now inst.net.now) inst.bids.now node.now) room.old }
-    requires table { (before : List Decision) × IsTableAt (setting inst.net.now (F.rows_of rows.now inst.net.now) (F.rows_used rows.now inst.net.now) inst.bids.now before) numbering.now.rows.items number table.old }
+    requires table { IsTableFor inst.net.now (F.rows_of rows.now inst.net.now) (F.rows_used rows.now inst.net.now) inst.bids.now numbering.now.rows.items number table.old }
     ensures room { OnOk result (IsRoom (F.rows_of rows.now inst.entry.net.now) numbering.now.rows.items (yes_load (F.rows_of rows.now inst.entry.net.now) inst.entry.bids.now node.now) room.new) }
     ensures anew { OnOk result (IsTableAnew inst.entry.net.now (F.rows_of rows.now inst.entry.net.now) inst.entry.bids.now node.now number table.old table.new) }
     ensures brought { IfOk result (λ changed. IsBrought changed table.old table.new) }
@@ -274,7 +273,7 @@ pub(crate) fn allow_all<F: RowFamily>(
     requires node { IsNode inst.net.now (length inst.bids.now) node.now }
     requires numbering { IsNumbering F.Row.cmp numbering.now.numbers numbering.now.rows.items }
     requires rows { All (λ row. (F.rows_of rows.now inst.net.now).is_row row ≡ true) numbering.now.rows.items }
-    requires tables { (before : List Decision) × AreTables (setting inst.net.now (F.rows_of rows.now inst.net.now) (F.rows_used rows.now inst.net.now) inst.bids.now before) (length inst.bids.now) numbering.now.rows.items tables.old.items }
+    requires tables { HoldArcs inst.net.now (F.rows_of rows.now inst.net.now) (F.rows_used rows.now inst.net.now) inst.bids.now (length inst.bids.now) numbering.now.rows.items tables.old.items }
     ensures tables { OnOk result (AreTables (setting inst.entry.net.now (F.rows_of rows.now inst.entry.net.now) (F.rows_used rows.now inst.entry.net.now) inst.entry.bids.now node.now) (length inst.entry.bids.now) numbering.now.rows.items tables.new.items) }
     ensures brought { IfOk result (λ changed. AreBrought changed.items tables.old.items tables.new.items) }
 {

@@ -50,7 +50,8 @@ pub fn keep_arcs<'g, F: RowFamily, G: Graphs>(
 {
     let node = Node::root(alloc);
     let mut numbering = no_numbers(alloc);
-    let tables = make_tables(alloc, inst, graphs, rows, &node, &mut numbering)?;
+    let mut tables = make_tables(alloc, inst, graphs, rows, &mut numbering)?;
+    let _changed = allow_all(alloc, inst, rows, &node, &numbering, &mut tables)?;
     let prices = Vec::new(alloc);
     let mut buffers = Buffers::new(alloc);
     let first = first_standings(alloc, &mut buffers, &tables, &prices)?;

@@ -14,6 +14,7 @@ pub mod deads;
 pub mod duals;
 mod following;
 mod grouping;
+mod hinting;
 mod holding;
 pub mod keeping;
 mod laws;
@@ -28,6 +29,7 @@ pub mod rooms;
 mod searching;
 mod sessions;
 mod settling;
+mod sharing;
 mod stepping;
 mod tables;
 #[cfg(test)]

@@ -1,33 +1,28 @@
 //! The tables of all bids, and what stands of them.
-ghost use Rattle.std.specs.Prelude.{◌≡◌, ◌≤◌, ℕ, true, List, ℤ, All, Contains, IfOk, OnOk, length};
-ghost use Rattle.optra_node.specs.Nodes.{IsNode};
+ghost use Rattle.std.specs.Prelude.{◌≡◌, true, List, ℤ, All, Contains, IfOk, OnOk, length};
 ghost use Rattle.optra_prices.specs.Tables.{IsNumbering, Extends, IsRowPrice};
-ghost use Rattle.optra_prices.specs.Terms.{setting};
-ghost use Rattle.optra_prices.specs.Standings.{IsSound, AreTables, AllStand, AreCopies};
+ghost use Rattle.optra_prices.specs.Standings.{IsSound, HoldArcs, AllStand, AreCopies};
 ghost use Rattle.optra_prices.specs.Keepings.{AreBrought};
 ghost use Rattle.optra_prices.specs.declared.numbering.BidTable.{BidTable};
 
+use crate::hinting::no_hints;
 use crate::numbering::{BidTable, Numbering, Standing};
 use crate::settling::{copy_standing, first_standing, renew_where, update};
 use crate::tables::bid_table;
 use optra_dag::Buffers;
 use optra_graph::Graphs;
 use optra_network::NoMemory;
-use optra_node::{Node, Summary};
 use optra_walk::{Instance, RowFamily};
 use std::alloc::Global;
 
-/// A table for each bid.
+/// A table for each bid, in which no arc may be taken yet.
 pub(crate) fn make_tables<'g, F: RowFamily, G: Graphs>(
     alloc: Global,
     inst: Instance<'_>,
     graphs: &'g G,
     rows: &F,
-    node: &Node,
     numbering: &mut Numbering<F::Row>,
 ) -> Result<Vec<BidTable<'g>>, NoMemory>
-    requires few { length inst.bids.now ≤ 1000 }
-    requires node { IsNode inst.net.now (length inst.bids.now) node.now }
     requires network { G.network graphs.now ≡ inst.net.now }
     requires held { All (λ bid. Contains (G.held graphs.now) bid.path) inst.bids.now }
     requires numbering { IsNumbering F.Row.cmp numbering.old.numbers numbering.old.rows.items }
@@ -35,25 +30,16 @@ pub(crate) fn make_tables<'g, F: RowFamily, G: Graphs>(
     ensures numbering { OnOk result (IsNumbering F.Row.cmp numbering.new.numbers numbering.new.rows.items) }
     ensures rows { OnOk result (All (λ row. (F.rows_of rows.now inst.entry.net.now).is_row row ≡ true) numbering.new.rows.items) }
     ensures extends { OnOk result (Extends numbering.old.rows.items numbering.new.rows.items) }
-    ensures tables { IfOk result (λ tables. AreTables (setting inst.entry.net.now (F.rows_of rows.now inst.entry.net.now) (F.rows_used rows.now inst.entry.net.now) inst.entry.bids.now node.now) (length inst.entry.bids.now) numbering.new.rows.items tables.items) }
+    ensures tables { IfOk result (λ tables. HoldArcs inst.entry.net.now (F.rows_of rows.now inst.entry.net.now) (F.rows_used rows.now inst.entry.net.now) inst.entry.bids.now (length inst.entry.bids.now) numbering.new.rows.items tables.items) }
 {
-    let summary = Summary::new(alloc, inst, rows, node)?;
     let bids = inst.bids;
-    let mut hints = Vec::new(alloc);
+    let mut hints = no_hints(alloc)?;
     let mut tables = Vec::with_capacity(alloc, bids.len())?;
     for number in 0..bids.len() {
         let bid = &bids[number];
         let graph = graphs.graph(bid);
         let table = bid_table(
-            alloc,
-            inst.net,
-            rows,
-            &summary,
-            number as u32,
-            bid,
-            graph,
-            numbering,
-            &mut hints,
+            alloc, inst.net, rows, bid, graph, numbering, &tables, &mut hints,
         )?;
         tables.push(table)?;
     }

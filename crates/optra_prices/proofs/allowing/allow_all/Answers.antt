@@ -14,7 +14,7 @@ loop-number-init g c =
     let tables = c.args.tables.now.items in
     record {
       room = node_room rows bids numbered c.decisions_of.result.now c.args.node.now c.add_decisions.new.room c.decisions_of.ensures (c.in_ok-add_decisions.ensures (λ row. 0) c.in_ok-room.ensures);
-      tables = (c.requires.tables.0, tables_first net rows (g.F.RowFamily.rows_used f net) bids c.requires.tables.0 c.args.node.now numbered tables c.requires.tables.1);
+      tables = tables_first net rows (g.F.RowFamily.rows_used f net) bids c.args.node.now numbered tables c.requires.tables;
       brought = subst (λ (changed : List Bool). AreBroughtUpTo 0 changed tables tables) (sym c.in_ok-changed.ensures.items) (brought_none tables);
     }
 
@@ -23,14 +23,14 @@ allow_bid-requires-clause-table g c =
     let bids = c.args.inst.bids.now in
     let tables = c.loop-number.tables.items in
     let n = c.loop-number.number in
-    let mixed = c.loop-number.invariant.tables.1 in
+    let mixed = c.loop-number.invariant.tables in
     let l : n < length bids = omega arith in
     let bid = some_at bids n l in
     let table = c.index_mut.result.now in
     let count = mixed.count_is in
     let within : n < length tables = omega (arith, l, count) in
     let at : slice_get tables n ≡ Some table = slice_get_read tables (length tables) n table refl within c.index_mut.ensures.value in
-    (c.loop-number.invariant.tables.0, (bid.0, bid.1, mixed.left n bid.0 table (omega arith) bid.1 at))
+    (bid.0, bid.1, mixed.left n bid.0 table (omega arith) bid.1 at)
 
 pub loop-number-preserved : goal.loop-number-preserved
 loop-number-preserved g c =
@@ -42,7 +42,7 @@ loop-number-preserved g c =
     let n = c.loop-number.number in
     let old = c.args.tables.now.items in
     let inv = c.loop-number.invariant in
-    let mixed = inv.tables.1 in
+    let mixed = inv.tables in
     let l : n < length bids = omega arith in
     let bid = some_at bids n l in
     let table = c.index_mut.result.now in
@@ -53,7 +53,7 @@ loop-number-preserved g c =
     let one = c.in_ok-one.ensures in
     record {
       room = one.room;
-      tables = (inv.tables.0, tables_more net rows (g.F.RowFamily.rows_used f net) bids inv.tables.0 c.args.node.now c.args.numbering.now.rows.items n tables bid.0 table new mixed bid.1 at one.anew);
+      tables = tables_more net rows (g.F.RowFamily.rows_used f net) bids c.args.node.now c.args.numbering.now.rows.items n tables bid.0 table new mixed bid.1 at one.anew;
       brought = subst (λ (changed : List Bool). AreBroughtUpTo (n + 1) changed old (set tables n new)) (sym c.in_ok-push.ensures.items)
           (brought_more n c.loop-number.changed.items old tables c.in_ok-one.one table new inv.brought at one.brought);
     }
@@ -65,9 +65,9 @@ returns g c =
     let bids = c.args.inst.bids.now in
     let inv = c.loop-number.invariant in
     let all : length bids ≤ c.loop-number.number = omega arith in
-    let count = c.requires.tables.1.count_is in
+    let count = c.requires.tables.count_is in
     let whole : c.loop-number.number ≡ length c.args.tables.now.items = omega arith in
     record {
-      tables = tables_all net (g.F.RowFamily.rows_of f net) (g.F.RowFamily.rows_used f net) bids inv.tables.0 c.args.node.now c.args.numbering.now.rows.items c.loop-number.number c.loop-number.tables.items inv.tables.1 all;
+      tables = tables_all net (g.F.RowFamily.rows_of f net) (g.F.RowFamily.rows_used f net) bids c.args.node.now c.args.numbering.now.rows.items c.loop-number.number c.loop-number.tables.items inv.tables all;
       brought = brought_all c.loop-number.number c.loop-number.changed.items c.args.tables.now.items c.loop-number.tables.items inv.brought whole;
     }

@@ -1,5 +1,3 @@
-use Rattle.std.proofs.Common.{List}
-use Rattle.optra_node.specs.declared.Decision.{Decision}
 use Rattle.optra_node.specs.Nodes.{yes_load}
 use Rattle.optra_prices.specs.Rooms.{IsRoom}
 use Rattle.optra_prices.proofs.AllowLemmas.{AreTablesUpTo, AreBroughtUpTo}
@@ -8,6 +6,6 @@ use Rattle.optra_prices.proofs.allowing.allow_all.Given as goal
 abbrev pub invariant-loop-number : goal.invariant-loop-number
 invariant-loop-number g l = record {
   room : IsRoom (g.F.RowFamily.rows_of l.rows l.inst.net.now) l.numbering.rows.items (yes_load (g.F.RowFamily.rows_of l.rows l.inst.net.now) l.inst.bids.now l.node) l.room;
-  tables : (before : List Decision) × AreTablesUpTo l.inst.net.now (g.F.RowFamily.rows_of l.rows l.inst.net.now) (g.F.RowFamily.rows_used l.rows l.inst.net.now) l.inst.bids.now before l.node l.numbering.rows.items l.number l.tables.items;
+  tables : AreTablesUpTo l.inst.net.now (g.F.RowFamily.rows_of l.rows l.inst.net.now) (g.F.RowFamily.rows_used l.rows l.inst.net.now) l.inst.bids.now l.node l.numbering.rows.items l.number l.tables.items;
   brought : AreBroughtUpTo l.number l.changed.items l.initial.tables.items l.tables.items;
 }

@@ -12,11 +12,11 @@ first_standings-requires-clause-sound g c =
     let net = c.args.inst.net.now in
     let f = c.args.rows.now in
     let s : Setting g.row.F-Row.Denot = setting net (g.F.RowFamily.rows_of f net) (g.F.RowFamily.rows_used f net) c.args.inst.bids.now c.root-node.result in
-    subst (All IsSound) (sym c.deref.ensures.value) (tables_sound s c.make_tables.new.numbering.rows.items c.in_ok-tables.tables.items c.in_ok-tables.ensures.tables)
+    subst (All IsSound) (sym c.deref.ensures.value) (tables_sound s c.make_tables.new.numbering.rows.items c.allow_all.new.tables.items c.in_ok-_changed.ensures.tables)
 
 pub returns : goal.returns
 returns g c =
-    let tables = c.in_ok-tables.tables.items in
+    let tables = c.allow_all.new.tables.items in
     let prices = c.deref-2.result.now in
     let first = c.in_ok-first.first.items in
     let last = c.in_ok-last.last.items in
@@ -26,7 +26,7 @@ returns g c =
       record {
         numbering = c.in_ok-tables.ensures.numbering;
         rows_are = c.in_ok-tables.ensures.rows;
-        tables_are = c.in_ok-tables.ensures.tables;
+        tables_are = c.in_ok-_changed.ensures.tables;
         first_stand = (prices, stand);
         last_stand = (prices, copies_stand tables prices first last same stand);
       },
