@@ -1,6 +1,6 @@
 -- Rows by number while prices go along a path.
 use Rattle.std.proofs.Common.{◌≡◌, ℕ, ◌<◌, ◌≤◌, true, List, replicate, length, Option, Some, None, slice_get, refl, sym, ap, ◌∙◌, subst, arith}
-use Rattle.std.specs.Prelude.{All, Contains, ℤ, pos, ◌≤ℤ◌, slice_index, slice_index_or}
+use Rattle.std.specs.Prelude.{All, Contains, ℤ, pos, ◌*ℤ◌, ◌≤ℤ◌, slice_index, slice_index_or}
 use Rattle.std.specs.BTreeMap.{get, IsOrdered}
 use Rattle.std.specs.declared.cmp.Ordering.{Ordering}
 use Rattle.std.specs.Ordering.{eq_by_cmp}
@@ -15,7 +15,7 @@ use Rattle.optra_node.specs.Duals.{price_of, capacity_price}
 use Rattle.optra_node.specs.Laws.{TestsTellAllowed, PricesByUsedRows}
 use Rattle.optra_node.proofs.LeastLemmas.{at_contains}
 use Rattle.optra_prices.specs.Courses.{listed, prices_at, IsCourse, IsPriced}
-use Rattle.optra_prices.specs.Listings.{capacity_sum}
+use Rattle.optra_prices.specs.Listings.{capacity_sum, capacity_below}
 use Rattle.optra_prices.specs.Moves.{HasMoved}
 use Rattle.optra_prices.specs.Steps.{AreProper, IsStep, step_length, next_price, reply_load}
 use Rattle.optra_prices.specs.Standings.{Agrees, IsSound, replies_of, value_of}
@@ -26,6 +26,7 @@ use Rattle.optra_prices.specs.declared.courses.Course.{Course}
 use Rattle.optra_prices.proofs.HoldLemmas.{next_none}
 use Rattle.optra_prices.proofs.ListLemmas.{all_at, some_at}
 use Rattle.optra_prices.proofs.ListingLemmas.{entries_all, listed_proper, listed_agrees, price_numbered, price_unnumbered, capacity_listed}
+use Rattle.optra_prices.proofs.NumberSumLemmas.{times, sum_numbers, numbers_once}
 use Rattle.optra_prices.proofs.LoadingLemmas.{uses_load, no_load, tables_grouped}
 use Rattle.optra_prices.proofs.SettledLemmas.{settled_valuation}
 use Rattle.optra_prices.proofs.TableLemmas.{tables_sound}
@@ -67,11 +68,26 @@ capacities_small {R} cmp s c fits is k d l =
 
 module _ {R : Type 0} (cmp : R → R → Ordering) (total : IsTotalOrder cmp) (apart : TellsApart cmp) (s : Setting R) (c : Course R) (ordered : IsOrdered cmp c.numbering.numbers) where
   -- the price of all capacity by number is that of the prices
-  pub capacity_is : HasMoved cmp s c → capacity_sum c.order.items c.prices.items c.capacities.items ≡ capacity_price s.rows (prices_at c)
-  capacity_is is = capacity_listed s.rows c.prices.items c.capacities.items is.prices c.order.items
+  pub capacity_is : HasMoved cmp s c → capacity_below c.prices.items c.capacities.items (length c.prices.items) ≡ capacity_price s.rows (prices_at c)
+  capacity_is is = sym by_number ∙ capacity_listed s.rows c.prices.items c.capacities.items is.prices c.order.items
       (subst (All (λ (e : R × ℕ). slice_index c.capacities.items e.1 ≡ s.rows.capacity e.0)) (sym is.order)
       (entries_all cmp total apart s.rows c.numbering.numbers c.numbering.rows.items is.numbering is.rows ordered (λ (e : R × ℕ). slice_index c.capacities.items e.1 ≡ s.rows.capacity e.0)
       (λ e at. get_or_from_slice_get c.capacities.items e.1 (s.rows.capacity e.0) 0 (is.capacities e.1 e.0 at))))
+    where
+      rows : List R
+      rows = c.numbering.rows.items
+
+      entries : (P : R × ℕ → Type 0) → ((e : R × ℕ) → slice_get rows e.1 ≡ Some e.0 → P e) → All P c.numbering.numbers.entries
+      entries = entries_all cmp total apart s.rows c.numbering.numbers rows is.numbering is.rows ordered
+
+      once : (i : ℕ) → i < length rows → times i c.numbering.numbers.entries ≡ 1
+      once = numbers_once cmp total apart c.numbering.numbers rows is.numbering ordered (entries (λ (e : R × ℕ). slice_get rows e.1 ≡ Some e.0) (λ e at. at))
+
+      by_number : capacity_sum c.order.items c.prices.items c.capacities.items ≡ capacity_below c.prices.items c.capacities.items (length c.prices.items)
+      by_number = subst (λ (es : List (R × ℕ)). capacity_sum es c.prices.items c.capacities.items ≡ capacity_below c.prices.items c.capacities.items (length c.prices.items)) (sym is.order)
+          (subst (λ (n : ℕ). capacity_sum c.numbering.numbers.entries c.prices.items c.capacities.items ≡ capacity_below c.prices.items c.capacities.items n) (sym is.price_count)
+          (sum_numbers (λ (k : ℕ). slice_index_or c.prices.items k (pos 0) *ℤ pos (slice_index c.capacities.items k)) (length rows) c.numbering.numbers.entries
+          (entries (λ (e : R × ℕ). e.1 < length rows) (λ e at. slice_get_within rows e.1 e.0 at)) once))
 
   -- a course with its value is priced
   pub course_priced : IsProper s.net → TestsTellAllowed s.net s.rows s.bids → PricesByUsedRows s.net s.rows cmp s.used → IsCourse cmp s c → (capacity : ℤ) → capacity ≡ capacity_price s.rows (prices_at c)

@@ -6,6 +6,7 @@ pub mod ValueLemmas
 pub mod ArcLemmas
 pub mod MarkLemmas
 pub mod NumberLemmas
+pub mod NumberSumLemmas
 pub mod GroupLemmas
 pub mod ShareLemmas
 pub mod PriceSumLemmas

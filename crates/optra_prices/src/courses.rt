@@ -149,7 +149,7 @@ fn arrive<F: RowFamily>(
         &course.prices,
         &mut course.standings,
     )?;
-    let capacity = capacity_sum(&course.order, &course.prices, &course.capacities);
+    let capacity = capacity_sum(&course.prices, &course.capacities);
     course.value = dual_value(capacity, &course.standings);
     Ok(())
 }
@@ -258,7 +258,7 @@ pub(crate) fn priced_at<F: RowFamily>(
     let _ = inst.net.track_count();
     let _count = course.numbering.numbers.len();
     let entries = list_prices(alloc, &course.order, &course.prices)?;
-    let capacity = capacity_sum(&course.order, &course.prices, &course.capacities);
+    let capacity = capacity_sum(&course.prices, &course.capacities);
     let dual = assemble(alloc, capacity, &course.tables, &course.standings)?;
     Ok(Priced {
         prices: Prices { entries },

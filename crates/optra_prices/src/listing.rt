@@ -3,7 +3,7 @@ ghost use Rattle.std.specs.Prelude.{◌≡◌, ◌≤◌, ◌*◌, true, All, Co
 ghost use Rattle.optra_bid.specs.Specs.{IsBetween};
 ghost use Rattle.optra_node.specs.Duals.{ArePrices};
 ghost use Rattle.optra_prices.specs.Courses.{listed};
-ghost use Rattle.optra_prices.specs.Listings.{capacity_sum};
+ghost use Rattle.optra_prices.specs.Listings.{capacity_below};
 ghost use Rattle.optra_prices.specs.Tables.{IsNumbering, Extends, IsRowPrice};
 
 use crate::numbering::Numbering;
@@ -68,25 +68,25 @@ pub(crate) fn capacities_of<F: RowFamily>(
 }
 
 /// The price of the row with this number.
-fn price_by(prices: &[i64], number: u32) -> i64
+fn price_by(prices: &[i64], number: usize) -> i64
     requires { All IsRowPrice prices.now }
     ensures value { result ≡ slice_index_or prices.now number (pos 0) }
     ensures range { IsRowPrice result }
 {
-    prices.get(number as usize).copied().unwrap_or(0)
+    prices.get(number).copied().unwrap_or(0)
 }
 
 /// The capacity of the row with this number.
-fn capacity_by(capacities: &[u32], number: u32) -> u32
+fn capacity_by(capacities: &[u32], number: usize) -> u32
     requires { All (λ capacity. capacity ≤ 65535) capacities.now }
     ensures value { result ≡ slice_index capacities.now number }
     ensures range { result ≤ 65535 }
 {
-    capacities.get(number as usize).copied().unwrap_or(0)
+    capacities.get(number).copied().unwrap_or(0)
 }
 
 /// The price of all capacity of the row with this number. Most prices are 0, and then the capacity isn't looked up.
-fn capacity_price(price: i64, capacities: &[u32], number: u32) -> i128
+fn capacity_price(price: i64, capacities: &[u32], number: usize) -> i128
     requires price { IsRowPrice price }
     requires capacities { All (λ capacity. capacity ≤ 65535) capacities.now }
     ensures value { result ≡ price *ℤ pos (slice_index capacities.now number) }
@@ -109,22 +109,22 @@ pub(crate) fn list_prices<R: Copy>(
 {
     let mut entries = Vec::new(alloc);
     for entry in order {
-        push_price(&mut entries, entry.0, price_by(prices, entry.1))?;
+        push_price(&mut entries, entry.0, price_by(prices, entry.1 as usize))?;
     }
     Ok(entries)
 }
 
-/// The price of all capacity.
-pub(crate) fn capacity_sum<R: Copy>(order: &[(R, u32)], prices: &[i64], capacities: &[u32]) -> i128
+/// The price of all capacity, row by row in the order of the numbers.
+pub(crate) fn capacity_sum(prices: &[i64], capacities: &[u32]) -> i128
     requires prices { All IsRowPrice prices.now }
     requires capacities { All (λ capacity. capacity ≤ 65535) capacities.now }
-    ensures value { result ≡ capacity_sum order.now prices.now capacities.now }
+    ensures value { result ≡ capacity_below prices.now capacities.now (length prices.now) }
     ensures range { IsBetween (pos 0) (pos 2417851639229258349412352000000000000) result }
 {
     let mut total: i128 = 0;
-    for entry in order {
-        let price = price_by(prices, entry.1);
-        total += capacity_price(price, capacities, entry.1);
+    for n in 0..prices.len() {
+        let price = price_by(prices, n);
+        total += capacity_price(price, capacities, n);
     }
     total
 }

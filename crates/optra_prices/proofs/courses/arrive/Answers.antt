@@ -1,10 +1,10 @@
-use Rattle.std.proofs.Common.{◌≡◌, ◌≤◌, ℕ, List, sym, ap, ◌∙◌, subst, rules, to_z, of_z}
+use Rattle.std.proofs.Common.{◌≡◌, ◌≤◌, ℕ, List, length, sym, ap, ◌∙◌, subst, rules, to_z, of_z}
 use Rattle.std.specs.Prelude.{All, ℤ, FitsSigned}
 use Rattle.std.specs.Int.{w128}
 use Rattle.std.proofs.lemmas.Int.{to_z-of_z}
 use Rattle.optra_node.specs.Duals.{capacity_price}
 use Rattle.optra_prices.specs.Courses.{prices_at}
-use Rattle.optra_prices.specs.Listings.{capacity_sum}
+use Rattle.optra_prices.specs.Listings.{capacity_below}
 use Rattle.optra_prices.specs.Standings.{AllStand, IsSound, IsTermSize, value_of}
 use Rattle.optra_prices.specs.Terms.{Setting, setting}
 use Rattle.optra_prices.specs.declared.numbering.BidTable.{BidTable}
@@ -26,7 +26,7 @@ capacity_sum-capacity-requires-clause-capacities g c =
     let net = c.args.inst.net.now in
     let f = c.args.rows.now in
     let s : Setting g.row.F-Row.Denot = setting net (g.F.RowFamily.rows_of f net) (g.F.RowFamily.rows_used f net) c.args.inst.bids.now c.args.node.now in
-    subst (All (λ (capacity : ℕ). capacity ≤ 65535)) (sym c.deref-5.ensures.value)
+    subst (All (λ (capacity : ℕ). capacity ≤ 65535)) (sym c.deref-4.ensures.value)
     (capacities_small g.F.Row.Ord.cmp s c.args.course.now (λ row is. g.met.F.RowFamily.capacity_fits f net row c.track_count.ensures.proper is) c.requires.course)
 
 pub dual_value-course-requires-clause-small : goal.dual_value-course-requires-clause-small
@@ -41,7 +41,7 @@ dual_value-course-requires-clause-small g c =
     let stand : AllStand tables prices standings =
     subst (λ (ts : List BidTable). AllStand ts prices standings) c.deref.ensures.value (subst (λ (ps : List ℤ). AllStand c.deref.result.now ps standings) c.deref-2.ensures.value c.in_ok-settle.ensures)
     in
-    subst (All (λ (x : Standing). IsTermSize x.term)) (sym c.deref-6.ensures.value) (terms_small tables prices standings sound stand)
+    subst (All (λ (x : Standing). IsTermSize x.term)) (sym c.deref-5.ensures.value) (terms_small tables prices standings sound stand)
 
 pub returns-clause-priced : goal.returns-clause-priced
 returns-clause-priced g c =
@@ -60,9 +60,9 @@ returns-clause-priced g c =
     in
     let fits : FitsSigned w128 c.capacity_sum-capacity.result = search rules in
     let capacity = to_z w128 (of_z w128 c.capacity_sum-capacity.result) in
-    let sum : capacity ≡ capacity_sum course.order.items prices course.capacities.items =
-    to_z-of_z w128 c.capacity_sum-capacity.result fits ∙ c.capacity_sum-capacity.ensures.value ∙ ap (λ (xs : List (g.row.F-Row.Denot × ℕ)). capacity_sum xs c.deref-4.result.now c.deref-5.result.now) c.deref-3.ensures.value
-    ∙ ap (λ (ps : List ℤ). capacity_sum course.order.items ps c.deref-5.result.now) c.deref-4.ensures.value ∙ ap (λ (cs : List ℕ). capacity_sum course.order.items prices cs) c.deref-5.ensures.value
+    let sum : capacity ≡ capacity_below prices course.capacities.items (length prices) =
+    to_z-of_z w128 c.capacity_sum-capacity.result fits ∙ c.capacity_sum-capacity.ensures.value ∙ ap (λ (ps : List ℤ). capacity_below ps c.deref-4.result.now (length ps)) c.deref-3.ensures.value
+    ∙ ap (λ (cs : List ℕ). capacity_below prices cs (length prices)) c.deref-4.ensures.value
     in
     let priced : capacity ≡ capacity_price rows (prices_at course) = sum ∙ capacity_is cmp g.met.F.Row.Ord.total g.met.F.RowFamily.tells_apart s course c.len-count.ensures.ordered is in
     let fits_value : FitsSigned w128 c.dual_value-course.result = search rules in
@@ -80,4 +80,4 @@ returns-clause-priced g c =
       use_count = is.use_count;
       rest = is.rest;
     })
-    capacity priced (to_z-of_z w128 c.dual_value-course.result fits_value ∙ c.dual_value-course.ensures ∙ ap (λ (ss : List Standing). value_of capacity ss) c.deref-6.ensures.value)
+    capacity priced (to_z-of_z w128 c.dual_value-course.result fits_value ∙ c.dual_value-course.ensures ∙ ap (λ (ss : List Standing). value_of capacity ss) c.deref-5.ensures.value)
