@@ -84,7 +84,7 @@ def main():
             arcs[case] = sum(arcs_of(net, bid) for bid in bids)
         words = ["plan", "--net", "net", "--bids", "bids.csv", "--stops", "stops.csv", "--steps", str(steps), "--budget", str(budget)]
         searches, tried = hits(program, words, place)
-        skipped = tried * len(bids) - (searches - 2 * len(bids))
+        skipped = tried * len(bids) - (searches - len(bids))
         print(f"{case:6} steps {steps:>2} budget {budget:>3}  arcs {arcs[case]:>8}  prices tried {tried:>5}  searches {searches:>7}  "
               f"skipped {skipped:>7}", flush=True)
 
