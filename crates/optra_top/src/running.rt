@@ -99,10 +99,13 @@ fn end<E: Pen>(fault: &Fault, err: &mut E) -> u8
     fault.status()
 }
 
-/// Over a shelf and pens whose calls never fail, neither a read fault nor a write fault is answered.
+/// Over a shelf and pens whose calls never fail, neither a read fault nor a write fault is answered. Words that are no
+/// command form are, and they alone, unless memory runs out.
 pub fn run_without_faults(alloc: Global, words: &[String], shelf: &mut NeverShelf) -> u8
     ensures read { result ≢ 5 }
     ensures write { result ≢ 7 }
+    ensures usage { result ≡ 2 → IsNone (asked words.now) }
+    ensures no_form { IsNone (asked words.now) → (result ≡ 2) ⊎ (result ≡ 8) }
 {
     run(
         alloc,
