@@ -1,0 +1,64 @@
+//! The text of certificates: how rows are told in fields, a certificate's text, and its reader, which gives the
+//! certificate or the first fault.
+#![tactic(auto)]
+
+use optra_network::Cents;
+use optra_node::Item;
+use optra_walk::Choice;
+use std::marker::Model;
+
+/// A choice of walks and a tree, with what the choice is worth and a bound on what any choice can be worth. A valid one
+/// shows that both numbers are true.
+#[derive(Drop)]
+pub struct Certificate<R> {
+    /// What the choice's walks are worth together, in cents.
+    pub revenue: Cents,
+    /// What no choice that keeps the rule is worth more than, in cents.
+    pub bound: Cents,
+    /// For each bid the legs that serve it, or none.
+    pub choice: Choice,
+    /// The items of the tree in preorder.
+    pub tree: Vec<Item<R>>,
+}
+
+impl<R> Model for Certificate<R> {
+    ghost use Rattle.optra_cert.specs.Certs.{Cert};
+
+    ghost Value = { Cert R };
+
+    ghost view = { λ a. record { revenue = a.revenue; bound = a.bound; choice = a.choice; tree = a.tree.items } };
+}
+
+/// What is wrong with bytes that are no certificate's text, in the order of the tests.
+#[derive(Clone, Copy, Debug, PartialEq, Eq)]
+pub enum CertCode {
+    /// C1: the bytes aren't records as they are printed.
+    Csv,
+    /// C2: the first record isn't that of a version which is served.
+    Version,
+    /// C3: a record may not stand there, or hasn't the form of its kind.
+    Record,
+    /// C4: a name isn't in the network.
+    Name,
+    /// C5: a number isn't written as one, or isn't in its range.
+    Number,
+    /// C6: a record isn't in order, or the tree ends too early or too late.
+    Order,
+}
+
+/// The first fault of bytes.
+#[derive(Clone, Copy, Debug, PartialEq, Eq)]
+pub struct CertFault {
+    pub code: CertCode,
+    /// The place of the record from 1, and 0 for the bytes as a whole.
+    pub row: u64,
+}
+
+/// Why no certificate was read.
+#[derive(Clone, Copy, Debug, PartialEq, Eq)]
+pub enum CertError {
+    /// The first fault.
+    Fault(CertFault),
+    /// Memory couldn't be had.
+    NoMemory,
+}
