@@ -2,3 +2,7 @@
 pub mod ReadLemmas
 pub mod TextLemmas
 pub mod ReadBack
+pub mod PowerLemmas
+pub mod PlainNumbers
+pub mod BehindLemmas
+pub mod CanonicalLemmas
