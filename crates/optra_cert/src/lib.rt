@@ -7,6 +7,19 @@ use optra_node::Item;
 use optra_walk::Choice;
 use std::marker::Model;
 
+mod cell;
+mod columns;
+mod headways;
+mod joining;
+mod reading;
+mod row_text;
+mod writing;
+
+pub use cell::Cell;
+pub use reading::read_certificate;
+pub use row_text::{RowRead, RowText};
+pub use writing::write_certificate;
+
 /// A choice of walks and a tree, with what the choice is worth and a bound on what any choice can be worth. A valid one
 /// shows that both numbers are true.
 #[derive(Drop)]

@@ -1,0 +1,5 @@
+-- Lemmas on the certificate's text.
+pub mod WriteLemmas
+pub mod NameLemmas
+pub mod BothReads
+pub mod Examples
