@@ -4,3 +4,4 @@ pub mod PlanTexts
 pub mod PlanLaws
 pub mod CommandForms
 pub mod Words
+pub mod VerdictTexts
