@@ -5,3 +5,4 @@ pub mod TrainLemmas
 pub mod LegsTold
 pub mod TrainsTold
 pub mod PlanTold
+pub mod Accepted

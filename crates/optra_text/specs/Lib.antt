@@ -2,3 +2,6 @@
 pub mod FaultLines
 pub mod PlanTexts
 pub mod PlanLaws
+pub mod CommandForms
+pub mod Words
+pub mod VerdictTexts

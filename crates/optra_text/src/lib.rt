@@ -1,11 +1,19 @@
-//! The texts that the program prints: the plan, and the line of each fault.
+//! What goes in and out as text: the words of a command line, the printed plan, the verdict on a certificate,
+//! and the line of each fault.
 #![tactic(auto)]
 
+mod command_forms;
 mod faults;
+mod path_text;
 mod plans;
+mod verdicts;
+mod words;
 
 pub use faults::{FaultView, fault_text};
+pub use path_text::PathText;
 pub use plans::{PlanView, plan_text, text_tells_plan};
+pub use verdicts::{VerdictView, verdict_text};
+pub use words::{Words, WordsError, read_words};
 
 #[cfg(test)]
 mod tests;

@@ -1,0 +1,129 @@
+-- How many rows of headways a network has at most.
+use Rattle.std.proofs.Common.{◌≡◌, ℕ, zero, suc, ◌+◌, ◌*◌, ◌<◌, ◌≤◌, ◌⊎◌, inl, inr, true, nat_le, nat_lt, List, length, get_or, refl, sym, ◌∙◌, ap, arith}
+use Rattle.std.proofs.lemmas.Bool.{ltb-true, leb-true, and_parts, cases_lt}
+use Rattle.std.proofs.lemmas.List.Elements.{All-get_or, All-from_get_or}
+use Rattle.std.specs.Prelude.{All}
+use Rattle.std.specs.List.{AllPairs}
+use Rattle.std.specs.Cmp.{nat_cmp_is}
+use Rattle.std.specs.Ordering.{nat_cmp, ordering_then}
+use Rattle.std.specs.declared.cmp.Ordering.{Ordering}
+use Rattle.std.specs.declared.cmp.Ordering.TheVariants.{Less, Equal, Greater}
+use Rattle.optra_network.specs.Net.{Net, IsProper}
+use Rattle.optra_network.specs.Partners.{is_paired}
+use Rattle.optra_network.proofs.HeadwayLemmas.{below_types}
+use Rattle.optra_network.proofs.PartnerLemmas.{pair_parts}
+use Rattle.optra_rows.specs.declared.HRow.{HRow}
+use Rattle.optra_rows.specs.declared.HRow.TheVariants.{Window, Pair}
+use Rattle.optra_rows.specs.Headways.{is_row_of}
+use Rattle.optra_rows.specs.TouchedLemmas.{row_cmp}
+
+-- ---- the place of a row among all that could be there
+
+abbrev pub place : HRow → ℕ
+place (Window k m) = k.0 * 3000 + m
+place (Pair k t a u b) = 3000000 + ((((k.0 * 2880 + t) * 16 + a.0) * 2880 + u) * 16 + b.0)
+
+-- its numbers are in their ranges
+abbrev pub IsSmall : HRow → Type 0
+IsSmall (Window k m) = (k.0 < 1000) × (m < 3000)
+IsSmall (Pair k t a u b) = (k.0 < 1000) × (t < 2880) × (a.0 < 16) × (u < 2880) × (b.0 < 16)
+
+row_small : (net : Net) (row : HRow) → IsProper net → is_row_of net row ≡ true → IsSmall row
+row_small net (Window k m) proper is =
+    let parts = and_parts (nat_lt k.0 (length net.tracks)) (nat_le m 2998) is in
+    let few = proper.built.few_tracks in
+    let track = ltb-true k.0 (length net.tracks) parts.0 in
+    let minute = leb-true m 2998 parts.1 in
+    (omega (arith, few, track), omega (arith, minute))
+row_small net (Pair k t a u b) proper is =
+    let parts = and_parts (is_paired net k t a u b) (nat_le u 2879) is in
+    let pair = pair_parts net k t a u b parts.0 in
+    let late = leb-true u 2879 parts.1 in
+    let first = below_types net k a proper pair.first in
+    let second = below_types net k b proper pair.second in
+    let few = proper.built.few_tracks in
+    let apart = pair.apart in
+    (omega (arith, few, first.2), omega (arith, apart, late), first.1, omega (arith, late), second.1)
+
+place_small : (row : HRow) → IsSmall row → place row < 3000000 + 1000 * 2880 * 16 * 2880 * 16
+place_small (Window k m) small = let a = small.0 in let b = small.1 in omega (arith, a, b)
+place_small (Pair k t a u b) small =
+    let p = small.0 in let q = small.1 in let r = small.2 in let s = small.3 in let w = small.4 in omega (arith, p, q, r, s, w)
+
+-- ---- it rises with the order of rows
+
+equal_parts : (x y : ℕ) (o : Ordering) → x ≡ y → ordering_then (nat_cmp x y) o ≡ Less → o ≡ Less
+equal_parts x y o e less = sym (ap (λ c. ordering_then c o) (sym (nat_cmp_is x y Equal e))) ∙ less
+
+greater_parts : (x y : ℕ) (o : Ordering) → y < x → ordering_then (nat_cmp x y) o ≡ Less → ⊥
+greater_parts x y o l less =
+    let bad : Greater ≡ Less = sym (ap (λ c. ordering_then c o) (sym (nat_cmp_is x y Greater l))) ∙ less in absurd (cc bad)
+
+-- the first numbers are in order, or they are the same and the rest is
+less_parts : (x y : ℕ) (o : Ordering) → ordering_then (nat_cmp x y) o ≡ Less → (x < y) ⊎ ((x ≡ y) × (o ≡ Less))
+less_parts x y o less = elim (cases_lt x y) [
+  | inl lt ↦ inl lt
+  | inr ge ↦ elim (cases_lt y x) [
+      | inl gt ↦ absurd (greater_parts x y o gt less)
+      | inr le ↦ let same : x ≡ y = omega arith in inr (same, equal_parts x y o same less)
+    ]
+]
+
+last_part : (x y : ℕ) → nat_cmp x y ≡ Less → x < y
+last_part x y less = elim (less_parts x y Less (ap (λ c. ordering_then c Less) less)) [
+  | inl lt ↦ lt
+  | inr same ↦ let bad : Equal ≡ Less = nat_cmp_is x y Equal same.0 ∙ less in absurd (cc bad)
+]
+
+places_rise : (a b : HRow) → IsSmall a → IsSmall b → row_cmp a b ≡ Less → place a < place b
+places_rise (Window k m) (Window k' m') sa sb less =
+    let m_small = sa.1 in
+    elim (less_parts k.0 k'.0 (nat_cmp m m') less) [
+      | inl lt ↦ omega (arith, lt, m_small)
+      | inr same ↦ let e = same.0 in let l = last_part m m' same.1 in omega (arith, e, l)
+    ]
+places_rise (Window k m) (Pair k' t' a' u' b') sa sb less = let p = sa.0 in let q = sa.1 in omega (arith, p, q)
+places_rise (Pair k t a u b) (Window k' m') sa sb less = absurd (let bad : Greater ≡ Less = less in cc bad)
+places_rise (Pair k t a u b) (Pair k' t' a' u' b') sa sb less =
+    let st = sa.1 in let st' = sb.1 in let ta = sa.2 in let ta' = sb.2 in let su = sa.3 in let su' = sb.3 in let tb = sa.4 in let tb' = sb.4 in
+    elim (less_parts k.0 k'.0 _ less) [
+      | inl lt ↦ omega (arith, lt, st, ta, su, tb)
+      | inr k_same ↦ let ek = k_same.0 in elim (less_parts t t' _ k_same.1) [
+          | inl lt ↦ omega (arith, ek, lt, ta, su, tb)
+          | inr t_same ↦ let et = t_same.0 in elim (less_parts a.0 a'.0 _ t_same.1) [
+              | inl lt ↦ omega (arith, ek, et, lt, su, tb)
+              | inr a_same ↦ let ea = a_same.0 in elim (less_parts u u' _ a_same.1) [
+                  | inl lt ↦ omega (arith, ek, et, ea, lt, tb)
+                  | inr u_same ↦ let eu = u_same.0 in let l = last_part b.0 b'.0 u_same.1 in omega (arith, ek, et, ea, eu, l)
+                ]
+            ]
+        ]
+    ]
+
+-- ---- so there are few
+
+-- the row at a place of an ascending list has at least that place
+places_from : (rows : List HRow) (d : HRow) → AllPairs (λ a b. row_cmp a b ≡ Less) rows → All IsSmall rows → (i : ℕ) → i < length rows → i ≤ place (get_or rows i d)
+places_from rows d ascend small zero within = omega arith
+places_from rows d ascend small (suc i) within =
+    let before = places_from rows d ascend small i (omega (arith, within)) in
+    let rise = places_rise (get_or rows i d) (get_or rows (suc i) d) (All-get_or IsSmall rows i d (omega (arith, within)) small) (All-get_or IsSmall rows (suc i) d within small) (ascend i (suc i) d (omega arith) within) in
+    omega (arith, before, rise)
+
+-- an ascending list of rows of headways has fewer than 10^13
+pub few_rows : (net : Net) (rows : List HRow) → IsProper net → AllPairs (λ a b. row_cmp a b ≡ Less) rows → All (λ row. is_row_of net row ≡ true) rows → length rows < 10000000000000
+few_rows net rows proper ascend are = go (length rows) refl
+  where
+    d : HRow
+    d = Window (record { 0 = 0 }) 0
+
+    small : All IsSmall rows
+    small = All-from_get_or IsSmall rows d
+        (λ i within. row_small net (get_or rows i d) proper (All-get_or (λ row. is_row_of net row ≡ true) rows i d within are))
+
+    go : (n : ℕ) → length rows ≡ n → length rows < 10000000000000
+    go zero e = omega (arith, e)
+    go (suc n) e =
+        let last = places_from rows d ascend small n (omega (arith, e)) in
+        let below = place_small (get_or rows n d) (All-get_or IsSmall rows n d (omega (arith, e)) small) in
+        omega (arith, e, last, below)

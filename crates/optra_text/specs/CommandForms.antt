@@ -1,0 +1,33 @@
+-- The commands as `clap` knows them, and the values that it finds in the words.
+use Rattle.std.specs.Prelude.{◌≡◌, ℕ, Bool, true, false, List, Option, Some, None, codes, if◌then◌else◌}
+use Rattle.clap.specs.Words.{App, Row, Rule, fault_of, is_simple, is_simple_and_free, matches_of, new_app, new_rule, with_rule}
+use Rattle.clap.specs.Walk.{is_empty}
+use Rattle.clap.specs.declared.builder.action.ArgAction.TheVariants.{Set}
+
+-- a word of a command line, as its bytes
+abbrev pub Word : Type 0
+Word = List ℕ
+
+-- an option that takes one value and is given at most once
+abbrev pub option_rule : Word → Bool → Rule
+option_rule name is_required = record (new_rule name) { long = Some name; action = Some Set; required = is_required }
+
+-- a command without help, version or words of its own
+abbrev pub bare_app : Word → App
+bare_app name = let app = new_app name in
+    record app { top = record app.top { no_binary_name = true; disable_help_flag = true; disable_version_flag = true } }
+
+-- the command has nothing of which `clap` says less than all
+pub record IsSimple (app : App) : Type 0 where
+  pub simple : is_simple app ≡ true
+  pub free : is_simple_and_free app ≡ true
+
+-- the options and their values, where `clap` accepts the words
+unfoldable pub rows_given : App → List Word → Option (List Row)
+rows_given app words = if is_empty (fault_of app words) then Some (matches_of app words) else None
+
+-- plan --net DIR --bids FILE --stops FILE [--steps K] [--budget B] [--cert FILE]
+abbrev pub plan_app : App
+plan_app = with_rule (with_rule (with_rule (with_rule (with_rule (with_rule (bare_app (codes "plan"))
+    (option_rule (codes "net") true)) (option_rule (codes "bids") true)) (option_rule (codes "stops") true))
+    (option_rule (codes "steps") false)) (option_rule (codes "budget") false)) (option_rule (codes "cert") false)

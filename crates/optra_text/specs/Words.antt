@@ -1,0 +1,91 @@
+-- Which words are a command form, and what they ask for.
+use Rattle.std.specs.Prelude.{◌≡◌, ◌&&◌, ℕ, Bool, List, [], ◌∷◌, length, Option, Some, None, Result, Ok, Err, nat_le, codes, option_map, if◌then◌else◌}
+use Rattle.std.specs.Str.{bytes_eq}
+use Rattle.clap.specs.Words.{Row, first_of}
+use Rattle.clap.specs.declared.error.kind.ErrorKind.{ErrorKind}
+use Rattle.clap.specs.declared.error.kind.ErrorKind.TheVariants as kind
+use Rattle.optra_records.specs.Numbers.{number_of}
+use Rattle.optra_text.specs.CommandForms.{Word, rows_given, plan_app}
+use Rattle.optra_text.specs.declared.words.Words.{Words}
+use Rattle.optra_text.specs.declared.words.Words.TheVariants.{Plan}
+use Rattle.optra_text.specs.declared.words.WordsError.{WordsError}
+use Rattle.optra_text.specs.declared.words.WordsError.TheVariants as errors
+
+infixl 10 ◌>>=◌
+abbrev pub ◌>>=◌ : {A B : Type 0} → Option A → (A → Option B) → Option B
+(Some x) >>= f = f x
+None >>= f = None
+
+-- ---- values
+
+-- a path has 1 to 4,096 bytes
+abbrev pub is_path : Word → Bool
+is_path word = nat_le 1 (length word) && nat_le (length word) 4096
+
+abbrev pub path_of : Word → Option Word
+path_of word = if is_path word then Some word else None
+
+-- the path of an option that is required
+abbrev pub needed_path : Option Word → Option Word
+needed_path given = given >>= path_of
+
+-- the path of an option that may be absent
+abbrev pub optional_path : Option Word → Option (Option Word)
+optional_path None = Some None
+optional_path (Some word) = option_map Some (path_of word)
+
+abbrev pub within : ℕ → ℕ → ℕ → Option ℕ
+within least most n = if nat_le least n && nat_le n most then Some n else None
+
+-- a number is 1 to 10 digits, and in its range
+abbrev pub number_within : ℕ → ℕ → Word → Option ℕ
+number_within least most word = number_of word >>= within least most
+
+-- the number of an option that has a default
+abbrev pub number_or : ℕ → ℕ → ℕ → Option Word → Option ℕ
+number_or default least most None = Some default
+number_or default least most (Some word) = number_within least most word
+
+-- ---- commands
+
+-- steps are 0 to 1,000, and 40 where they aren't given
+abbrev pub steps_of : List Row → Option ℕ
+steps_of rows = number_or 40 0 1000 (first_of (codes "steps") rows)
+
+-- the budget is 1 to 10,000, and 200 where it isn't given
+abbrev pub budget_of : List Row → Option ℕ
+budget_of rows = number_or 200 1 10000 (first_of (codes "budget") rows)
+
+-- what the words behind `plan` ask for
+unfoldable pub plan_words : List Word → Option Words
+plan_words words = do
+  rows ← rows_given plan_app words
+  net ← needed_path (first_of (codes "net") rows)
+  bids ← needed_path (first_of (codes "bids") rows)
+  stops ← needed_path (first_of (codes "stops") rows)
+  steps ← steps_of rows
+  budget ← budget_of rows
+  cert ← optional_path (first_of (codes "cert") rows)
+  Some (Plan net bids stops steps budget cert)
+
+-- What the words ask for, where they are a command form: the first is the command, and the others are its options.
+abbrev pub words_of : List Word → Option Words
+words_of [] = None
+words_of (command ∷ words) = if bytes_eq command (codes "plan") then plan_words words else None
+
+-- ---- answers
+
+-- Usage comes where nothing is asked for. Want of memory is free.
+abbrev pub IsUsage : {Y : Type 0} → WordsError → Option Y → Type 0
+IsUsage errors.NoMemory read = Unit {0}
+IsUsage errors.Usage read = read ≡ None
+
+-- what was read, seen by `view`, is what is asked for
+abbrev pub Reads : {X Y : Type 0} → (X → Y) → Result X WordsError → Option Y → Type 0
+Reads view (Ok x) read = read ≡ Some (view x)
+Reads view (Err e) read = IsUsage e read
+
+-- why words were not read, where `clap` gives this kind of fault
+abbrev pub IsRefusal : ErrorKind → WordsError → Type 0
+IsRefusal kind.OutOfMemory e = e ≡ errors.NoMemory
+IsRefusal _ e = e ≡ errors.Usage

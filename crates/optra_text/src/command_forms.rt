@@ -1,0 +1,54 @@
+//! The commands, as `clap` knows them.
+ghost use Rattle.std.specs.Prelude.{◌≡◌, IfOk, false};
+ghost use Rattle.clap.specs.Words.{app_of, rule_of, with_rule};
+ghost use Rattle.optra_text.specs.CommandForms.{bare_app, option_rule, plan_app};
+
+use clap::{Arg, ArgAction, Command};
+use std::alloc::{AllocError, Global};
+
+/// plan --net DIR --bids FILE --stops FILE [--steps K] [--budget B] [--cert FILE]
+pub fn plan_command<'a>(alloc: Global) -> Result<Command<'a>, AllocError>
+    ensures { IfOk result (λ command. app_of command ≡ plan_app) }
+{
+    let command = bare_command(alloc, "plan");
+    let command = with_option(alloc, command, "net", true)?;
+    let command = with_option(alloc, command, "bids", true)?;
+    let command = with_option(alloc, command, "stops", true)?;
+    let command = with_option(alloc, command, "steps", false)?;
+    let command = with_option(alloc, command, "budget", false)?;
+    let command = with_option(alloc, command, "cert", false)?;
+    Ok(command)
+}
+
+/// A command without options, help or version.
+fn bare_command<'a>(alloc: Global, name: &'a str) -> Command<'a>
+    ensures { app_of result ≡ bare_app name.entry.now }
+{
+    Command::new(alloc, name)
+        .no_binary_name(true)
+        .disable_help_flag(true)
+        .disable_version_flag(true)
+}
+
+/// The command with one more option, which takes one value and is given at most once.
+fn with_option<'a>(
+    alloc: Global,
+    command: Command<'a>,
+    name: &'a str,
+    is_required: bool,
+) -> Result<Command<'a>, AllocError>
+    ensures { IfOk result (λ more. app_of more ≡ with_rule (app_of command.entry) (option_rule name.entry.now is_required)) }
+{
+    command.arg(option(alloc, name, is_required))
+}
+
+/// An option.
+fn option<'a>(alloc: Global, name: &'a str, is_required: bool) -> Arg<'a>
+    ensures rule { rule_of result ≡ option_rule name.entry.now is_required }
+    ensures local { result.global ≡ false }
+{
+    Arg::new(alloc, name)
+        .long(name)
+        .required(is_required)
+        .action(ArgAction::Set)
+}

@@ -1,0 +1,181 @@
+//! The words of a command line.
+ghost use Rattle.std.specs.Prelude.{◌≡◌, ◌≤◌, map, string_bytes, option_map, IfSome, IfOk};
+ghost use Rattle.clap.specs.Words.{app_of, first_of, found_of, rows_of};
+ghost use Rattle.optra_text.specs.CommandForms.{IsSimple, rows_given};
+ghost use Rattle.optra_text.specs.Words.{IsRefusal, Reads, is_path, needed_path, number_or, number_within, optional_path, plan_words, words_of};
+ghost use Rattle.optra_text.specs.declared.words.WordsError.TheVariants.{NoMemory};
+
+use crate::command_forms::plan_command;
+use crate::path_text::PathText;
+use clap::error::ErrorKind;
+use clap::{ArgMatches, Command};
+use optra_records::number;
+use std::alloc::{AllocError, Global};
+
+/// The most bytes of a path.
+const LONGEST_PATH: usize = 4096;
+/// How many price steps are made at a node where `--steps` isn't given, and the most that can be asked for.
+const DEFAULT_STEPS: u64 = 40;
+
+const MOST_STEPS: u64 = 1000;
+/// How many nodes are taken where `--budget` isn't given, and the most that can be asked for.
+const DEFAULT_BUDGET: u64 = 200;
+
+const MOST_BUDGET: u64 = 10_000;
+
+/// What words ask for.
+#[derive(Debug, Drop)]
+pub enum Words {
+    /// plan --net DIR --bids FILE --stops FILE [--steps K] [--budget B] [--cert FILE]
+    Plan {
+        /// The folder of the network's tables.
+        net: PathText,
+        /// The table of bids.
+        bids: PathText,
+        /// The table of stops.
+        stops: PathText,
+        /// The most price steps at a node: 0 to 1,000, and 40 where they aren't given.
+        steps: u32,
+        /// The most nodes of the search: 1 to 10,000, and 200 where it isn't given.
+        budget: u64,
+        /// Where the certificate is to be put, if it is.
+        cert: Option<PathText>,
+    },
+}
+
+/// Why words were not read.
+#[derive(Clone, Copy, Debug, PartialEq, Eq)]
+pub enum WordsError {
+    /// They are no command form.
+    Usage,
+    /// Memory ran out.
+    NoMemory,
+}
+
+impl From<AllocError> for WordsError {
+    ghost from_gives = { λ _ e. e ≡ NoMemory };
+
+    fn from(_: AllocError) -> WordsError {
+        WordsError::NoMemory
+    }
+}
+
+/// Reads the words after the program's name. The first is the command, and the others are its options, which `clap`
+/// reads in any order, as `--net DIR` or `--net=DIR`.
+///
+/// `Usage` comes exactly where the words are no command form: where the first is no command, `clap` refuses the
+/// others, or a value isn't in its range.
+pub fn read_words(alloc: Global, words: &[String]) -> Result<Words, WordsError>
+    ensures { Reads (λ read. read) result (words_of (map string_bytes words.now)) }
+{
+    let Some((command, options)) = words.split_first() else {
+        return Err(WordsError::Usage);
+    };
+    match command.as_str() {
+        "plan" => read_plan(alloc, options),
+        _ => Err(WordsError::Usage),
+    }
+}
+
+/// What the words behind `plan` ask for.
+#[tactic(auto, unfolding(crate::specs::Words::plan_words))]
+fn read_plan(alloc: Global, words: &[String]) -> Result<Words, WordsError>
+    ensures { Reads (λ read. read) result (plan_words (map string_bytes words.now)) }
+{
+    let matches = matches_of(plan_command(alloc)?, words)?;
+    let net = path_of(alloc, given(&matches, "net"))?;
+    let bids = path_of(alloc, given(&matches, "bids"))?;
+    let stops = path_of(alloc, given(&matches, "stops"))?;
+    let steps = number_or(DEFAULT_STEPS, 0, MOST_STEPS, given(&matches, "steps"))?;
+    let budget = number_or(DEFAULT_BUDGET, 1, MOST_BUDGET, given(&matches, "budget"))?;
+    let cert = path_or_none(alloc, given(&matches, "cert"))?;
+    Ok(Words::Plan {
+        net,
+        bids,
+        stops,
+        steps: steps as u32,
+        budget,
+        cert,
+    })
+}
+
+/// What `clap` finds in the words of a command.
+fn matches_of<'a>(command: Command<'a>, words: &'a [String]) -> Result<ArgMatches<'a>, WordsError>
+    requires { IsSimple (app_of command) }
+    ensures { Reads (λ m. rows_of (found_of m)) result (rows_given (app_of command.entry) (map string_bytes words.entry.now)) }
+{
+    match command.try_get_matches_from(words) {
+        Ok(matches) => Ok(matches),
+        Err(error) => Err(refusal(error.kind())),
+    }
+}
+
+/// Why the words weren't read, where `clap` gives this kind of fault.
+fn refusal(kind: ErrorKind) -> WordsError
+    ensures { IsRefusal kind result }
+{
+    match kind {
+        ErrorKind::OutOfMemory => WordsError::NoMemory,
+        _ => WordsError::Usage,
+    }
+}
+
+/// The value of an option.
+fn given<'a>(matches: &ArgMatches<'a>, name: &str) -> Option<&'a str>
+    ensures { option_map (λ text. text.now) result ≡ first_of name.now (rows_of (found_of matches.now)) }
+{
+    matches.get_str(name)
+}
+
+/// The path of an option that is required.
+fn path_of(alloc: Global, given: Option<&str>) -> Result<PathText, WordsError>
+    ensures { Reads (λ path. path) result (needed_path (option_map (λ text. text.now) given.entry)) }
+{
+    match given {
+        Some(text) if is_path(text) => Ok(PathText::new(alloc, text)?),
+        _ => Err(WordsError::Usage),
+    }
+}
+
+/// The path of an option that may be absent.
+fn path_or_none(alloc: Global, given: Option<&str>) -> Result<Option<PathText>, WordsError>
+    ensures { Reads (λ path. path) result (optional_path (option_map (λ text. text.now) given.entry)) }
+{
+    match given {
+        None => Ok(None),
+        Some(text) if is_path(text) => Ok(Some(PathText::new(alloc, text)?)),
+        Some(_) => Err(WordsError::Usage),
+    }
+}
+
+/// Whether a text has 1 to 4,096 bytes.
+fn is_path(text: &str) -> bool
+    ensures { result ≡ is_path text.now }
+{
+    1 <= text.len() && text.len() <= LONGEST_PATH
+}
+
+/// The number of an option that has a default.
+fn number_or(default: u64, least: u64, most: u64, given: Option<&str>) -> Result<u64, WordsError>
+    requires { default ≤ most }
+    ensures read { Reads (λ n. n) result (number_or default least most (option_map (λ text. text.now) given.entry)) }
+    ensures most { IfOk result (λ n. n ≤ most) }
+{
+    match given {
+        None => Ok(default),
+        Some(text) => number_within(least, most, text).ok_or(WordsError::Usage),
+    }
+}
+
+/// The number of a word of 1 to 10 digits, with or without zeros in front, that is in the range.
+fn number_within(least: u64, most: u64, text: &str) -> Option<u64>
+    ensures number { result ≡ number_within least most text.now }
+    ensures most { IfSome result (λ n. n ≤ most) }
+{
+    let n = number(text.as_bytes())?;
+    if least <= n && n <= most {
+        Some(n)
+    } else {
+        None
+    }
+}
