@@ -3,3 +3,4 @@ pub mod WriteLemmas
 pub mod NameLemmas
 pub mod BothReads
 pub mod Examples
+pub mod WritableLemmas

@@ -10,3 +10,4 @@ pub mod Certs
 pub mod CertTexts
 pub mod Faults
 pub mod CertLaws
+pub mod Writables

@@ -11,11 +11,13 @@ mod cell;
 mod columns;
 mod headways;
 mod joining;
+mod laws;
 mod reading;
 mod row_text;
 mod writing;
 
 pub use cell::Cell;
+pub use laws::valid_is_writable;
 pub use reading::read_certificate;
 pub use row_text::{RowRead, RowText};
 pub use writing::write_certificate;

@@ -1,0 +1,51 @@
+-- Valid certificates can be written.
+use Rattle.std.proofs.Common.{◌≡◌, ◌<◌, ◌≤◌, ◌^◌, ℕ, true, List, [], ◌∷◌, length, get_or, All, ◌++◌, ap, refl, subst, arith}
+use Rattle.std.specs.Prelude.{ℤ, pos, ◌≤ℤ◌, ◌<ℤ◌}
+use Rattle.std.specs.declared.cmp.Ordering.{Ordering}
+use Rattle.std.proofs.lemmas.List.Elements.{All-nil, All-cons, All-head, All-tail, All-contains}
+use Rattle.std.proofs.lemmas.Int.{ints}
+use Rattle.optra_network.specs.Net.{Net, IsProper}
+use Rattle.optra_bid.specs.declared.bids.Bid.{Bid}
+use Rattle.optra_walk.specs.Families.{Rows, Entry}
+use Rattle.optra_node.specs.declared.Decision.{Decision}
+use Rattle.optra_node.specs.declared.Item.{Item}
+use Rattle.optra_node.specs.declared.Item.TheVariants.{Split, NoWalk, Forced, Priced}
+use Rattle.optra_node.specs.Certificates.{EndsDead, HasPrices, IsFormed, IsValid}
+use Rattle.optra_node.specs.Duals.{PriceList, IsPrice}
+use Rattle.optra_node.specs.Trees.{children, placed, root, places}
+use Rattle.optra_cert.specs.RowTexts.{RowTexts, AreTexts, FitsRow, IsRowOf}
+use Rattle.optra_cert.specs.Certs.{Cert, IsListed, IsWritable, IsWritableItem}
+use Rattle.optra_cert.specs.Writables.{HasCountedPrices, ValidIsWritable}
+
+module _ {R : Type 0} (cmp : R → R → Ordering) (texts : RowTexts R) (net : Net) (rows : Rows R) (Keeps : List Entry → Type 0) (bids : List Bid)
+  (are : AreTexts texts) (fits : (row : R) → rows.is_row row ≡ true → FitsRow texts net row) where
+
+  row_of : (row : R) → rows.is_row row ≡ true → IsRowOf texts net texts.version row
+  row_of row is = ((All-contains (λ kind. (1 ≤ kind.version) × (kind.version ≤ texts.version)) texts.kinds (texts.told row).0 are.versions (are.kinds row)).1, fits row is)
+
+  listed : (entry : R × ℤ) → IsPrice rows entry → IsListed texts net texts.version entry
+  listed entry price = let low = price.least in let high = price.most in (row_of entry.0 price.is_row, (omega (arith, ints, low), omega (arith, ints, high)))
+
+  item_writable : (node : List Decision) (item : Item R) → EndsDead net rows bids node item → HasPrices rows item → HasCountedPrices item → IsWritableItem texts net texts.version item
+  item_writable node (Split bid leg) dead prices counted = tt
+  item_writable node (NoWalk bid) dead prices counted = tt
+  item_writable node (Forced row) dead prices counted = row_of row dead.is_row
+  item_writable node (Priced list) dead prices counted =
+      (counted, λ k d within. listed (get_or list k d) (prices k d within))
+
+  items_writable : (ways : List (List Decision)) (tree : List (Item R)) → length (placed ways tree) ≡ length tree
+      → All (λ p. EndsDead net rows bids p.0 p.1) (placed ways tree) → All (HasPrices rows) tree → All HasCountedPrices tree → All (IsWritableItem texts net texts.version) tree
+  items_writable ways [] long dead prices counted = All-nil (IsWritableItem texts net texts.version)
+  items_writable [] (item ∷ tree) long dead prices counted = absurd (omega (arith, long))
+  items_writable (node ∷ ways) (item ∷ tree) long dead prices counted =
+      All-cons (IsWritableItem texts net texts.version) item tree
+      (item_writable node item (All-head (λ p. EndsDead net rows bids p.0 p.1) (node, item) (placed (children node item ++ ways) tree) dead) (All-head (HasPrices rows) item tree prices) (All-head HasCountedPrices item tree counted))
+      (items_writable (children node item ++ ways) tree (omega (arith, long)) (All-tail (λ p. EndsDead net rows bids p.0 p.1) (node, item) (placed (children node item ++ ways) tree) dead) (All-tail (HasPrices rows) item tree prices) (All-tail HasCountedPrices item tree counted))
+
+  pub valid_is_writable : ValidIsWritable cmp texts net rows Keeps bids
+  valid_is_writable cert formed valid counted low within small = record {
+    formed = formed;
+    revenue = (low, omega (arith, ints, within, small));
+    bound = (omega (arith, ints, low, within), small);
+    items = items_writable root cert.tree formed.whole.each valid.dead valid.prices counted;
+  }

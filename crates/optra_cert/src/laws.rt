@@ -1,0 +1,17 @@
+//! The law that leads from a valid certificate to its text.
+ghost use Rattle.std.specs.Prelude.{◌≡◌};
+ghost use Rattle.optra_cert.specs.RowTexts.{AreApart};
+ghost use Rattle.optra_cert.specs.Writables.{ValidIsWritable};
+
+use crate::RowText;
+use optra_walk::Instance;
+
+/// A valid certificate of an instance can be written, in the family's version.
+pub fn valid_is_writable<F: RowText>(inst: Instance<'_>, rows: &F)
+    requires { AreApart (F.texts_of rows.now).kinds }
+    ensures { ValidIsWritable F.Row.cmp (F.texts_of rows.entry.now) inst.entry.net.now (F.rows_of rows.entry.now inst.entry.net.now)
+        (F.KeepsRule rows.entry.now inst.entry.net.now) inst.entry.bids.now }
+{
+    let _ = inst.net.track_count();
+    let _ = rows;
+}
