@@ -6,3 +6,4 @@ pub mod HeartLemmas
 pub mod TouchedLemmas
 pub mod RuleLemmas
 pub mod EitherLemmas
+pub mod FewRows

@@ -9,6 +9,7 @@ ghost use Rattle.optra_bid.specs.declared.bids.Bid.{Bid};
 ghost use Rattle.optra_walk.specs.declared.Leg.{Leg as Step};
 ghost use Rattle.optra_walk.specs.Choices.{KeepsHeadways, uses_of};
 ghost use Rattle.optra_walk.specs.Families.{IsUsable, FitRows, entries_of};
+ghost use Rattle.optra_rows.specs.FewRows.{AreFewHeadways};
 ghost use Rattle.optra_rows.specs.Headways.{is_row_of, is_used_by, headway_rows, IsHeadwayRow, pair_of, is_started, is_not_over, ShiftsRise, kept};
 
 use crate::HRow;
@@ -30,6 +31,13 @@ impl HeadwayRows {
     {
         HeadwayRows
     }
+}
+
+/// A law, and no work: a network has fewer than 10^13 rows of headways, so a list of different ones can be counted.
+pub fn headway_rows_are_few(net: &Network)
+    ensures { AreFewHeadways net.now }
+{
+    let _proper = net.track_count();
 }
 
 impl RowFamily for HeadwayRows {

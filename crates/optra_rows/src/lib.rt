@@ -10,7 +10,7 @@ mod headways;
 mod joining;
 mod totals;
 
-pub use headways::HeadwayRows;
+pub use headways::{HeadwayRows, headway_rows_are_few};
 pub use joining::{Both, Either};
 pub use totals::Load;
 
