@@ -6,6 +6,3 @@ mod plans;
 
 pub use faults::{FaultView, fault_text};
 pub use plans::{PlanView, plan_text, text_tells_plan};
-
-#[cfg(test)]
-mod tests;
