@@ -103,6 +103,3 @@ impl<T: Drop> From<AllocFailed<T>> for ReadError {
         ReadError::NoMemory
     }
 }
-
-#[cfg(test)]
-mod tests;
