@@ -156,7 +156,11 @@ static CONFLICTS: [(u16, u16, bool); 9] = [
 fn conflicts_end_at_the_headway(rt: HostRuntime) -> Result<(), Fail> {
     let net = read(rt.alloc(), &SMALL)?.net;
     for (second, time, want) in &CONFLICTS {
-        assert_eq!(rt; meets(&rt, &net, 0, *second, *time), *want, "{second} at {time}");
+        assert_eq!(rt;
+            meets(&rt, &net, 0, *second, *time),
+            *want,
+            "{second} at {time}"
+        );
     }
     Ok(())
 }

@@ -161,7 +161,10 @@ static FILES: [(&str, &str); 7] = [
         "net/running.csv",
         "track,type,pass_pass,pass_halt,halt_pass,halt_halt\nab,ic,10,10,10,10\n",
     ),
-    ("net/headways.csv", "track,first,second,minutes\nab,ic,ic,5\n"),
+    (
+        "net/headways.csv",
+        "track,first,second,minutes\nab,ic,ic,5\n",
+    ),
     (
         "bids.csv",
         "bid,bidder,type,origin,destination,depart_from,depart_ideal,depart_to,arrive_from,arrive_ideal,arrive_to,base,early_depart,late_depart,early_arrive,late_arrive,travel,wait,wait_max\nb1,ann,ic,A,B,0,2,10,0,12,60,1000,10,20,0,0,0,0,0\n",

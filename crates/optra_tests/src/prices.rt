@@ -173,11 +173,7 @@ fn check_case<G: Graphs>(
     Ok(())
 }
 
-fn check_cases(
-    rt: &(impl Abort + AllocGlobal),
-    rows: &Rows,
-    cases: &[Case],
-) -> Result<(), Fail> {
+fn check_cases(rt: &(impl Abort + AllocGlobal), rows: &Rows, cases: &[Case]) -> Result<(), Fail> {
     let held = read(rt.alloc(), rows)?;
     let inst = Instance {
         net: &held.net,

@@ -153,8 +153,7 @@ static EARLY: [(Minute, Option<Cents>); 6] = [
     (9, None),
 ];
 
-static SPAN: [(Minute, Option<Cents>); 4] =
-    [(1, None), (2, Some(836)), (9, Some(786)), (10, None)];
+static SPAN: [(Minute, Option<Cents>); 4] = [(1, None), (2, Some(836)), (9, Some(786)), (10, None)];
 
 /// Those that are walks arrive at 33, 39 and 43.
 static FREE: [(TwoLegs, Option<Cents>); 11] = [
