@@ -8,6 +8,8 @@
 #[cfg(test)]
 mod decisions;
 #[cfg(test)]
+mod disks;
+#[cfg(test)]
 mod graphs;
 #[cfg(test)]
 mod instances;
