@@ -37,8 +37,8 @@ fn tables_of(alloc: Global, net: &Network, bids: &[Bid]) -> Result<[Vec<u8>; 2],
     Ok([bids_bytes, stops_bytes])
 }
 
-/// The bids of two tables, written again.
-fn written(
+/// The bids of two tables on a network, written again.
+fn written_on(
     alloc: Global,
     net: &Network,
     bids: &str,
@@ -51,11 +51,16 @@ fn written(
     }
 }
 
+/// The bids of two tables, written again.
+fn written(alloc: Global, bids: &str, stops: &str) -> Result<[Vec<u8>; 2], ReadError> {
+    let net = network(alloc, &QUOTED)?;
+    written_on(alloc, &net, bids, stops)
+}
+
 #[test]
 fn bids_are_written_and_read_again(rt: HostRuntime) -> Result<(), Fail> {
-    let net = network(rt.alloc(), &QUOTED)?;
     for (bids, stops) in BIDS.iter().zip(&STOPS) {
-        let [bids_bytes, stops_bytes] = written(rt.alloc(), &net, bids, stops)?;
+        let [bids_bytes, stops_bytes] = written(rt.alloc(), bids, stops)?;
         assert_eq!(rt; bids_bytes.as_slice(), BIDS[1].as_bytes());
         assert_eq!(rt; stops_bytes.as_slice(), STOPS[1].as_bytes());
     }
