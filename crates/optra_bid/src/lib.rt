@@ -135,6 +135,3 @@ impl<T: Drop> From<AllocFailed<T>> for BidFault {
         BidFault::NoMemory
     }
 }
-
-#[cfg(test)]
-mod tests;

@@ -20,6 +20,3 @@ pub struct Arc {
     /// The node that it leads to.
     pub to: u32,
 }
-
-#[cfg(test)]
-mod tests;

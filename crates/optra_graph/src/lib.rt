@@ -14,6 +14,3 @@ mod timegraphs;
 pub use building::{Builds, build};
 pub use serving::{FreshGraphs, Graphs};
 pub use timegraphs::TimeGraph;
-
-#[cfg(test)]
-mod tests;

@@ -197,12 +197,7 @@ impl Builder {
         ensures complete { OnOk result (HasAllHeadways self) }
         ensures err { IfErr result (IsFinishFault self) }
     {
-        let alloc = *self.tracks.allocator();
-        let rows = self.rows(alloc)?;
-        if !self.has_all_headways(&rows) {
-            return Err(NetFault::Refused(NetRefusal::MissingHeadway));
-        }
-        let tables = self.tables(alloc, rows)?;
+        let tables = self.complete_tables()?;
         let Builder {
             stations,
             track_names,

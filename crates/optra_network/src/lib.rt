@@ -131,6 +131,3 @@ impl<T: Drop> From<AllocFailed<T>> for NetFault {
         NetFault::NoMemory
     }
 }
-
-#[cfg(test)]
-mod tests;

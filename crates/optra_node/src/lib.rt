@@ -15,8 +15,6 @@ mod loads;
 mod nodes;
 mod spans;
 mod summaries;
-#[cfg(test)]
-mod tests;
 mod totals;
 
 pub use laws::{

@@ -12,7 +12,6 @@ pub mod Terms
 pub mod Sharings
 pub mod Standings
 pub mod Holdings
-pub mod FiveRows
 pub mod Courses
 pub mod Keepings
 pub mod Rooms

@@ -32,8 +32,6 @@ mod settling;
 mod sharing;
 mod stepping;
 mod tables;
-#[cfg(test)]
-mod tests;
 mod touching;
 mod using;
 mod valuing;

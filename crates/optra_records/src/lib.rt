@@ -13,6 +13,3 @@ pub use marks::begins_with_mark;
 pub use numbers::{number, plain_number};
 pub use printing::{Fields, Printer};
 pub use reading::Records;
-
-#[cfg(test)]
-mod tests;

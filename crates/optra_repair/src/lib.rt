@@ -8,6 +8,3 @@ mod repairing;
 mod taking;
 
 pub use repairing::{repair, repair_over};
-
-#[cfg(test)]
-mod tests;

@@ -40,6 +40,3 @@ pub enum HRow {
         second: TypeId,
     },
 }
-
-#[cfg(test)]
-mod tests;

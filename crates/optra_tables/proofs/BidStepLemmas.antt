@@ -1,7 +1,7 @@
 -- What each accepted record of a bid or a stop adds, and that there are never too many.
-use Rattle.std.proofs.Common.{◌≡◌, ◌+◌, ◌-◌, ◌*◌, ◌<◌, ◌≤◌, ◌||◌, ◌++◌, ℕ, zero, suc, Bool, true, false, cond, not, List, [], ◌∷◌, length, set, Option, Some, None, slice_get, slice_index, is_none, nat_le, nat_lt, refl, sym, ap, ◌∙◌, arith, subst, length-append}
+use Rattle.std.proofs.Common.{◌≡◌, ◌+◌, ◌-◌, ◌*◌, ◌<◌, ◌≤◌, ◌||◌, ◌++◌, ℕ, zero, suc, Bool, true, false, not, List, [], ◌∷◌, length, set, Option, Some, None, slice_get, slice_index, is_none, nat_le, nat_lt, refl, sym, ap, ◌∙◌, arith, subst, length-append}
 use Rattle.std.proofs.lemmas.Bool.{leb-false, ltb-true}
-use Rattle.std.specs.Prelude.{Result, Ok, Err, if◌then◌else◌}
+use Rattle.std.specs.Prelude.{Result, Ok}
 use Rattle.optra_network.specs.Names.{place_of}
 use Rattle.optra_network.specs.Net.{Net}
 use Rattle.optra_bid.specs.Bids.{bid_refusal, is_minute, stop_of, stop_refusal}
@@ -14,7 +14,7 @@ use Rattle.optra_bid.specs.declared.Stop.{Stop}
 use Rattle.optra_records.specs.Reading.{Record}
 use Rattle.optra_tables.specs.Bids.{Parts, bid_row, made_of, names_of, raw_at, told_at}
 use Rattle.optra_tables.specs.Fields.{name_at, number_at, shaped, two_at}
-use Rattle.optra_tables.specs.Outcomes.{◌>>=◌, bid_outcome, guard, or_fault}
+use Rattle.optra_tables.specs.Outcomes.{bid_outcome, guard, or_fault}
 use Rattle.optra_tables.specs.Stops.{found_at, stop_outcome, stop_row, with_stop}
 use Rattle.optra_tables.specs.declared.Table.{Table}
 use Rattle.optra_tables.specs.declared.Table.TheVariants.{Bids, Stops}

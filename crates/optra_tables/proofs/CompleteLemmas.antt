@@ -1,17 +1,15 @@
 -- Whether each headway is there, by the rows of the network.
-use Rattle.std.proofs.Common.{◌≡◌, ◌<◌, ◌||◌, ◌&&◌, ℕ, zero, suc, Bool, true, false, cond, not, List, [], ◌∷◌, length, get_or, Some, None, IsSome, IfOk, IfErr, OnOk, is_some, nat_eq, refl, sym, ap, ◌∙◌, subst, inl, inr, arith, eq-eqb, eqb-true}
+use Rattle.std.proofs.Common.{◌≡◌, ◌<◌, ◌||◌, ◌&&◌, ℕ, zero, suc, Bool, true, false, cond, not, List, [], ◌∷◌, length, get_or, Some, IfOk, IfErr, OnOk, is_some, nat_eq, refl, sym, subst, inl, inr, arith, eq-eqb, eqb-true}
 use Rattle.std.proofs.lemmas.Bool.{cases_Bool}
 use Rattle.std.proofs.lemmas.List.Sums.{list_all-from_AllPass}
 use Rattle.std.specs.List.{list_all}
 use Rattle.std.specs.Map.{lookup}
 use Rattle.std.specs.Prelude.{Result, Ok, Err}
-use Rattle.optra_network.specs.Net.{HasAllHeadways, MayUse, Net, same_pair, same_triple}
+use Rattle.optra_network.specs.Net.{HasAllHeadways, Net, same_pair, same_triple}
 use Rattle.optra_network.specs.Refusals.{IsFinishFault}
 use Rattle.optra_network.specs.declared.NetFault.{NetFault}
 use Rattle.optra_network.specs.declared.NetFault.TheVariants as net_faults
 use Rattle.optra_network.specs.declared.Times.{Times}
-use Rattle.optra_network.specs.declared.TrackId.{TrackId}
-use Rattle.optra_network.specs.declared.TypeId.{TypeId}
 use Rattle.optra_network.proofs.NetLemmas.{pair_same, pair_self}
 use Rattle.optra_tables.specs.Networks.{is_complete, whole_refusal}
 use Rattle.optra_tables.specs.Outcomes.{Gives, IsNetAnswer, net_outcome}

@@ -1,5 +1,5 @@
 -- Bids that were read are an instance of the network, and their names all differ.
-use Rattle.std.proofs.Common.{◌≡◌, ◌+◌, ◌<◌, ◌≤◌, ◌++◌, ℕ, zero, suc, Bool, true, false, List, [], ◌∷◌, length, map, get_or, set, bytes_eq, slice_get, is_none, is_some, nat_lt, Option, Some, None, IfSome, All, refl, sym, ap, ◌∙◌, subst, arith}
+use Rattle.std.proofs.Common.{◌≡◌, ◌+◌, ◌<◌, ◌≤◌, ◌++◌, ℕ, zero, suc, true, false, List, [], ◌∷◌, length, map, get_or, set, bytes_eq, slice_get, is_none, is_some, nat_lt, Option, Some, None, IfSome, All, refl, sym, ap, ◌∙◌, subst, arith}
 use Rattle.std.proofs.Math.Seq.{map-set_same}
 use Rattle.std.proofs.lemmas.List.{get_or-map, length-map, map_push}
 use Rattle.std.proofs.lemmas.List.Elements.{All-push, All-set}
@@ -16,7 +16,7 @@ use Rattle.optra_network.specs.declared.TypeId.{TypeId}
 use Rattle.optra_network.proofs.NamesLemmas.{AllDiffer-push, list_any-position}
 use Rattle.optra_bid.specs.Bids.{bid_refusal, path_of, stop_of, stop_refusal}
 use Rattle.optra_bid.specs.Instances.{IsInstance}
-use Rattle.optra_bid.specs.Specs.{IsPathOn, Path}
+use Rattle.optra_bid.specs.Specs.{IsPathOn}
 use Rattle.optra_bid.specs.declared.RawBid.{RawBid}
 use Rattle.optra_bid.specs.declared.RawStop.{RawStop}
 use Rattle.optra_bid.specs.declared.Stop.{Stop}
@@ -24,9 +24,9 @@ use Rattle.optra_bid.specs.declared.bids.Bid.{Bid}
 use Rattle.optra_records.specs.Reading.{Field, Record, table_records}
 use Rattle.optra_tables.specs.Bids.{Parts, Told, bid_row, bids_header, made_of, names_of, parts_of, raw_at, raw_of, told_at}
 use Rattle.optra_tables.specs.Fields.{name_at, number_at, shaped, two_at}
-use Rattle.optra_tables.specs.Outcomes.{◌>>=◌, bid_outcome, fault, guard, or_fault}
+use Rattle.optra_tables.specs.Outcomes.{bid_outcome, guard, or_fault}
 use Rattle.optra_tables.specs.Rows.{rows_from, table_read, under_header}
-use Rattle.optra_tables.specs.Stops.{bids_of, found_at, stop_outcome, stop_row, stops_header, with_stop}
+use Rattle.optra_tables.specs.Stops.{found_at, stop_outcome, stop_row, stops_header, with_stop}
 use Rattle.optra_tables.specs.declared.Table.{Table}
 use Rattle.optra_tables.specs.declared.Table.TheVariants.{Bids, Stops}
 use Rattle.optra_tables.specs.declared.TableFault.{TableFault}

@@ -9,7 +9,6 @@ pub mod RowLemmas
 pub mod FreeLemmas
 pub mod StepLemmas
 pub mod CompleteLemmas
-pub mod NetworkLemmas
 pub mod BidLemmas
 pub mod BidStepLemmas
 pub mod KeptLemmas

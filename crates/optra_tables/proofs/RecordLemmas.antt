@@ -1,12 +1,11 @@
 -- The form of records and of their fields, from what the code tests.
-use Rattle.std.proofs.Common.{◌≡◌, ◌+◌, ◌<◌, ◌≤◌, ◌&&◌, ◌==◌, ℕ, zero, suc, Bool, true, false, List, [], ◌∷◌, length, map, drop, get_or, Bor, None, Some, refl, sym, ◌∙◌, add-one, arith, eq-eqb, slice_get}
-use Rattle.std.specs.Prelude.{if◌then◌else◌}
+use Rattle.std.proofs.Common.{◌≡◌, ◌+◌, ◌<◌, ◌&&◌, ℕ, zero, suc, Bool, true, false, List, [], ◌∷◌, length, map, drop, get_or, Bor, None, refl, sym, ◌∙◌, add-one, arith, eq-eqb, slice_get}
 use Rattle.std.specs.List.{list_all}
 use Rattle.std.specs.Cmp.Lexicographic.{pointwise}
 use Rattle.std.specs.Str.{bytes_eq, is_utf8, IsUtf8}
 use Rattle.std.proofs.lemmas.Str.{IsUtf8-from_is_utf8}
 use Rattle.csv.specs.Records.{field_at}
-use Rattle.optra_network.specs.Names.{is_name, is_plain}
+use Rattle.optra_network.specs.Names.{is_plain}
 use Rattle.optra_records.specs.Reading.{Field, Record}
 use Rattle.optra_tables.specs.Fields.{field, is_row, name_of}
 

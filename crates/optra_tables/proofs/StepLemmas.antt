@@ -1,5 +1,5 @@
 -- What each accepted record of a network's table adds, and that there are never too many.
-use Rattle.std.proofs.Common.{◌≡◌, ◌+◌, ◌-◌, ◌*◌, ◌/◌, ◌%◌, ◌<◌, ◌≤◌, ◌||◌, ◌++◌, ℕ, bytes_eq, Bool, true, false, cond, not, List, [], ◌∷◌, length, Option, Some, None, IfSome, is_none, is_some, nat_le, refl, sym, ap, ◌∙◌, arith, subst, unwrap_or, length-append}
+use Rattle.std.proofs.Common.{◌≡◌, ◌+◌, ◌-◌, ◌*◌, ◌/◌, ◌%◌, ◌<◌, ◌≤◌, ◌||◌, ◌++◌, ℕ, bytes_eq, Bool, true, false, List, [], ◌∷◌, length, Option, Some, None, IfSome, is_none, is_some, nat_le, refl, ap, ◌∙◌, arith, subst, unwrap_or, length-append}
 use Rattle.std.proofs.lemmas.Bool.{leb-false}
 use Rattle.std.proofs.lemmas.List.Quantifiers.{position-Some}
 use Rattle.std.proofs.lemmas.Nat.{div-mul-add, mod-mul-add}
@@ -8,7 +8,7 @@ use Rattle.std.specs.Option.{option_and_then, option_map}
 use Rattle.std.specs.Prelude.{Result, Ok, Err, if◌then◌else◌}
 use Rattle.optra_network.specs.Names.{place_of}
 use Rattle.optra_network.specs.Net.{Net, headway_of, same_pair, same_triple, times_of}
-use Rattle.optra_network.specs.Refusals.{after_headway, after_running, after_track, first_of, headway_refusal, running_refusal, station_refusal, times_from, track_refusal, type_refusal}
+use Rattle.optra_network.specs.Refusals.{headway_refusal, running_refusal, station_refusal, times_from, track_refusal, type_refusal}
 use Rattle.optra_network.specs.declared.NetRefusal.{NetRefusal}
 use Rattle.optra_network.specs.declared.Times.{Times}
 use Rattle.optra_network.specs.declared.Track.{Track}
@@ -18,7 +18,7 @@ use Rattle.optra_network.proofs.NetLemmas.{pair_self, triple_self}
 use Rattle.optra_records.specs.Reading.{Record}
 use Rattle.optra_tables.specs.Fields.{four_at, name_at, number_at, shaped}
 use Rattle.optra_tables.specs.Networks.{HasFew, headway_row, running_row, station_row, track_row, type_row}
-use Rattle.optra_tables.specs.Outcomes.{◌>>=◌, fault, net_outcome}
+use Rattle.optra_tables.specs.Outcomes.{◌>>=◌, net_outcome}
 use Rattle.optra_tables.specs.declared.Table.{Table}
 use Rattle.optra_tables.specs.declared.Table.TheVariants.{Headways, Running, Stations, Tracks, Types}
 use Rattle.optra_tables.specs.declared.TableFault.{TableFault}

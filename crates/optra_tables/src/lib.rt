@@ -21,11 +21,13 @@ mod types;
 mod writing;
 
 pub use networks::read_network;
+pub use stops::read_bids;
+pub use writing::{bids_text, stops_text};
+
 use optra_bid::BidRefusal;
 use optra_network::NetRefusal;
 use std::alloc::{AllocError, AllocFailed};
-pub use stops::read_bids;
-pub use writing::{bids_text, stops_text};
+use thiserror::Error;
 
 /// The tables, in the order in which they are read.
 #[derive(Clone, Copy, Debug, PartialEq, Eq)]
@@ -40,25 +42,32 @@ pub enum Table {
 }
 
 /// What is wrong with a record, or with the whole table.
-#[derive(Clone, Copy, Debug, PartialEq, Eq)]
+#[derive(Clone, Copy, Debug, PartialEq, Eq, Error)]
 pub enum Kind {
     /// The record has another number of fields than the header, or a field isn't UTF-8.
+    #[error("the record hasn't the form of the table")]
     Csv,
     /// The first record isn't the header.
+    #[error("the header is missing or another one")]
     Header,
     /// A field that is to be a name isn't one: 1 to 64 bytes without a control character.
+    #[error("a field isn't a name")]
     Name,
     /// A field that is to be a number isn't 1 to 10 ASCII digits.
+    #[error("a field isn't a number")]
     Number,
     /// The network refuses what the record says, or there are too many bids, or a bid's name is taken.
+    #[error(transparent)]
     Net(NetRefusal),
     /// A bid or a stop is refused, or names something that isn't there.
+    #[error(transparent)]
     Bid(BidRefusal),
 }
 
 /// The first fault of a table: where it is and what it is. Rows count the records from 1, which is the header; a
 /// fault of the whole table has row 0.
-#[derive(Clone, Copy, Debug, PartialEq, Eq)]
+#[derive(Clone, Copy, Debug, PartialEq, Eq, Error)]
+#[error("{table:?}, row {row}: {kind}")]
 pub struct TableFault {
     pub table: Table,
     pub row: u32,
@@ -66,9 +75,13 @@ pub struct TableFault {
 }
 
 /// Why tables were not read: their first fault, or memory that couldn't be had.
-#[derive(Clone, Copy, Debug, PartialEq, Eq)]
+#[derive(Clone, Copy, Debug, PartialEq, Eq, Error)]
 pub enum ReadError {
+    /// The first fault of the tables.
+    #[error(transparent)]
     Fault(TableFault),
+    /// Memory couldn't be had.
+    #[error("out of memory")]
     NoMemory,
 }
 
@@ -103,6 +116,3 @@ impl<T: Drop> From<AllocFailed<T>> for ReadError {
         ReadError::NoMemory
     }
 }
-
-#[cfg(test)]
-mod tests;

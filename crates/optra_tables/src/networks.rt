@@ -1,8 +1,9 @@
 //! The tables of a network, in order.
 
-ghost use Rattle.std.specs.Prelude.{◌≡◌};
+ghost use Rattle.std.specs.Prelude.{◌≡◌, OnOk, IfErr};
+ghost use Rattle.optra_network.specs.Net.{empty_net};
 ghost use Rattle.optra_tables.specs.Networks.{Files, HasFew, files_of, is_complete, network_of, whole_refusal};
-ghost use Rattle.optra_tables.specs.Outcomes.{Gives, net_outcome};
+ghost use Rattle.optra_tables.specs.Outcomes.{Fails, Gives, net_outcome};
 ghost use Rattle.optra_tables.specs.declared.Table.TheVariants.{Headways};
 
 use crate::headways::read_headways;
@@ -23,6 +24,22 @@ fn finish(net: Builder) -> Result<Network, ReadError>
     net_answer(Table::Headways, 0, net.finish())
 }
 
+/// Reads the tables into a builder that has nothing yet, in order. The first fault ends it; what is left then is whether a
+/// headway is missing.
+#[tactic(auto, unfolding(crate::specs::Networks::network_of))]
+fn read_tables(alloc: Global, net: &mut Builder, files: &NetFiles<'_>) -> Result<(), ReadError>
+    requires { net.old ≡ empty_net }
+    ensures ok { OnOk result (network_of (files_of files.now) ≡ net_outcome Headways 0 (whole_refusal net.new) net.new) }
+    ensures err { IfErr result (λ e. Fails e (network_of (files_of files.now))) }
+{
+    let mut cells = ByteRecord::new(alloc);
+    read_stations(alloc, net, &mut cells, files.stations)?;
+    read_tracks(alloc, net, &mut cells, files.tracks)?;
+    read_types(alloc, net, &mut cells, files.types)?;
+    read_running(alloc, net, &mut cells, files.running)?;
+    read_headways(alloc, net, &mut cells, files.headways)
+}
+
 /// The network that the tables mean, or exactly their first fault. The tables are read in the order stations, tracks,
 /// types, running, headways; rows count the records of a table from 1, which is the header.
 ///
@@ -31,16 +48,10 @@ fn finish(net: Builder) -> Result<Network, ReadError>
 ///   left to right `Name`, where a name isn't 1 to 64 bytes without a control character, and `Number`, where a number
 ///   isn't 1 to 10 ASCII digits; then what the network's builder refuses.
 /// - `Net(MissingHeadway)` of the headways at row 0, where two types that may both use a track have no headway on it.
-#[tactic(auto, unfolding(crate::specs::Networks::network_of))]
 pub fn read_network(alloc: Global, files: &NetFiles<'_>) -> Result<Network, ReadError>
     ensures { Gives (λ net. net) result (network_of (files_of files.now)) }
 {
-    let mut cells = ByteRecord::new(alloc);
     let mut net = Builder::new(alloc)?;
-    read_stations(alloc, &mut net, &mut cells, files.stations)?;
-    read_tracks(alloc, &mut net, &mut cells, files.tracks)?;
-    read_types(alloc, &mut net, &mut cells, files.types)?;
-    read_running(alloc, &mut net, &mut cells, files.running)?;
-    read_headways(alloc, &mut net, &mut cells, files.headways)?;
+    read_tables(alloc, &mut net, files)?;
     finish(net)
 }

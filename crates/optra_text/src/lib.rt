@@ -15,5 +15,3 @@ pub use plans::{PlanView, plan_text, text_tells_plan};
 pub use verdicts::{VerdictView, verdict_text};
 pub use words::{Words, WordsError, read_words};
 
-#[cfg(test)]
-mod tests;

@@ -16,12 +16,3 @@ mod wording;
 
 pub use laws::one_text;
 pub use running::{run, run_without_faults};
-
-#[cfg(test)]
-mod node_tests;
-#[cfg(test)]
-mod test_tables;
-#[cfg(test)]
-mod tests;
-#[cfg(test)]
-mod tree_tests;

@@ -11,8 +11,6 @@ use std::marker::Model;
 mod families;
 mod following;
 mod ordering;
-#[cfg(test)]
-mod tests;
 mod valuing;
 
 pub use families::RowFamily;

@@ -1,23 +1,38 @@
 //! What `finish` tests and makes: complete headways, and the dense tables.
-ghost use Rattle.std.specs.Prelude.{◌≡◌, ℕ, ◌*◌, ◌<◌, ◌↔◌, length, map, IfOk, IsTrue, true};
+ghost use Rattle.std.specs.Prelude.{◌≡◌, ℕ, ◌*◌, ◌<◌, ◌↔◌, length, map, IfErr, IfOk, IsTrue, OnOk, true};
 ghost use Rattle.std.specs.List.{range_with_len};
 ghost use Rattle.optra_network.specs.Headways.{type_id, lesser, hmin_or_0, headway_before};
 ghost use Rattle.optra_network.specs.Net.{track_id, HasAllHeadways, IsProper};
+ghost use Rattle.optra_network.specs.Refusals.{IsFinishFault};
 ghost use Rattle.optra_network.specs.Tables.{AreRows, AreTables, has_headway, least_at};
 
 use super::Builder;
 use crate::dense::{Outgoing, Rows, Tables, above_zero};
-use crate::{NoMemory, TrackId, TypeId};
+use crate::{NetFault, NetRefusal, NoMemory, TrackId, TypeId};
 use std::alloc::Global;
 
 impl Builder {
-    pub(super) fn rows(&self, alloc: Global) -> Result<Rows, NoMemory>
+    /// The dense tables, where no headway is missing.
+    pub(super) fn complete_tables(&self) -> Result<Tables, NetFault>
+        ensures tables { IfOk result (AreTables self.now) }
+        ensures complete { OnOk result (HasAllHeadways self.now) }
+        ensures err { IfErr result (IsFinishFault self.now) }
+    {
+        let alloc = *self.tracks.allocator();
+        let rows = self.rows(alloc)?;
+        if !self.has_all_headways(&rows) {
+            return Err(NetFault::Refused(NetRefusal::MissingHeadway));
+        }
+        Ok(self.tables(alloc, rows)?)
+    }
+
+    fn rows(&self, alloc: Global) -> Result<Rows, NoMemory>
         ensures { IfOk result (AreRows self.now) }
     {
         Rows::new(alloc, self.tracks.len(), &self.running, &self.headways)
     }
 
-    pub(super) fn has_all_headways(&self, rows: &Rows) -> bool
+    fn has_all_headways(&self, rows: &Rows) -> bool
         requires { AreRows self.now rows.now }
         ensures { IsTrue result ↔ HasAllHeadways self.now }
     {
@@ -66,7 +81,7 @@ impl Builder {
         rows.headway(track, first, second) != 0
     }
 
-    pub(super) fn tables(&self, alloc: Global, rows: Rows) -> Result<Tables, NoMemory>
+    fn tables(&self, alloc: Global, rows: Rows) -> Result<Tables, NoMemory>
         requires { AreRows self.now rows }
         ensures { IfOk result (AreTables self.now) }
     {

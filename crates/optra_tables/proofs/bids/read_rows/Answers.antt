@@ -1,5 +1,5 @@
 -- Each record goes on, or is the first fault.
-use Rattle.std.proofs.Common.{arith, ◌∙◌}
+use Rattle.std.proofs.Common.{arith}
 use Rattle.std.proofs.lemmas.Result.{err_from_is_err_and}
 use Rattle.csv.specs.Records.{fields_of}
 use Rattle.optra_tables.specs.Bids.{bid_row}

@@ -1,10 +1,10 @@
-use Rattle.std.proofs.Common.{rules, sym, subst}
+use Rattle.std.proofs.Common.{sym, subst}
 use Rattle.optra_network.specs.Net.{Net, HasAllHeadways}
 use Rattle.optra_network.specs.Tables.{AreTables}
 use Rattle.optra_network.proofs.building.Builder.finish.Goals as goal
 
 pub invariant_of-result : goal.invariant_of-result
 invariant_of-result c = record {
-  proper = record { built = c.self.invariant; complete = subst HasAllHeadways (sym c.self.view_is) (c.if-not-has_all_headways.ensures.0 (search rules)) };
-  tables = subst (λ (n : Net). AreTables n c.in_ok-tables.tables) (sym c.self.view_is) c.in_ok-tables.ensures;
+  proper = record { built = c.self.invariant; complete = subst HasAllHeadways (sym c.self.view_is) c.in_ok-tables.ensures.complete };
+  tables = subst (λ (n : Net). AreTables n c.in_ok-tables.tables) (sym c.self.view_is) c.in_ok-tables.ensures.tables;
 }

@@ -1,0 +1,46 @@
+//! A case is performed.
+use crate::cases::{Case, HeldFile, PenRules, Run, Step};
+use crate::printing::{print_bytes, print_puts, print_words};
+use crate::watched_shelf::WatchedShelf;
+use anyhow::{Result, ensure};
+use optra_outside::{MemoryPen, MemoryShelf};
+use std::alloc::{AllocError, Global};
+use std::io::Write;
+
+/// Runs a case over a shelf of its own, and prints what came of each run.
+pub fn perform<W: Write>(alloc: Global, name: &str, case: &Case, to: &mut W) -> Result<()> {
+    writeln!(to, "== {name}: {}", case.title)?;
+    let rules = &case.shelf;
+    let under = MemoryShelf::new(alloc, rules.limit, rules.room, rules.fails.clone()?)?;
+    let mut shelf = WatchedShelf::new(alloc, under);
+    for step in case.steps.iter() {
+        match step {
+            Step::Load(HeldFile { name, bytes }) => shelf.under.load(name.as_str(), bytes)?,
+            Step::Run(run) => perform_run(alloc, run, &mut shelf, to)?,
+        }
+    }
+    Ok(())
+}
+
+fn perform_run<W: Write>(
+    alloc: Global,
+    run: &Run,
+    shelf: &mut WatchedShelf,
+    to: &mut W,
+) -> Result<()> {
+    let mut out = pen(alloc, &run.out)?;
+    let mut err = pen(alloc, &run.err)?;
+    let status = optra_top::run(alloc, &run.words, shelf, &mut out, &mut err);
+    print_words(to, &run.words)?;
+    writeln!(to, "status {status}")?;
+    print_bytes(to, "out", out.bytes())?;
+    print_bytes(to, "err", err.bytes())?;
+    print_puts(to, &shelf.puts)?;
+    ensure!(!shelf.is_short, "no memory for a put");
+    shelf.puts.clear();
+    Ok(())
+}
+
+fn pen(alloc: Global, rules: &PenRules) -> Result<MemoryPen, AllocError> {
+    MemoryPen::new(alloc, rules.room, rules.fails.clone()?, rules.keep)
+}

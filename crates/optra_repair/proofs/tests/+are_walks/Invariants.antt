@@ -1,6 +1,0 @@
--- Each call has a bid less.
-use Rattle.std.proofs.Common.{length}
-use Rattle.optra_repair.proofs.tests.+are_walks.Given as goal
-
-abbrev pub decreases-are_walks : goal.decreases-are_walks
-decreases-are_walks l = length l.bids.now

@@ -1,0 +1,140 @@
+//! Graphs of bids: their arcs counted by hand, and their first walks.
+ghost use Rattle.std.specs.Prelude.{◌≡◌, All};
+ghost use Rattle.optra_bid.specs.Specs.{IsPathOn};
+ghost use Rattle.optra_bid.specs.Instances.{IsInstance};
+
+use crate::instances::{PLAIN, Rows, read};
+use optra_bid::Bid;
+use optra_dag::{Weight, first_best};
+use optra_graph::{Builds, FreshGraphs, Graphs, TimeGraph, build};
+use optra_network::{Minute, NoMemory};
+use optra_walk::{Instance, Walk, follows};
+use std::alloc::Global;
+use std::process::Abort;
+use std::test::Fail;
+
+/// Two tracks from A to B, one from there to C, and one back to A. The slow type may use neither the second track from A to B
+/// nor the one back.
+static BIDS: Rows = Rows {
+    stations: "A\nB\nC\n",
+    tracks: "ab,A,B\nab2,A,B\nbc,B,C\nba,B,A\n",
+    types: "fast\nslow\n",
+    running: "ab,fast,1,2,2,3\nab2,fast,1,2,2,3\nbc,fast,1,2,2,3\nba,fast,1,2,2,3\nab,slow,2,4,3,6\nbc,slow,2,4,3,6\n",
+    headways: "ab,fast,fast,1\nab2,fast,fast,1\nbc,fast,fast,1\nba,fast,fast,1\nab,slow,slow,1\nab,slow,fast,1\nab,fast,slow,1\nbc,slow,slow,1\nbc,slow,fast,1\nbc,fast,slow,1\n",
+    bids: "straight,ann,fast,A,B,0,0,0,3,3,5,0,0,0,0,0,0,0,0\ntoo-early,ann,fast,A,B,0,0,0,0,0,2,0,0,0,0,0,0,0,0\ntoo-slow,ann,slow,A,B,0,0,0,0,0,5,0,0,0,0,0,0,0,0\nslow,ann,slow,A,B,0,0,1,0,0,6,0,0,0,0,0,0,0,0\nlate,ann,fast,A,B,0,0,9,4,4,6,0,0,0,0,0,0,0,0\nwaits,ann,slow,A,C,1,1,2,0,0,15,0,0,0,0,0,0,0,2\nhalts,ann,fast,A,C,0,0,1,0,0,9,0,0,0,0,0,0,0,0\nb-then-a,ann,fast,A,C,0,0,0,0,0,11,0,0,0,0,0,0,0,0\na-then-b,ann,fast,A,C,0,0,0,0,0,11,0,0,0,0,0,0,0,0\n",
+    stops: "halts,B,1,2,3,5\nb-then-a,B,0,1,0,99\nb-then-a,A,0,2,0,6\na-then-b,A,0,2,0,6\na-then-b,B,0,1,0,99\n",
+};
+
+/// Of each bid the arcs of its graph, and when its first walk departs.
+///
+/// Straight to B, at 3, or back over A, at 5. Too early for any walk, on two tracks and on one. The slow type may use but one
+/// track there, and none back. Straight from 1 to 3, and back over A from 0 and 1: later departures are of no use. Passing B,
+/// or waiting there. With a halt at B: at once, after B and A were passed, or before. Halts at B and then at A, and the other
+/// way round.
+static GRAPHS: [(u32, Option<Minute>); 9] = [
+    (8, Some(0)),
+    (0, None),
+    (0, None),
+    (2, Some(0)),
+    (20, Some(0)),
+    (11, Some(1)),
+    (22, Some(0)),
+    (11, Some(0)),
+    (13, Some(0)),
+];
+
+/// Every arc is allowed, and adds nothing.
+#[derive(Clone, Copy)]
+struct Free;
+
+impl Weight for Free {
+    ghost use Rattle.std.specs.Prelude.{true, pos};
+
+    ghost asked = { λ _. 4294967296 };
+
+    ghost allows = { λ _ _. true };
+
+    ghost weight = { λ _ _. pos 0 };
+
+    fn allowed(&self, _arc: u32) -> bool {
+        true
+    }
+
+    fn of(&self, _arc: u32) -> i128 {
+        0
+    }
+}
+
+/// The walk of the first path.
+fn first_walk(alloc: Global, graph: &TimeGraph) -> Result<Option<Walk>, NoMemory> {
+    let dag = graph.dag();
+    let _arcs = dag.arcs();
+    let Some((_, path)) = first_best(alloc, dag, &Free)? else {
+        return Ok(None);
+    };
+    Ok(Some(graph.walk_of(alloc, &path)?))
+}
+
+fn check(
+    rt: &(impl Abort + AllocGlobal),
+    inst: Instance<'_>,
+    bid: &Bid,
+    graph: &TimeGraph,
+    want: (u32, Option<Minute>),
+) -> Result<(), NoMemory> {
+    let (arcs, departure) = want;
+    assert_eq!(rt; graph.dag().arcs(), arcs);
+    match first_walk(rt.alloc(), graph)? {
+        Some(walk) => {
+            assert!(rt; follows(inst.net, bid, &walk.legs));
+            assert_eq!(rt; walk.legs.first().map(|leg| leg.depart), departure);
+        }
+        None => assert_eq!(rt; departure, None),
+    }
+    Ok(())
+}
+
+/// Each bid has a graph of its own.
+fn check_built(rt: &(impl Abort + AllocGlobal), inst: Instance<'_>) -> Result<(), NoMemory>
+    requires { All (λ bid. IsPathOn inst.net.now bid.path) inst.bids.now }
+{
+    let mut builds = Builds::new();
+    for (bid, want) in inst.bids.iter().zip(&GRAPHS) {
+        let graph = build(rt.alloc(), inst.net, bid, &mut builds)?;
+        check(rt, inst, bid, &graph, *want)?;
+    }
+    assert_eq!(rt; builds.count(), 9);
+    Ok(())
+}
+
+/// Graphs that are served are those of the bids.
+fn check_served<G: Graphs>(
+    rt: &(impl Abort + AllocGlobal),
+    inst: Instance<'_>,
+    graphs: &mut G,
+) -> Result<(), NoMemory>
+    requires { All (λ bid. IsPathOn (G.network graphs.old) bid.path) inst.bids.now }
+{
+    graphs.prepare(rt.alloc(), inst.bids)?;
+    let mut place = 0;
+    for bid in inst.bids {
+        assert!(rt; place < GRAPHS.len());
+        check(rt, inst, bid, graphs.graph(bid), GRAPHS[place])?;
+        place += 1;
+    }
+    Ok(())
+}
+
+#[test]
+fn graphs_have_the_arcs_that_were_counted_by_hand(rt: HostRuntime) -> Result<(), Fail> {
+    let held = read(rt.alloc(), &BIDS)?;
+    let inst = Instance {
+        net: &held.net,
+        bids: &held.bids,
+    };
+    check_built(&rt, inst)?;
+    let mut graphs = FreshGraphs::new(inst.net);
+    check_served(&rt, inst, &mut graphs)?;
+    assert_eq!(rt; graphs.builds(), 9);
+    Ok(())
+}

@@ -1,0 +1,208 @@
+//! Real files and writers, of which no clause can say what they hold; puts on the shelf in memory; and the shelf and the pen
+//! that never fail.
+use optra_outside::{
+    FolderShelf, MemoryPen, MemoryShelf, NeverPen, NeverShelf, Pen, PenFailed, Shelf, ShelfError,
+    StdPen,
+};
+use optra_top::{run, run_without_faults};
+use std::alloc::Global;
+use std::io::{ErrorKind, Write};
+use std::process::Abort;
+use std::test::Fail;
+use std::{fs, io};
+
+fn expect_get<S: Shelf>(
+    rt: &impl Abort,
+    alloc: Global,
+    shelf: &mut S,
+    name: &str,
+    wanted: Result<&'static [u8], ShelfError>,
+) {
+    match (shelf.get(alloc, name), wanted) {
+        (Ok(bytes), Ok(held)) => assert_eq!(rt; bytes.as_slice(), held, "at {name}"),
+        (Err(refusal), Err(expected)) => assert_eq!(rt; refusal, expected, "at {name}"),
+        (Ok(_), Err(_)) | (Err(_), Ok(_)) => assert!(rt; false, "at {name}"),
+    }
+}
+
+fn expect_put<S: Shelf>(
+    rt: &impl Abort,
+    shelf: &mut S,
+    name: &str,
+    bytes: &[u8],
+    wanted: Result<(), ShelfError>,
+) {
+    assert_eq!(rt; shelf.put(name, bytes), wanted, "at {name}");
+}
+
+fn expect_write<P: Pen>(rt: &impl Abort, pen: &mut P, piece: &[u8], wanted: Result<(), PenFailed>) {
+    assert_eq!(rt; pen.write(piece), wanted);
+}
+
+#[test]
+fn a_file_that_was_put_is_got(rt: HostRuntime) -> Result<(), Fail> {
+    let alloc = rt.alloc();
+    let mut shelf = FolderShelf::new(&rt);
+    expect_put(&rt, &mut shelf, "plan.csv", b"first, and longer", Ok(()));
+    expect_put(&rt, &mut shelf, "plan.csv", b"revenue,1\n\x00\xff", Ok(()));
+    expect_get(
+        &rt,
+        alloc,
+        &mut shelf,
+        "plan.csv",
+        Ok(b"revenue,1\n\x00\xff"),
+    );
+    expect_put(&rt, &mut shelf, "empty.csv", b"", Ok(()));
+    expect_get(&rt, alloc, &mut shelf, "empty.csv", Ok(b""));
+    expect_get(&rt, alloc, &mut shelf, "none.csv", Err(ShelfError::Absent));
+    // A run that was cut off may have left it.
+    let _ = fs::create_dir(&rt, "folder");
+    expect_get(&rt, alloc, &mut shelf, "folder", Err(ShelfError::Failed));
+    expect_put(&rt, &mut shelf, "folder", b"1", Err(ShelfError::Failed));
+    fs::remove_dir(&rt, "folder")?;
+    fs::remove_file(&rt, "plan.csv")?;
+    fs::remove_file(&rt, "empty.csv")?;
+    Ok(())
+}
+
+// Takes up to four bytes a write, and fails its flush if asked to.
+#[derive(Drop)]
+struct Slow {
+    bytes: Vec<u8>,
+    flushes: u8,
+    takes: usize,
+    flush_fails: bool,
+}
+
+impl Write for Slow {
+    fn write(&mut self, buf: &[u8]) -> io::Result<usize> {
+        let taken = buf.len().min(self.takes);
+        self.bytes.extend_from_slice(&buf[..taken])?;
+        Ok(taken)
+    }
+
+    fn flush(&mut self) -> io::Result<()> {
+        self.flushes = self.flushes.saturating_add(1);
+        if self.flush_fails {
+            return Err(io::Error::from(ErrorKind::Other));
+        }
+        Ok(())
+    }
+}
+
+#[test]
+fn a_piece_is_written_whole_and_flushed(rt: HostRuntime) -> Result<(), Fail> {
+    let mut out = StdPen::new(rt.stdout());
+    expect_write(&rt, &mut out, b"a piece\n", Ok(()));
+    let mut slow = Slow {
+        bytes: Vec::new(rt.alloc()),
+        flushes: 0,
+        takes: 4,
+        flush_fails: false,
+    };
+    let mut pen = StdPen::new(&mut slow);
+    expect_write(&rt, &mut pen, b"revenue,1", Ok(()));
+    expect_write(&rt, &mut pen, b"", Ok(()));
+    drop(pen);
+    assert_eq!(rt; slow.bytes.as_slice(), b"revenue,1".as_slice());
+    assert_eq!(rt; slow.flushes, 1);
+    slow.flush_fails = true;
+    expect_write(&rt, &mut StdPen::new(&mut slow), b"x", Err(PenFailed));
+    slow.flush_fails = false;
+    slow.takes = 0;
+    expect_write(&rt, &mut StdPen::new(&mut slow), b"x", Err(PenFailed));
+    assert_eq!(rt; slow.bytes.as_slice(), b"revenue,1x".as_slice());
+    Ok(())
+}
+
+#[derive(Clone, Copy)]
+enum Call {
+    Put(&'static str, &'static [u8], Result<(), ShelfError>),
+    Get(&'static str, Result<&'static [u8], ShelfError>),
+    Load(&'static str, &'static [u8]),
+}
+
+// A file of four bytes and a name of one take 69 of the room, so two of them fill it.
+#[test]
+fn a_shelf_in_memory(rt: HostRuntime) -> Result<(), Fail> {
+    let alloc = rt.alloc();
+    let mut shelf = MemoryShelf::new(alloc, 4, 138, vec![in alloc; 5, 3]?)?;
+    let calls = [
+        Call::Put("a", b"1234", Ok(())),
+        Call::Get("a", Ok(b"1234")),
+        Call::Get("a", Err(ShelfError::Failed)),
+        Call::Load("long", b"12345"),
+        Call::Get("long", Err(ShelfError::TooLong)),
+        Call::Put("b", b"1234", Err(ShelfError::Failed)),
+        Call::Get("b", Err(ShelfError::Absent)),
+        Call::Put("b", b"12345", Err(ShelfError::Failed)),
+        Call::Put("b", b"5678", Ok(())),
+        Call::Put("", b"", Err(ShelfError::Failed)),
+        Call::Load("a", b"new"),
+        Call::Get("a", Ok(b"new")),
+        Call::Get("b", Ok(b"5678")),
+    ];
+    for call in calls {
+        match call {
+            Call::Put(name, bytes, wanted) => expect_put(&rt, &mut shelf, name, bytes, wanted),
+            Call::Get(name, wanted) => expect_get(&rt, alloc, &mut shelf, name, wanted),
+            Call::Load(name, bytes) => shelf.load(name, bytes)?,
+        }
+    }
+    Ok(())
+}
+
+/// The files of one bid, and the text of its plan.
+static FILES: [(&str, &str); 7] = [
+    ("net/stations.csv", "station\nA\nB\n"),
+    ("net/tracks.csv", "track,from,to\nab,A,B\n"),
+    ("net/types.csv", "type\nic\n"),
+    (
+        "net/running.csv",
+        "track,type,pass_pass,pass_halt,halt_pass,halt_halt\nab,ic,10,10,10,10\n",
+    ),
+    (
+        "net/headways.csv",
+        "track,first,second,minutes\nab,ic,ic,5\n",
+    ),
+    (
+        "bids.csv",
+        "bid,bidder,type,origin,destination,depart_from,depart_ideal,depart_to,arrive_from,arrive_ideal,arrive_to,base,early_depart,late_depart,early_arrive,late_arrive,travel,wait,wait_max\nb1,ann,ic,A,B,0,2,10,0,12,60,1000,10,20,0,0,0,0,0\n",
+    ),
+    (
+        "stops.csv",
+        "bid,station,min_dwell,max_dwell,arrive_from,arrive_to\n",
+    ),
+];
+
+const PLAN: &str =
+    "status,optimal\nrevenue,1000\nbound,1000\nnodes,1\ntrain,1,b1,ann,1000\nleg,ab,A,2,B,12,finish,0\n";
+
+fn words(alloc: Global) -> Result<Vec<String>, Fail> {
+    let mut words = Vec::new(alloc);
+    for word in "plan --net net --bids bids.csv --stops stops.csv".split(' ') {
+        words.push(String::from_str(alloc, word)?)?;
+    }
+    Ok(words)
+}
+
+#[test]
+fn nothing_fails_over_the_never_shelf(rt: HostRuntime) -> Result<(), Fail> {
+    let alloc = rt.alloc();
+    let words = words(alloc)?;
+    let mut shelf = NeverShelf::new(alloc, 1000);
+    assert_eq!(rt; run_without_faults(alloc, &words, &mut shelf), 6);
+    for (name, content) in &FILES {
+        shelf.load(name, content.as_bytes())?;
+    }
+    assert_eq!(rt; run_without_faults(alloc, &words, &mut shelf), 0);
+    let mut out = MemoryPen::new(alloc, 1000, Vec::new(alloc), 0)?;
+    let status = run(alloc, &words, &mut shelf, &mut out, &mut NeverPen::new());
+    assert_eq!(rt; status, 0);
+    assert_eq!(rt; out.bytes(), PLAN.as_bytes());
+    shelf.load("long", &[0; 1001])?;
+    expect_get(&rt, alloc, &mut shelf, "long", Err(ShelfError::TooLong));
+    expect_get(&rt, alloc, &mut shelf, "none", Err(ShelfError::Absent));
+    expect_put(&rt, &mut shelf, "c", b"1", Ok(()));
+    Ok(())
+}

@@ -1,0 +1,299 @@
+//! Dual values, price steps and the price path at two bids for one track, worked by hand. A train uses the five minutes from
+//! its departure on, so both bids of one minute pay five times the price of a minute, and only one of them can run.
+ghost use Rattle.std.specs.Prelude.{◌≡◌, IfOk, All, Contains, length};
+ghost use Rattle.optra_bid.specs.Instances.{IsInstance};
+ghost use Rattle.optra_node.specs.Nodes.{IsNode};
+ghost use Rattle.optra_prices.specs.Steps.{AreProper};
+ghost use Rattle.optra_rows.specs.Headways.{headway_rows};
+ghost use Rattle.optra_rows.specs.TouchedLemmas.{row_cmp};
+
+use crate::decisions::At::Halt;
+use crate::decisions::{AB, Decided, node_of};
+use crate::instances::{PLAIN, Rows, read};
+use optra_graph::{FreshGraphs, Graphs};
+use optra_network::{Cents, Minute, NoMemory};
+use optra_node::{Node, Prices};
+use optra_prices::deads::dead;
+use optra_prices::duals::dual;
+use optra_prices::{Dead, price_path, step};
+use optra_rows::{HRow, HeadwayRows};
+use optra_walk::{Instance, Walk};
+use std::alloc::Global;
+use std::process::Abort;
+use std::test::Fail;
+
+/// Two bids for minute 0 alone.
+static ONE_MINUTE: Rows = Rows {
+    bids: "b1,ann,ic,A,B,0,0,0,14,14,14,1000,0,0,0,0,0,0,0\nb2,ann,ic,A,B,0,0,0,14,14,14,1000,0,0,0,0,0,0,0\n",
+    ..PLAIN
+};
+
+/// Two bids for minute 0 or 1, which are worth as much.
+static TWO_MINUTES: Rows = Rows {
+    bids: "b1,ann,ic,A,B,0,0,1,14,14,15,1000,0,0,0,0,0,0,0\nb2,ann,ic,A,B,0,0,1,14,14,15,1000,0,0,0,0,0,0,0\n",
+    ..PLAIN
+};
+
+/// Two bids whose walk is worth 400 cents less than nothing.
+static AT_A_LOSS: Rows = Rows {
+    bids: "b1,ann,ic,A,B,0,0,0,14,14,14,1000,0,0,0,0,100,0,0\nb2,ann,ic,A,B,0,0,0,14,14,14,1000,0,0,0,0,100,0,0\n",
+    ..PLAIN
+};
+
+/// Decisions, why a node with them is dead, and what its dual value is at zero prices: the value, the departures of the
+/// replies and the terms.
+struct Case {
+    decisions: &'static [Decided],
+    dead: Option<Dead<HRow>>,
+    value: i128,
+    departures: [Option<Minute>; 2],
+    terms: [i128; 2],
+}
+
+const MINUTE_0: HRow = HRow::Window {
+    track: AB,
+    minute: 0,
+};
+
+static ONE_MINUTE_CASES: [Case; 6] = [
+    Case {
+        decisions: &[],
+        dead: None,
+        value: 2_000_000,
+        departures: [Some(0), Some(0)],
+        terms: [1_000_000, 1_000_000],
+    },
+    // The rows of the yes leg are full, so the other bid's leg is blocked.
+    Case {
+        decisions: &[(0, Halt(0), true)],
+        dead: None,
+        value: 1_000_000,
+        departures: [Some(0), None],
+        terms: [1_000_000, 0],
+    },
+    Case {
+        decisions: &[(0, Halt(0), false), (1, Halt(0), false)],
+        dead: None,
+        value: 0,
+        departures: [None, None],
+        terms: [0, 0],
+    },
+    // A yes leg that no walk has.
+    Case {
+        decisions: &[(0, Halt(0), false), (0, Halt(1), true)],
+        dead: Some(Dead::NoWalk { bid: 0 }),
+        value: 0,
+        departures: [None, None],
+        terms: [0, 0],
+    },
+    Case {
+        decisions: &[(1, Halt(1), true)],
+        dead: Some(Dead::NoWalk { bid: 1 }),
+        value: 0,
+        departures: [None, None],
+        terms: [0, 0],
+    },
+    Case {
+        decisions: &[(0, Halt(0), true), (1, Halt(0), true)],
+        dead: Some(Dead::Forced { row: MINUTE_0 }),
+        value: 0,
+        departures: [None, None],
+        terms: [0, 0],
+    },
+];
+
+static TWO_MINUTES_CASES: [Case; 2] = [
+    Case {
+        decisions: &[],
+        dead: None,
+        value: 2_000_000,
+        departures: [Some(0), Some(0)],
+        terms: [1_000_000, 1_000_000],
+    },
+    Case {
+        decisions: &[(1, Halt(0), false)],
+        dead: None,
+        value: 2_000_000,
+        departures: [Some(0), Some(1)],
+        terms: [1_000_000, 1_000_000],
+    },
+];
+
+static AT_A_LOSS_CASES: [Case; 2] = [
+    Case {
+        decisions: &[],
+        dead: None,
+        value: 0,
+        departures: [None, None],
+        terms: [0, 0],
+    },
+    Case {
+        decisions: &[(1, Halt(0), true)],
+        dead: None,
+        value: -400_000,
+        departures: [None, Some(0)],
+        terms: [0, -400_000],
+    },
+];
+
+/// The departure of a reply.
+fn departure(reply: Option<&Option<Walk>>) -> Option<Minute> {
+    let walk = reply?.as_ref()?;
+    walk.legs.first().map(|leg| leg.depart)
+}
+
+fn check_departures(rt: &impl Abort, replies: &[Option<Walk>], want: &[Option<Minute>]) {
+    assert_eq!(rt; replies.len(), want.len());
+    for (k, minute) in want.iter().enumerate() {
+        assert_eq!(rt; departure(replies.get(k)), *minute);
+    }
+}
+
+fn check_case<G: Graphs>(
+    rt: &(impl Abort + AllocGlobal),
+    inst: Instance<'_>,
+    graphs: &G,
+    case: &Case,
+) -> Result<(), NoMemory>
+    requires instance { IsInstance inst.net.now inst.bids.now }
+    requires network { G.network graphs.now ≡ inst.net.now }
+    requires held { All (λ bid. Contains (G.held graphs.now) bid.path) inst.bids.now }
+{
+    let alloc = rt.alloc();
+    let rows = HeadwayRows::new();
+    let node = node_of(rt, inst, case.decisions)?;
+    assert_eq!(rt; dead(alloc, inst, graphs, &rows, &node)?, case.dead);
+    let zero = Prices {
+        entries: Vec::new(alloc),
+    };
+    let found = dual(alloc, inst, graphs, &rows, &node, &zero)?;
+    assert_eq!(rt; found.value, case.value);
+    assert_eq!(rt; found.terms.as_slice(), case.terms.as_slice());
+    check_departures(rt, &found.replies, &case.departures);
+    Ok(())
+}
+
+fn check_cases(rt: &(impl Abort + AllocGlobal), rows: &Rows, cases: &[Case]) -> Result<(), Fail> {
+    let held = read(rt.alloc(), rows)?;
+    let inst = Instance {
+        net: &held.net,
+        bids: &held.bids,
+    };
+    let mut graphs = FreshGraphs::new(inst.net);
+    graphs.prepare(rt.alloc(), inst.bids)?;
+    for case in cases {
+        check_case(rt, inst, &graphs, case)?;
+    }
+    Ok(())
+}
+
+#[test]
+fn a_node_has_a_dual_value_or_is_dead(rt: HostRuntime) -> Result<(), Fail> {
+    check_cases(&rt, &ONE_MINUTE, &ONE_MINUTE_CASES)?;
+    check_cases(&rt, &TWO_MINUTES, &TWO_MINUTES_CASES)?;
+    check_cases(&rt, &AT_A_LOSS, &AT_A_LOSS_CASES)
+}
+
+/// The price of each minute after steps 0 to 14 from zero prices: up while both bids reply, and down while none does.
+static STEP_PRICES: [i64; 15] = [
+    250000, 125000, 208333, 145833, 195833, 237499, 201785, 170535, 198312, 223312, 200585, 179752,
+    198982, 216839, 200173,
+];
+
+/// The prices after a step by the replies at the prices before it.
+fn stepped<G: Graphs>(
+    alloc: Global,
+    inst: Instance<'_>,
+    graphs: &G,
+    node: &Node,
+    prices: &Prices<HRow>,
+    k: u32,
+) -> Result<Prices<HRow>, NoMemory>
+    requires instance { IsInstance inst.net.now inst.bids.now }
+    requires node { IsNode inst.net.now (length inst.bids.now) node.now }
+    requires network { G.network graphs.now ≡ inst.net.now }
+    requires held { All (λ bid. Contains (G.held graphs.now) bid.path) inst.bids.now }
+    requires prices { AreProper row_cmp (headway_rows inst.net.now) prices.now }
+    ensures { IfOk result (λ next. AreProper row_cmp (headway_rows inst.entry.net.now) next) }
+{
+    let rows = HeadwayRows::new();
+    let before = dual(alloc, inst, graphs, &rows, node, prices)?;
+    let next = step(alloc, inst, &rows, prices, &before.replies, k)?;
+    Ok(next)
+}
+
+/// Whether the prices are those of the minutes 0 to 4 at one price.
+fn check_prices(rt: &impl Abort, prices: &Prices<HRow>, want: i64) {
+    assert_eq!(rt; prices.entries.len(), 5);
+    for (minute, entry) in prices.entries.iter().enumerate() {
+        let row = HRow::Window {
+            track: AB,
+            minute: minute as u16,
+        };
+        assert_eq!(rt; *entry, (row, want));
+    }
+}
+
+fn check_steps<G: Graphs>(
+    rt: &(impl Abort + AllocGlobal),
+    inst: Instance<'_>,
+    graphs: &G,
+) -> Result<(), NoMemory>
+    requires instance { IsInstance inst.net.now inst.bids.now }
+    requires network { G.network graphs.now ≡ inst.net.now }
+    requires held { All (λ bid. Contains (G.held graphs.now) bid.path) inst.bids.now }
+{
+    let alloc = rt.alloc();
+    let root = Node::root(alloc);
+    let mut prices = Prices {
+        entries: Vec::new(alloc),
+    };
+    for k in 0..15 {
+        prices = stepped(alloc, inst, graphs, &root, &prices, k)?;
+        check_prices(rt, &prices, STEP_PRICES[k as usize]);
+    }
+    let last = dual(alloc, inst, graphs, &HeadwayRows::new(), &root, &prices)?;
+    assert_eq!(rt; last.value, 5 * 200173);
+    check_departures(rt, &last.replies, &[None, None]);
+    Ok(())
+}
+
+/// The price path of at most 15 steps from zero prices, whose last prices are too high for either bid.
+fn check_result<G: Graphs>(
+    rt: &(impl Abort + AllocGlobal),
+    inst: Instance<'_>,
+    graphs: &G,
+    incumbent: Cents,
+    want: i64,
+) -> Result<(), NoMemory>
+    requires instance { IsInstance inst.net.now inst.bids.now }
+    requires network { G.network graphs.now ≡ inst.net.now }
+    requires held { All (λ bid. Contains (G.held graphs.now) bid.path) inst.bids.now }
+{
+    let alloc = rt.alloc();
+    let rows = HeadwayRows::new();
+    let root = Node::root(alloc);
+    let zero = Prices {
+        entries: Vec::new(alloc),
+    };
+    let found = price_path(alloc, inst, graphs, &rows, &root, &zero, 15, incumbent)?;
+    check_prices(rt, &found.prices, want);
+    assert_eq!(rt; found.dual.value, 5 * i128::from(want));
+    Ok(())
+}
+
+/// The steps one by one; and the path, which goes on to the last step, or ends after the first one.
+#[test]
+fn prices_rise_and_fall_by_the_replies(rt: HostRuntime) -> Result<(), Fail> {
+    let held = read(rt.alloc(), &ONE_MINUTE)?;
+    let inst = Instance {
+        net: &held.net,
+        bids: &held.bids,
+    };
+    let mut graphs = FreshGraphs::new(inst.net);
+    graphs.prepare(rt.alloc(), inst.bids)?;
+    check_steps(&rt, inst, &graphs)?;
+    check_result(&rt, inst, &graphs, 0, 200173)?;
+    check_result(&rt, inst, &graphs, 1250, 250000)?;
+    Ok(())
+}

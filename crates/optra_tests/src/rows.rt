@@ -1,0 +1,304 @@
+//! Rows of headways, loads of rows, and two families together, at values worked by hand.
+ghost use Rattle.std.specs.Prelude.{◌≡◌, IfOk};
+ghost use Rattle.optra_rows.specs.declared.HRow.{HRow};
+ghost use Rattle.optra_rows.specs.Headways.{use_in};
+ghost use Rattle.optra_rows.specs.Loads.{total_of};
+ghost use Rattle.optra_rows.specs.TouchedLemmas.{row_cmp};
+
+use crate::decisions::AB;
+use crate::instances::{PAIRS, PLAIN, Rows, read};
+use optra_network::{Network, NoMemory, TrackId, TrackUse, TypeId, conflict};
+use optra_rows::HRow::{Pair, Window};
+use optra_rows::{Both, Either, HRow, HeadwayRows, Load};
+use optra_walk::{Action, Leg, RowFamily};
+use std::alloc::Global;
+use std::process::Abort;
+use std::test::Fail;
+
+const X: TypeId = TypeId(0);
+
+const Y: TypeId = TypeId(1);
+
+const Z: TypeId = TypeId(2);
+
+/// Headways of two types that differ both ways.
+static TWO_TYPES: Rows = Rows {
+    types: "x\ny\n",
+    running: "ab,x,5,5,5,5\nab,y,5,5,5,5\n",
+    headways: "ab,x,x,2\nab,x,y,7\nab,y,x,3\nab,y,y,5\n",
+    ..PLAIN
+};
+
+/// The last leg of a train, which departs on the track at a minute.
+fn leg(depart: u16) -> Leg
+    ensures track { result.track ≡ AB }
+    ensures depart { result.depart ≡ depart }
+    ensures finish { result.action ≡ Action.Finish }
+{
+    Leg {
+        track: AB,
+        depart,
+        from_halt: true,
+        action: Action::Finish,
+    }
+}
+
+/// The row at a place of those that a type uses which departs at a minute.
+fn touched(rt: &impl Abort, net: &Network, kind: TypeId, depart: u16, k: u32) -> Option<HRow> {
+    assert!(rt; depart <= 2879);
+    assert!(rt; net.run(AB, kind, false, false).is_some());
+    HeadwayRows::new().touched(net, kind, leg(depart), k)
+}
+
+fn used(rt: &impl Abort, net: &Network, kind: TypeId, depart: u16, row: HRow) -> u32 {
+    assert!(rt; depart <= 2879);
+    assert!(rt; net.run(AB, kind, false, false).is_some());
+    HeadwayRows::new().leg_use(net, kind, leg(depart), row)
+}
+
+/// A row of the track: a minute, or two uses by minute and type.
+#[derive(Clone, Copy, Debug)]
+enum Case {
+    At(u16),
+    Two(u16, TypeId, u16, TypeId),
+}
+
+use Case::{At, Two};
+
+fn row_of(case: Case) -> HRow {
+    match case {
+        At(minute) => Window { track: AB, minute },
+        Two(first_at, first, second_at, second) => Pair {
+            track: AB,
+            first_at,
+            first,
+            second_at,
+            second,
+        },
+    }
+}
+
+/// The uses of a row by x at 0, y at 3 and z at 6, of which every two are in conflict and none share a window minute.
+static USES: [(Case, [u32; 3]); 8] = [
+    (Two(0, X, 3, Y), [1, 1, 0]),
+    (Two(3, Y, 6, Z), [0, 1, 1]),
+    (Two(0, X, 6, Z), [1, 0, 1]),
+    (Two(3, Y, 0, X), [0, 0, 0]),
+    (At(0), [1, 0, 0]),
+    (At(1), [0, 0, 0]),
+    (At(3), [0, 1, 0]),
+    (At(6), [0, 0, 1]),
+];
+
+#[test]
+fn three_uses_have_three_pair_rows_and_no_common_window(rt: HostRuntime) -> Result<(), Fail> {
+    let net = read(rt.alloc(), &PAIRS)?.net;
+    for (case, uses) in &USES {
+        let row = row_of(*case);
+        assert_eq!(rt; used(&rt, &net, X, 0, row), uses[0], "x at {case:?}");
+        assert_eq!(rt; used(&rt, &net, Y, 3, row), uses[1], "y at {case:?}");
+        assert_eq!(rt; used(&rt, &net, Z, 6, row), uses[2], "z at {case:?}");
+    }
+    Ok(())
+}
+
+/// The rows of a type's use by place: in the day, at its first minutes, and at its last one.
+static TOUCHED: [(TypeId, u16, u32, Option<Case>); 18] = [
+    (X, 0, 0, Some(At(0))),
+    (X, 0, 1, Some(Two(0, X, 1, Y))),
+    (X, 0, 2, Some(Two(0, X, 1, Z))),
+    (X, 0, 9, Some(Two(0, X, 6, Z))),
+    (X, 0, 10, None),
+    (Y, 3, 0, Some(At(3))),
+    (Y, 3, 1, Some(Two(0, X, 3, Y))),
+    (Y, 3, 3, Some(Two(2, X, 3, Y))),
+    (Y, 3, 4, Some(Two(3, Y, 4, Z))),
+    (Y, 3, 7, None),
+    (Y, 1, 1, Some(Two(0, X, 1, Y))),
+    (Y, 1, 2, Some(Two(1, Y, 2, Z))),
+    (Y, 1, 5, None),
+    (Y, 2879, 0, Some(At(2879))),
+    (Y, 2879, 1, Some(Two(2876, X, 2879, Y))),
+    (Y, 2879, 3, Some(Two(2878, X, 2879, Y))),
+    (Y, 2879, 4, None),
+    (Y, 2879, 8192, None),
+];
+
+#[test]
+fn rows_are_listed_in_their_order_and_end_with_the_day(rt: HostRuntime) -> Result<(), Fail> {
+    let net = read(rt.alloc(), &PAIRS)?.net;
+    for (kind, depart, k, case) in &TOUCHED {
+        let row = case.map(row_of);
+        assert_eq!(rt; touched(&rt, &net, *kind, *depart, *k), row, "{depart} {k}");
+    }
+    Ok(())
+}
+
+/// Values that are rows, and values that are none.
+static ROWS: [(Case, bool); 7] = [
+    (At(0), true),
+    (At(2998), true),
+    (At(2999), false),
+    (Two(0, X, 3, Y), true),
+    (Two(0, X, 4, Y), false),
+    (Two(2876, X, 2879, Y), true),
+    (Two(2877, X, 2880, Y), false),
+];
+
+#[test]
+fn rows_are_minutes_and_pairs(rt: HostRuntime) -> Result<(), Fail> {
+    let net = read(rt.alloc(), &PAIRS)?.net;
+    for (case, expected) in &ROWS {
+        let row = row_of(*case);
+        assert_eq!(rt; HeadwayRows::new().is_row(&net, row), *expected, "{case:?}");
+    }
+    let elsewhere = Window {
+        track: TrackId(1),
+        minute: 0,
+    };
+    assert!(rt; !HeadwayRows::new().is_row(&net, elsewhere));
+    Ok(())
+}
+
+/// Whether x at 100 and y at a minute share a row.
+fn share(rt: &impl Abort, net: &Network, depart: u16) -> bool {
+    for k in 0..8192 {
+        match touched(rt, net, X, 100, k) {
+            Some(row) => {
+                if used(rt, net, Y, depart, row) > 0 {
+                    return true;
+                }
+            }
+            None => return false,
+        }
+    }
+    false
+}
+
+/// Whether x at 100 and y at a minute are in conflict.
+fn meet(rt: &impl Abort, net: &Network, depart: u16) -> bool {
+    assert!(rt; net.run(AB, X, false, false).is_some());
+    assert!(rt; net.run(AB, Y, false, false).is_some());
+    let x = TrackUse {
+        track: AB,
+        kind: X,
+        time: 100,
+    };
+    let y = TrackUse {
+        track: AB,
+        kind: Y,
+        time: depart,
+    };
+    conflict(net, x, y)
+}
+
+#[test]
+fn uses_share_a_row_exactly_where_they_are_in_conflict(rt: HostRuntime) -> Result<(), Fail> {
+    let net = read(rt.alloc(), &TWO_TYPES)?.net;
+    for depart in 92..=108 {
+        let expected = depart > 97 && depart < 107;
+        assert_eq!(rt; share(&rt, &net, depart), expected, "rows at {depart}");
+        assert_eq!(rt; meet(&rt, &net, depart), expected, "conflict at {depart}");
+    }
+    Ok(())
+}
+
+/// Whether a type that departs at a minute fits.
+fn fits(
+    rt: &impl Abort,
+    load: &Load<HeadwayRows>,
+    net: &Network,
+    kind: TypeId,
+    depart: u16,
+) -> bool {
+    assert!(rt; depart <= 2879);
+    assert!(rt; net.run(AB, kind, false, false).is_some());
+    load.fits(net, &HeadwayRows::new(), kind, leg(depart))
+}
+
+/// A load of x at 0 alone.
+fn loaded(rt: &impl Abort, alloc: Global, net: &Network) -> Result<Load<HeadwayRows>, NoMemory>
+    ensures { IfOk result (λ load. (row : HRow) → total_of row_cmp load.totals row ≡ use_in net.now X AB 0 row) }
+{
+    assert!(rt; net.run(AB, X, false, false).is_some());
+    let mut load = Load::new(alloc);
+    load.add(net, &HeadwayRows::new(), X, leg(0))?;
+    Ok(load)
+}
+
+/// Takes x at 0 away again.
+fn unload(rt: &impl Abort, net: &Network, load: &mut Load<HeadwayRows>)
+    requires { (row : HRow) → total_of row_cmp load.old.totals row ≡ use_in net.now X AB 0 row }
+{
+    assert!(rt; net.run(AB, X, false, false).is_some());
+    load.take(net, &HeadwayRows::new(), X, leg(0));
+}
+
+#[test]
+fn a_row_takes_one_use_and_no_more(rt: HostRuntime) -> Result<(), Fail> {
+    let net = read(rt.alloc(), &PAIRS)?.net;
+    let mut load = loaded(&rt, rt.alloc(), &net)?;
+    assert!(rt; !fits(&rt, &load, &net, X, 0));
+    assert!(rt; !fits(&rt, &load, &net, Y, 3));
+    assert!(rt; fits(&rt, &load, &net, Y, 4));
+    unload(&rt, &net, &mut load);
+    assert!(rt; fits(&rt, &load, &net, X, 0));
+    assert!(rt; fits(&rt, &load, &net, Y, 3));
+    Ok(())
+}
+
+fn doubled() -> Both<HeadwayRows, HeadwayRows> {
+    Both::new(HeadwayRows::new(), HeadwayRows::new())
+}
+
+/// The row of both families at a place of those that x uses which departs at 0.
+fn touched_of_both(rt: &impl Abort, net: &Network, k: u32) -> Option<Either<HRow, HRow>> {
+    assert!(rt; net.run(AB, X, false, false).is_some());
+    doubled().touched(net, X, leg(0), k)
+}
+
+#[test]
+fn the_rows_of_the_second_family_come_after_the_first(rt: HostRuntime) -> Result<(), Fail> {
+    let net = read(rt.alloc(), &PAIRS)?.net;
+    let first = Either::First(row_of(At(0)));
+    let second = Either::Second(row_of(Two(0, X, 6, Z)));
+    assert_eq!(rt; touched_of_both(&rt, &net, 0), Some(first));
+    assert_eq!(rt; touched_of_both(&rt, &net, 19), Some(second));
+    assert_eq!(rt; touched_of_both(&rt, &net, 20), None);
+    assert!(rt; first < second);
+    assert!(rt; doubled().is_row(&net, second));
+    assert_eq!(rt; doubled().cap(&net, second), 1);
+    Ok(())
+}
+
+/// A leg by which a train that passed the tail passes the head.
+fn passing(depart: u16) -> Leg
+    ensures track { result.track ≡ AB }
+    ensures depart { result.depart ≡ depart }
+    ensures pass { result.action ≡ Action.Pass }
+{
+    Leg {
+        track: AB,
+        depart,
+        from_halt: false,
+        action: Action::Pass,
+    }
+}
+
+/// Whether a family says that legs of x which depart at two minutes, one of which ends the walk, use the same.
+fn alike<F: RowFamily>(rt: &impl Abort, net: &Network, rows: &F, first: u16, second: u16) -> bool {
+    assert!(rt; first <= 2879);
+    assert!(rt; second <= 2879);
+    assert!(rt; net.run(AB, X, false, false).is_some());
+    rows.use_alike(net, X, leg(first), passing(second))
+}
+
+#[test]
+fn legs_that_enter_a_track_at_one_minute_use_alike(rt: HostRuntime) -> Result<(), Fail> {
+    let net = read(rt.alloc(), &PAIRS)?.net;
+    assert!(rt; alike(&rt, &net, &HeadwayRows::new(), 5, 5));
+    assert!(rt; !alike(&rt, &net, &HeadwayRows::new(), 5, 6));
+    assert!(rt; alike(&rt, &net, &doubled(), 5, 5));
+    assert!(rt; !alike(&rt, &net, &doubled(), 6, 5));
+    Ok(())
+}
