@@ -2,4 +2,8 @@
 pub mod WriteLemmas
 pub mod NameLemmas
 pub mod BothReads
+pub mod FieldLemmas
+pub mod StepLemmas
+pub mod VersionLemmas
+pub mod TextLemmas
 pub mod Examples
