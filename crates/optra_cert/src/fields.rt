@@ -152,30 +152,30 @@ pub fn row_in<F: RowText>(
 /// Copies so many fields behind the first into the first cells, of which some may be there.
 pub fn fill(
     alloc: Global,
-    cells: &mut Vec<Cell>,
-    record: &ByteRecord,
+    buffer: &mut Vec<Cell>,
+    cells: &ByteRecord,
     count: usize,
 ) -> Result<(), NoMemory>
-    requires { count + 1 ≤ length (fields_of record.now) }
-    ensures there { OnOk result (count ≤ length cells.new.items) }
-    ensures same { OnOk result (take count cells.new.items ≡ take count (drop 1 (fields_of record.now))) }
+    requires { count + 1 ≤ length (fields_of cells.now) }
+    ensures there { OnOk result (count ≤ length buffer.new.items) }
+    ensures same { OnOk result (take count buffer.new.items ≡ take count (drop 1 (fields_of cells.now))) }
 {
     'fields: for k in 0..count {
-        put(alloc, cells, k, field(record, k + 1))?;
+        put(alloc, buffer, k, field(cells, k + 1))?;
     }
     Ok(())
 }
 
 /// Puts bytes into the cell at a place, which is there or comes next.
-fn put(alloc: Global, cells: &mut Vec<Cell>, k: usize, bytes: &[u8]) -> Result<(), NoMemory>
-    requires { k ≤ length cells.old.items }
-    ensures there { OnOk result (k + 1 ≤ length cells.new.items) }
-    ensures same { OnOk result (take (k + 1) cells.new.items ≡ take k cells.old.items ++ bytes.now ∷ []) }
+fn put(alloc: Global, buffer: &mut Vec<Cell>, k: usize, bytes: &[u8]) -> Result<(), NoMemory>
+    requires { k ≤ length buffer.old.items }
+    ensures there { OnOk result (k + 1 ≤ length buffer.new.items) }
+    ensures same { OnOk result (take (k + 1) buffer.new.items ≡ take k buffer.old.items ++ bytes.now ∷ []) }
 {
-    if k < cells.len() {
-        cells[k].set(bytes)?;
+    if k < buffer.len() {
+        buffer[k].set(bytes)?;
     } else {
-        cells.push(Cell::new(alloc, bytes)?)?;
+        buffer.push(Cell::new(alloc, bytes)?)?;
     }
     Ok(())
 }

@@ -5,6 +5,6 @@ use Rattle.optra_cert.proofs.fields.fill.Given as goal
 
 abbrev pub invariant-fields : goal.invariant-fields
 invariant-fields l = record {
-  there : l.k ≤ length l.cells.items;
-  same : take l.k l.cells.items ≡ take l.k (drop 1 (fields_of l.record));
+  there : l.k ≤ length l.buffer.items;
+  same : take l.k l.buffer.items ≡ take l.k (drop 1 (fields_of l.cells));
 }

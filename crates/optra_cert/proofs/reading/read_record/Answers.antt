@@ -7,8 +7,8 @@ use Rattle.optra_cert.proofs.reading.read_record.Goals as goal
 
 pub read_forced-requires-clause-some : goal.read_forced-requires-clause-some
 read_forced-requires-clause-some g c =
-    has_field (fields_of c.args.record.now) c.in-Some.word (sym (c.word_named.ensures ∙ ap word_named c.field.ensures) ∙ c.in-Some.is)
+    has_field (fields_of c.args.cells.now) c.in-Some.word (sym (c.word_named.ensures ∙ ap word_named c.field.ensures) ∙ c.in-Some.is)
 
 pub read_price-requires-clause-some : goal.read_price-requires-clause-some
 read_price-requires-clause-some g c =
-    has_field (fields_of c.args.record.now) c.in-Some.word (sym (c.word_named.ensures ∙ ap word_named c.field.ensures) ∙ c.in-Some.is)
+    has_field (fields_of c.args.cells.now) c.in-Some.word (sym (c.word_named.ensures ∙ ap word_named c.field.ensures) ∙ c.in-Some.is)

@@ -11,10 +11,10 @@ use Rattle.optra_cert.proofs.reading.version_in.Goals as goal
 
 pub returns-clause-version : goal.returns-clause-version
 returns-clause-version c =
-    let long : length (fields_of c.args.record.now) ≡ 2 = omega (arith, c.len.ensures, c.if-len-ne2.false) in
+    let long : length (fields_of c.args.cells.now) ≡ 2 = omega (arith, c.len.ensures, c.if-len-ne2.false) in
     let is = sym (c.is_certificate.ensures ∙ ap (λ (f : Field). bytes_eq f (codes "optra-certificate")) c.field.ensures) ∙ c.if-not-is_certificate.false in
-    let two = version_two c.args.most (fields_of c.args.record.now) long is in
-    let told : c.number_in.result ≡ in_range 1 c.args.most (plain_number_of (field_at (fields_of c.args.record.now) 1)) =
+    let two = version_two c.args.most (fields_of c.args.cells.now) long is in
+    let told : c.number_in.result ≡ in_range 1 c.args.most (plain_number_of (field_at (fields_of c.args.cells.now) 1)) =
     c.number_in.ensures ∙ rw (c.from.ensures, c.field-2.ensures) refl in
     let some = c.in_ok-version.was in
     sym some ∙ told ∙ sym two
