@@ -9,5 +9,8 @@ pub mod BothLemmas
 pub mod Certs
 pub mod CertTexts
 pub mod Faults
+pub mod Drafts
+pub mod Outcomes
+pub mod Steps
 pub mod CertLaws
 pub mod Writables

@@ -1,5 +1,5 @@
 //! A field of a row.
-ghost use Rattle.std.specs.Prelude.{◌≡◌, IfOk};
+ghost use Rattle.std.specs.Prelude.{◌≡◌, IfOk, OnOk};
 
 use optra_network::NoMemory;
 use std::alloc::Global;
@@ -34,5 +34,14 @@ impl Cell {
         ensures { result.now ≡ self.now }
     {
         &self.kept
+    }
+
+    /// Puts these bytes in place of its own, and keeps the memory.
+    pub(crate) fn set(&mut self, bytes: &[u8]) -> Result<(), NoMemory>
+        ensures { OnOk result (self.new ≡ bytes.now) }
+    {
+        self.kept.clear();
+        self.kept.extend_from_slice(bytes)?;
+        Ok(())
     }
 }

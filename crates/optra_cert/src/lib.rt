@@ -5,15 +5,19 @@
 use optra_network::Cents;
 use optra_node::Item;
 use optra_walk::Choice;
+use std::alloc::AllocError;
 use std::marker::Model;
 
 mod cell;
 mod columns;
+mod draft;
+mod fields;
 mod headways;
 mod joining;
 mod laws;
 mod reading;
 mod row_text;
+mod words;
 mod writing;
 
 pub use cell::Cell;
@@ -76,4 +80,15 @@ pub enum CertError {
     Fault(CertFault),
     /// Memory couldn't be had.
     NoMemory,
+}
+
+impl From<AllocError> for CertError {
+    ghost use Rattle.std.specs.Prelude.{◌≡◌};
+    ghost use Rattle.optra_cert.specs.declared.CertError.TheVariants.{NoMemory};
+
+    ghost from_gives = { λ _ e. e ≡ NoMemory };
+
+    fn from(_error: AllocError) -> CertError {
+        CertError::NoMemory
+    }
 }
