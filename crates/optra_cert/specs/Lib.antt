@@ -1,4 +1,4 @@
--- The certificate's text: rows, the parts that are written, the records, and the first fault.
+-- The certificate's text: rows, the parts that are written, and the records.
 pub mod Columns
 pub mod RowTexts
 pub mod ListLemmas
@@ -8,9 +8,4 @@ pub mod Boths
 pub mod BothLemmas
 pub mod Certs
 pub mod CertTexts
-pub mod Faults
-pub mod Drafts
-pub mod Outcomes
-pub mod Steps
-pub mod CertLaws
 pub mod Writables

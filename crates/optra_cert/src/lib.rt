@@ -1,28 +1,21 @@
-//! The text of certificates: how rows are told in fields, a certificate's text, and its reader, which gives the
-//! certificate or the first fault.
+//! The text of certificates: how rows are told in fields, and a certificate's text. A valid certificate can be written.
 #![tactic(auto)]
 
 use optra_network::Cents;
 use optra_node::Item;
 use optra_walk::Choice;
-use std::alloc::AllocError;
 use std::marker::Model;
 
 mod cell;
 mod columns;
-mod draft;
-mod fields;
 mod headways;
 mod joining;
 mod laws;
-mod reading;
 mod row_text;
-mod words;
 mod writing;
 
 pub use cell::Cell;
 pub use laws::valid_is_writable;
-pub use reading::read_certificate;
 pub use row_text::{RowRead, RowText};
 pub use writing::write_certificate;
 
@@ -48,7 +41,7 @@ impl<R> Model for Certificate<R> {
     ghost view = { λ a. record { revenue = a.revenue; bound = a.bound; choice = a.choice; tree = a.tree.items } };
 }
 
-/// What is wrong with bytes that are no certificate's text, in the order of the tests.
+/// What can be wrong with bytes that are no certificate's text, in the order of the tests.
 #[derive(Clone, Copy, Debug, PartialEq, Eq)]
 pub enum CertCode {
     /// C1: the bytes aren't records as they are printed.
@@ -63,32 +56,4 @@ pub enum CertCode {
     Number,
     /// C6: a record isn't in order, or the tree ends too early or too late.
     Order,
-}
-
-/// The first fault of bytes.
-#[derive(Clone, Copy, Debug, PartialEq, Eq)]
-pub struct CertFault {
-    pub code: CertCode,
-    /// The place of the record from 1, and 0 for the bytes as a whole.
-    pub row: u64,
-}
-
-/// Why no certificate was read.
-#[derive(Clone, Copy, Debug, PartialEq, Eq)]
-pub enum CertError {
-    /// The first fault.
-    Fault(CertFault),
-    /// Memory couldn't be had.
-    NoMemory,
-}
-
-impl From<AllocError> for CertError {
-    ghost use Rattle.std.specs.Prelude.{◌≡◌};
-    ghost use Rattle.optra_cert.specs.declared.CertError.TheVariants.{NoMemory};
-
-    ghost from_gives = { λ _ e. e ≡ NoMemory };
-
-    fn from(_error: AllocError) -> CertError {
-        CertError::NoMemory
-    }
 }
