@@ -1,7 +1,7 @@
 //! The commands over shelves and pens in memory: worked cases, each with the tables that differ from a small network with
 //! one bid, and what must come.
-use crate::{run, run_without_faults};
-use optra_outside::{MemoryPen, MemoryShelf, NeverPen, NeverShelf};
+use crate::run;
+use optra_outside::{MemoryDisk, MemoryPen, MemoryShelf, NeverPen, NeverShelf};
 use std::alloc::{AllocError, Global};
 use std::process::Abort;
 use std::test::Fail;
@@ -604,6 +604,11 @@ fn pen(alloc: Global, failing_write: u64, keep: u64) -> Result<MemoryPen, AllocE
     MemoryPen::new(alloc, 1000, vec![in alloc; failing_write]?, keep)
 }
 
+// A disk that no case calls.
+fn disk(alloc: Global) -> Result<MemoryDisk, Fail> {
+    Ok(MemoryDisk::new(alloc, 0, Vec::new(alloc))?)
+}
+
 // That an output is as the case says.
 fn check_out(rt: &(impl Abort + AllocGlobal), case: &Case, out: &[u8]) -> Result<(), Fail> {
     let Some((end, lines)) = case.end else {
@@ -629,7 +634,14 @@ fn run_case(rt: &(impl Abort + AllocGlobal), case: &Case) -> Result<(), Fail> {
         let mut shelf = shelf(alloc, case)?;
         let mut out = pen(alloc, case.failing_write, case.keep)?;
         let mut err = pen(alloc, failing_write, 4)?;
-        let status = run(alloc, &words, &mut shelf, &mut out, &mut err);
+        let status = run(
+            alloc,
+            &words,
+            &mut shelf,
+            &mut out,
+            &mut err,
+            &mut disk(alloc)?,
+        );
         assert_eq!(rt; status, case.status, "{}", case.name);
         check_out(rt, case, out.bytes())?;
         assert!(rt;
@@ -739,7 +751,14 @@ fn more_walks_than_could_be_listed(rt: HostRuntime) -> Result<(), Fail> {
     let mut shelf = shelf(alloc, &WIDE)?;
     let mut out = MemoryPen::new(alloc, 100_000, Vec::new(alloc), 0)?;
     let mut err = pen(alloc, 0, 0)?;
-    let status = run(alloc, &words, &mut shelf, &mut out, &mut err);
+    let status = run(
+        alloc,
+        &words,
+        &mut shelf,
+        &mut out,
+        &mut err,
+        &mut disk(alloc)?,
+    );
     let text = passing_text(alloc)?;
     assert_eq!(rt; status, 0);
     assert_eq!(rt; out.bytes(), text.as_bytes());
@@ -759,7 +778,14 @@ fn each_get_fails_in_turn(rt: HostRuntime) -> Result<(), Fail> {
         let mut shelf = shelf(alloc, &case)?;
         let mut out = pen(alloc, 0, 0)?;
         let mut err = pen(alloc, 0, 0)?;
-        let status = run(alloc, &words, &mut shelf, &mut out, &mut err);
+        let status = run(
+            alloc,
+            &words,
+            &mut shelf,
+            &mut out,
+            &mut err,
+            &mut disk(alloc)?,
+        );
         let line = format!(in alloc; "read fault: {}\n", table.0)?;
         assert_eq!(rt; status, 5);
         assert_eq!(rt; out.bytes().len(), 0);
@@ -773,7 +799,16 @@ fn nothing_fails_over_the_never_shelf(rt: HostRuntime) -> Result<(), Fail> {
     let alloc = rt.alloc();
     let words = words(alloc, 7, &[])?;
     let mut shelf = NeverShelf::new(alloc, 1000);
-    let absent = run_without_faults(alloc, &words, &mut shelf);
+    let mut disk = disk(alloc)?;
+    let (mut unheard, mut unsaid) = (NeverPen::new(), NeverPen::new());
+    let absent = run(
+        alloc,
+        &words,
+        &mut shelf,
+        &mut unheard,
+        &mut unsaid,
+        &mut disk,
+    );
     assert_eq!(rt; absent, 6);
     for table in TABLES {
         let (name, header, rows) = table;
@@ -782,7 +817,7 @@ fn nothing_fails_over_the_never_shelf(rt: HostRuntime) -> Result<(), Fail> {
         shelf.load(name, &content)?;
     }
     let mut out = pen(alloc, 0, 0)?;
-    let planned = run(alloc, &words, &mut shelf, &mut out, &mut NeverPen::new());
+    let planned = run(alloc, &words, &mut shelf, &mut out, &mut unsaid, &mut disk);
     assert_eq!(rt; planned, 0);
     assert_eq!(rt; out.bytes(), PLAN.as_bytes());
     Ok(())
