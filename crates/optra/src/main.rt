@@ -1,7 +1,8 @@
-//! The planner as a program: the words of its command line, real files, standard output and standard error.
+//! The planner as a program: the words of its command line, real files, standard output and standard error, and a real
+//! file as its disk.
 #![tactic(auto)]
 
-use optra_outside::{FolderShelf, Pen, StdPen};
+use optra_outside::{FileDisk, FolderShelf, Pen, StdPen};
 use std::alloc::Global;
 use std::env;
 use std::io::{Error, ErrorKind};
@@ -22,7 +23,8 @@ fn main(rt: HostRuntime) -> ExitCode {
             return ExitCode::from(8);
         }
     };
-    ExitCode::from(optra_top::run(alloc, &words, &mut shelf, &mut out, &mut err))
+    let mut disk = FileDisk::new(&rt);
+    ExitCode::from(optra_top::run(alloc, &words, &mut shelf, &mut out, &mut err, &mut disk))
 }
 
 // Why the words of the command line can't be used.

@@ -1,5 +1,5 @@
 -- Which words are a command form, and what they ask for.
-use Rattle.std.specs.Prelude.{◌≡◌, ◌&&◌, ℕ, Bool, List, [], ◌∷◌, length, Option, Some, None, Result, Ok, Err, nat_le, codes, option_map, if◌then◌else◌}
+use Rattle.std.specs.Prelude.{◌≡◌, ◌≤◌, ◌&&◌, ℕ, Bool, List, [], ◌∷◌, length, Option, Some, None, Result, Ok, Err, nat_le, codes, option_map, if◌then◌else◌}
 use Rattle.std.specs.Str.{bytes_eq}
 use Rattle.clap.specs.Words.{Row, first_of}
 use Rattle.clap.specs.declared.error.kind.ErrorKind.{ErrorKind}
@@ -72,6 +72,10 @@ plan_words words = do
 abbrev pub words_of : List Word → Option Words
 words_of [] = None
 words_of (command ∷ words) = if bytes_eq command (codes "plan") then plan_words words else None
+
+-- a plan has a budget of at least one node
+abbrev pub HasBudget : Words → Type 0
+HasBudget (Plan net bids stops steps budget cert) = 1 ≤ budget
 
 -- ---- answers
 

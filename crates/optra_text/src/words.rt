@@ -2,7 +2,7 @@
 ghost use Rattle.std.specs.Prelude.{◌≡◌, ◌≤◌, map, string_bytes, option_map, IfSome, IfOk};
 ghost use Rattle.clap.specs.Words.{app_of, first_of, found_of, rows_of};
 ghost use Rattle.optra_text.specs.CommandForms.{IsSimple, rows_given};
-ghost use Rattle.optra_text.specs.Words.{IsRefusal, Reads, is_path, needed_path, number_or, number_within, optional_path, plan_words, words_of};
+ghost use Rattle.optra_text.specs.Words.{HasBudget, IsRefusal, Reads, is_path, needed_path, number_or, number_within, optional_path, plan_words, words_of};
 ghost use Rattle.optra_text.specs.declared.words.WordsError.TheVariants.{NoMemory};
 
 use crate::command_forms::plan_command;
@@ -66,7 +66,8 @@ impl From<AllocError> for WordsError {
 /// `Usage` comes exactly where the words are no command form: where the first is no command, `clap` refuses the
 /// others, or a value isn't in its range.
 pub fn read_words(alloc: Global, words: &[String]) -> Result<Words, WordsError>
-    ensures { Reads (λ read. read) result (words_of (map string_bytes words.now)) }
+    ensures read { Reads (λ read. read) result (words_of (map string_bytes words.now)) }
+    ensures budget { IfOk result HasBudget }
 {
     let Some((command, options)) = words.split_first() else {
         return Err(WordsError::Usage);
@@ -80,7 +81,8 @@ pub fn read_words(alloc: Global, words: &[String]) -> Result<Words, WordsError>
 /// What the words behind `plan` ask for.
 #[tactic(auto, unfolding(crate::specs::Words::plan_words))]
 fn read_plan(alloc: Global, words: &[String]) -> Result<Words, WordsError>
-    ensures { Reads (λ read. read) result (plan_words (map string_bytes words.now)) }
+    ensures read { Reads (λ read. read) result (plan_words (map string_bytes words.now)) }
+    ensures budget { IfOk result HasBudget }
 {
     let matches = matches_of(plan_command(alloc)?, words)?;
     let net = path_of(alloc, given(&matches, "net"))?;
@@ -157,8 +159,10 @@ fn is_path(text: &str) -> bool
 
 /// The number of an option that has a default.
 fn number_or(default: u64, least: u64, most: u64, given: Option<&str>) -> Result<u64, WordsError>
-    requires { default ≤ most }
+    requires low { least ≤ default }
+    requires high { default ≤ most }
     ensures read { Reads (λ n. n) result (number_or default least most (option_map (λ text. text.now) given.entry)) }
+    ensures least { IfOk result (λ n. least ≤ n) }
     ensures most { IfOk result (λ n. n ≤ most) }
 {
     match given {
@@ -170,6 +174,7 @@ fn number_or(default: u64, least: u64, most: u64, given: Option<&str>) -> Result
 /// The number of a word of 1 to 10 digits, with or without zeros in front, that is in the range.
 fn number_within(least: u64, most: u64, text: &str) -> Option<u64>
     ensures number { result ≡ number_within least most text.now }
+    ensures least { IfSome result (λ n. least ≤ n) }
     ensures most { IfSome result (λ n. n ≤ most) }
 {
     let n = number(text.as_bytes())?;

@@ -1,9 +1,10 @@
--- Lemmas on how a command ends, on what its files mean, and on the plan.
-pub mod Held
-pub mod PlanRefusals
-pub mod Ended
-pub mod Completed
-pub mod Put
+-- Lemmas on the files that a command gets, on how a run ends, on what its files mean, and on the plan.
+mod ContentLemmas
+pub mod GetLemmas
+mod PutLemmas
+mod RefusalLemmas
+mod EndingLemmas
+mod CompletionLemmas
 mod PlanLemmas
 mod BidLemmas
 mod TextLemmas

@@ -1,31 +1,29 @@
--- The plan of the search keeps the promise of a plan.
-use Rattle.std.proofs.Common.{◌≡◌, ◌≤ℤ◌, List, Option, sym, ◌∙◌, subst}
+-- The plan of the search is the plan of its bids, by any rows whose rule is freedom of conflict.
+use Rattle.std.proofs.Common.{◌≡◌, ◌≤ℤ◌, ℕ, List, Option, sym, ◌∙◌, subst}
+use Rattle.std.specs.declared.cmp.Ordering.{Ordering}
 use Rattle.optra_network.specs.Net.{Net}
 use Rattle.optra_bid.specs.declared.bids.Bid.{Bid}
 use Rattle.optra_walk.specs.declared.Leg.{Leg}
-use Rattle.optra_walk.specs.Choices.{uses_of, KeepsHeadways, IsConflictFree, revenue_of}
-use Rattle.optra_walk.specs.Families.{entries_of}
-use Rattle.optra_rows.specs.Headways.{headway_rows, KeepsHeadwayRule}
+use Rattle.optra_walk.specs.Choices.{IsChoice, uses_of, KeepsHeadways, IsConflictFree, revenue_of}
+use Rattle.optra_walk.specs.Families.{Rows, Entry, entries_of}
+use Rattle.optra_rows.specs.Headways.{KeepsHeadwayRule}
 use Rattle.optra_rows.specs.RuleLemmas.{uses_of_entries}
-use Rattle.optra_rows.specs.TouchedLemmas.{row_cmp}
-use Rattle.optra_rows.specs.declared.HRow.{HRow}
 use Rattle.optra_node.specs.Laws.{BoundHolds}
-use Rattle.optra_search.specs.Planner.{Planned}
-use Rattle.optra_search.specs.Laws.{IsCertified}
-use Rattle.optra_top.specs.Plans.{IsPlan}
+use Rattle.optra_search.specs.Planner.{Planned, IsPlainPlan}
+use Rattle.optra_search.specs.Laws.{IsCertified, PlansAreCertified, PlansHaveNumbers, SufficientBudget}
+use Rattle.optra_top.specs.Plans.{TellsConflicts, KeepsPromise, IsPlanOf}
 
-module _ (net : Net) (bids : List Bid) where
-  -- a choice keeps the headways exactly where its legs keep the rule of the rows
-  headways-from_rule : (walks : List (Option (List Leg))) → KeepsHeadwayRule net (entries_of bids walks) → KeepsHeadways net (uses_of bids walks)
-  headways-from_rule walks rule = subst (KeepsHeadways net) (uses_of_entries bids walks) rule
+-- a choice keeps the headways exactly where its legs keep the rule of the rows
+pub headways-tell : (net : Net) (bids : List Bid) → TellsConflicts net bids (KeepsHeadwayRule net)
+headways-tell net bids walks choice = (
+  (λ rule. record { choice = choice; headways = subst (KeepsHeadways net) (uses_of_entries bids walks) rule }),
+  (λ free. subst (KeepsHeadways net) (sym (uses_of_entries bids walks)) free.headways),
+)
 
-  rule-from_headways : (walks : List (Option (List Leg))) → KeepsHeadways net (uses_of bids walks) → KeepsHeadwayRule net (entries_of bids walks)
-  rule-from_headways walks keeps = subst (KeepsHeadways net) (sym (uses_of_entries bids walks)) keeps
-
-  -- a certified plan is a plan, where the bounds of certificates hold
-  pub plan-from_certified : (plan : Planned HRow) → BoundHolds net (headway_rows net) (KeepsHeadwayRule net) bids → IsCertified row_cmp net (headway_rows net) (KeepsHeadwayRule net) bids plan
-      → IsPlan net bids plan.choice plan.revenue plan.bound
-  plan-from_certified plan holds certified = record {
+module _ {R : Type 0} (cmp : R → R → Ordering) (net : Net) (rows : Rows R) (Keeps : List Entry → Type 0) (bids : List Bid) (tells : TellsConflicts net bids Keeps) (holds : BoundHolds net rows Keeps bids) where
+  -- a certified plan keeps the promise
+  promise-from_certified : (plan : Planned R) → IsCertified cmp net rows Keeps bids plan → KeepsPromise net bids plan.choice plan.revenue plan.bound
+  promise-from_certified plan certified = record {
     free = free;
     earns = earns;
     bounded = bounded;
@@ -33,10 +31,23 @@ module _ (net : Net) (bids : List Bid) where
   }
     where
       free : IsConflictFree net bids plan.choice
-      free = record { choice = certified.valid.walks; headways = headways-from_rule plan.choice certified.valid.rule }
+      free = (tells plan.choice certified.valid.walks).0 certified.valid.rule
 
       earns : plan.revenue ≡ revenue_of net bids plan.choice
       earns = certified.valid.revenue_is
 
       bounded : (other : List (Option (List Leg))) → IsConflictFree net bids other → revenue_of net bids other ≤ℤ plan.bound
-      bounded other is_free = holds plan.revenue plan.bound plan.choice plan.tree other certified.formed.whole certified.valid is_free.choice (rule-from_headways other is_free.headways)
+      bounded other is_free = holds plan.revenue plan.bound plan.choice plan.tree other certified.formed.whole certified.valid is_free.choice ((tells other is_free.choice).1 is_free)
+
+  -- the plan of the search is the plan of its bids
+  pub plan-is_plan : PlansAreCertified cmp net rows Keeps bids → PlansHaveNumbers cmp net rows bids → SufficientBudget cmp net rows bids
+      → (steps budget : ℕ) (plan : Planned R) → IsPlainPlan cmp net rows bids steps budget plan → IsPlanOf cmp net rows Keeps bids steps budget plan
+  plan-is_plan certify number suffice steps budget plan is =
+      let certified = certify steps budget plan is in
+      record {
+        by_search = is;
+        promise = promise-from_certified plan certified;
+        certified = certified;
+        numbers = number steps budget plan is;
+        sufficient = λ pairs are much. suffice steps budget plan pairs are much is;
+      }

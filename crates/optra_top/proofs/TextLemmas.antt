@@ -1,18 +1,16 @@
 -- There is one text of a plan, since there is one plan.
-use Rattle.std.proofs.Common.{◌≡◌, inl, inr, ℕ, ℤ, List, map, sym, ap, ◌∙◌, subst, arith}
+use Rattle.std.proofs.Common.{◌≡◌, inl, inr, ℕ, ℤ, List, sym, ap, ◌∙◌, subst, arith}
 use Rattle.std.proofs.lemmas.Int.{ints}
 use Rattle.optra_network.specs.Net.{Net}
 use Rattle.optra_bid.specs.declared.bids.Bid.{Bid}
-use Rattle.optra_tables.specs.Bids.{parts_of}
 use Rattle.optra_text.specs.PlanTexts.{plan_text_of}
 use Rattle.optra_rows.specs.Headways.{headway_rows}
 use Rattle.optra_rows.specs.TouchedLemmas.{row_cmp}
 use Rattle.optra_rows.specs.declared.HRow.{HRow}
 use Rattle.optra_search.specs.Planner.{Planned, IsPlainPlan}
 use Rattle.optra_search.specs.Laws.{OnePlan}
-use Rattle.optra_top.specs.Words.{PlanLimits}
-use Rattle.optra_top.specs.PlanCommand.{PrintsPlan, IsStatusOf}
-use Rattle.optra_top.specs.PlanLaws.{OneText}
+use Rattle.optra_top.specs.PlanCommand.{PrintsHeadwayPlan, IsStatusOf}
+use Rattle.optra_top.specs.PlanLaws.{OneText, tables_of}
 use Rattle.optra_top.proofs.BidLemmas.{bids-from_parts}
 
 -- a plan has one status
@@ -27,26 +25,26 @@ module _ (net : Net) (bids : List Bid) where
   text_of plan = plan_text_of net bids plan.choice plan.revenue plan.bound plan.nodes
 
   -- what is printed is the text of a plan of these bids
-  pub record Prints (limits : PlanLimits) (status : ℕ) (text : List ℕ) : Type 0 where
+  pub record Prints (steps budget status : ℕ) (text : List ℕ) : Type 0 where
     pub plan : Planned HRow
-    pub is : IsPlainPlan row_cmp net (headway_rows net) bids limits.steps limits.budget plan
+    pub is : IsPlainPlan row_cmp net (headway_rows net) bids steps budget plan
     pub printed : text ≡ text_of plan
     pub ends : IsStatusOf plan.revenue plan.bound status
 
-  prints : (limits : PlanLimits) (status : ℕ) (text : List ℕ) → PrintsPlan limits (record { net = net; bids = map parts_of bids }) status text → Prints limits status text
-  prints limits status text p =
+  prints : (steps budget status : ℕ) (text : List ℕ) → PrintsHeadwayPlan steps budget (tables_of net bids) status text → Prints steps budget status text
+  prints steps budget status text p =
       let same : p.bids ≡ bids = bids-from_parts p.bids bids p.are_those in
       record {
-        plan = p.planned;
-        is = subst (λ (b : List Bid). IsPlainPlan row_cmp net (headway_rows net) b limits.steps limits.budget p.planned) same p.by_search;
-        printed = p.printed ∙ ap (λ (b : List Bid). plan_text_of net b p.planned.choice p.planned.revenue p.planned.bound p.planned.nodes) same;
+        plan = p.plan;
+        is = subst (λ (b : List Bid). IsPlainPlan row_cmp net (headway_rows net) b steps budget p.plan) same p.is_plan.by_search;
+        printed = p.printed ∙ ap (λ (b : List Bid). plan_text_of net b p.plan.choice p.plan.revenue p.plan.bound p.plan.nodes) same;
         ends = p.ends;
       }
 
   pub one_text : OnePlan row_cmp net (headway_rows net) bids → OneText net bids
-  one_text one limits status status' text text' p p' =
-      let a = prints limits status text p in
-      let b = prints limits status' text' p' in
-      let same : a.plan ≡ b.plan = one limits.steps limits.budget a.plan b.plan a.is b.is in
+  one_text one steps budget status status' text text' p p' =
+      let a = prints steps budget status text p in
+      let b = prints steps budget status' text' p' in
+      let same : a.plan ≡ b.plan = one steps budget a.plan b.plan a.is b.is in
       let ends : IsStatusOf b.plan.revenue b.plan.bound status = subst (λ (z : Planned HRow). IsStatusOf z.revenue z.bound status) same a.ends in
       (one_status b.plan.revenue b.plan.bound status status' ends b.ends, a.printed ∙ ap text_of same ∙ sym b.printed)

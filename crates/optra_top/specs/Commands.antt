@@ -1,31 +1,45 @@
--- What the words ask for: which files are got, and what may be replied to their contents. A command more is an arm more
--- in each definition here.
-use Rattle.std.specs.Prelude.{ℕ, ◌≤◌, List, Option, map, String, string_bytes}
+-- The commands: which words ask for one, which files each gets, and what it may reply to their contents. A command more
+-- is an arm more in each definition here.
+use Rattle.std.specs.Prelude.{◌≡◌, ◌⊎◌, ℕ, Bool, List, Option, Some, None, is_none, if◌then◌else◌, map, String, string_bytes}
 use Rattle.std.specs.declared.alloc.Global.{Global}
-use Rattle.std.specs.Option.{option_map}
-use Rattle.optra_top.specs.Words.{PlanForm, plan_form_of, plan_files}
+use Rattle.optra_outside.specs.Disk.{DiskState}
+use Rattle.optra_text.specs.Words.{words_of}
+use Rattle.optra_text.specs.declared.words.Words.{Words}
+use Rattle.optra_text.specs.declared.words.Words.TheVariants.{Plan}
+use Rattle.optra_top.specs.Files.{File, Contents}
+use Rattle.optra_top.specs.PlanCommand.{PlanReplies, next_plan_file}
 use Rattle.optra_top.specs.Replies.{Reply}
-use Rattle.optra_top.specs.PlanCommand.{PlanReplies}
+use Rattle.optra_top.specs.Statuses.{optimal_status, gap_status}
 
-pub data Command : Type 0 where
-  plan : PlanForm → Command
+-- a command, as words ask for it
+abbrev pub Command : Type 0
+Command = Words
 
--- the command of words that are a form
-abbrev pub command_of : List (List ℕ) → Option Command
-command_of words = option_map (λ form. plan form) (plan_form_of words)
+-- whether it is built: no certificate is put yet
+abbrev pub is_built : Command → Bool
+is_built (Plan net bids stops steps budget cert) = is_none cert
 
--- the command of these words
+-- the command, where it is built
+abbrev pub built : Option Command → Option Command
+built None = None
+built (Some command) = if is_built command then Some command else None
+
+-- the command that these words ask for; none where they are no command form
 abbrev pub asked : List (String Global) → Option Command
-asked words = command_of (map string_bytes words)
+asked words = built (words_of (map string_bytes words))
 
--- the files that it gets, in order
-abbrev pub files_of : Command → List (List ℕ)
-files_of (plan form) = plan_files form.net form.bids form.stops
+-- the file that it gets after these; none once it has got all
+abbrev pub next_file : Command → Contents → Option File
+next_file (Plan net bids stops steps budget cert) contents = next_plan_file net bids stops contents
 
--- what it may reply to their contents
-abbrev pub MayReply : Command → List (List ℕ) → Reply → Type 0
-MayReply (plan form) contents reply = PlanReplies form.limits contents reply
+-- what it may reply to the contents of its files, with the disk before and after
+abbrev pub MayReply : Command → Contents → DiskState → DiskState → Reply → Type 0
+MayReply (Plan net bids stops steps budget cert) contents before now reply = PlanReplies steps budget contents reply
 
--- a plan has a budget of at least one node
-abbrev pub HasBudget : Command → Type 0
-HasBudget (plan form) = 1 ≤ form.limits.budget
+-- the statuses of one that did its work
+abbrev pub IsDoneStatus : Command → ℕ → Type 0
+IsDoneStatus (Plan net bids stops steps budget cert) status = (status ≡ optimal_status) ⊎ (status ≡ gap_status)
+
+-- whether it calls the disk
+abbrev pub UsesDisk : Command → Type 0
+UsesDisk (Plan net bids stops steps budget cert) = ⊥

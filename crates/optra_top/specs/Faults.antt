@@ -1,49 +1,87 @@
--- How a run that a fault ended has gone.
+-- The faults that end a command: the status and the line of each, and how the run has gone.
 use Rattle.std.specs.Prelude.{◌≡◌, ℕ, List, String, string_bytes, ⊤}
 use Rattle.std.specs.declared.alloc.Global.{Global}
-use Rattle.optra_outside.specs.Pen.{PenState}
 use Rattle.optra_outside.specs.Shelf.{ShelfState}
 use Rattle.optra_outside.specs.declared.shelves.ShelfError.{ShelfError}
-use Rattle.optra_outside.specs.declared.shelves.ShelfError.TheVariants.{Failed, Absent as NotThere, TooLong as Overlong, NoMemory as NoRoom}
-use Rattle.optra_top.specs.declared.faults.Fault.{Fault}
-use Rattle.optra_top.specs.declared.faults.Fault.TheVariants.{Table, Read, Absent, TooLong, Write, NoMemory}
-use Rattle.optra_text.specs.FaultLines.{refusal_line}
+use Rattle.optra_outside.specs.declared.shelves.ShelfError.TheVariants as shelf_errors
 use Rattle.optra_tables.specs.declared.ReadError.{ReadError}
 use Rattle.optra_tables.specs.declared.ReadError.TheVariants as unread
-use Rattle.optra_top.specs.Replies.{Reply, refused}
+use Rattle.optra_text.specs.FaultLines.{refusal_line, read_line, absent_line, too_long_line, write_line, memory_line}
+use Rattle.optra_top.specs.declared.faults.Fault.{Fault}
+use Rattle.optra_top.specs.declared.faults.Fault.TheVariants.{Refused, Read, Absent, TooLong, Write, NoMemory}
+use Rattle.optra_top.specs.declared.faults.Refusal.{Refusal}
+use Rattle.optra_top.specs.declared.faults.Refusal.TheVariants.{Table}
 use Rattle.optra_top.specs.Commands.{Command}
-use Rattle.optra_top.specs.Ending.{IsSilent, IsRefusal, IsMissing, IsWriteFault}
+use Rattle.optra_top.specs.Ending.{IsRefusal, IsMissing, IsWriteFault}
+use Rattle.optra_top.specs.Gets.{Refuses}
+use Rattle.optra_top.specs.Outside.{Outside, IsSilent}
+use Rattle.optra_top.specs.Replies.{Reply, refused}
+use Rattle.optra_top.specs.Statuses.{refused_status, read_status, absent_status, write_status, memory_status, too_long_status}
 
--- how a command ended by this fault
-abbrev pub EndsBy : Command → ShelfState → ShelfState → PenState → PenState → Fault → Type 0
-EndsBy command s s' o o' (Table fault) = IsRefusal command s s' o o' (refusal_line fault)
-EndsBy command s s' o o' (Read name) = IsMissing command s s' o o' Failed (string_bytes name)
-EndsBy command s s' o o' (Absent name) = IsMissing command s s' o o' NotThere (string_bytes name)
-EndsBy command s s' o o' (TooLong name) = IsMissing command s s' o o' Overlong (string_bytes name)
-EndsBy command s s' o o' Write = IsWriteFault command s s' o o'
-EndsBy command s s' o o' NoMemory = IsSilent s s' o o'
+-- ---- what is said
 
--- the fault that contents with these replies were answered with: a refusal, or want of memory
-abbrev pub Refusing : (Reply → Type 0) → Fault → Type 0
-Refusing MayReply (Table fault) = MayReply (refused (refusal_line fault))
-Refusing MayReply (Read name) = ⊥
-Refusing MayReply (Absent name) = ⊥
-Refusing MayReply (TooLong name) = ⊥
-Refusing MayReply Write = ⊥
-Refusing MayReply NoMemory = ⊤
+-- the status and the line of a refusal
+abbrev pub refusal_status : Refusal → ℕ
+refusal_status (Table fault) = refused_status
 
--- the fault names this
-abbrev pub IsNamed : (String Global → Fault) → List ℕ → Fault → Type 0
-IsNamed make name fault = (n : String Global) × (fault ≡ make n) × (string_bytes n ≡ name)
+abbrev pub refusal_text : Refusal → List ℕ
+refusal_text (Table fault) = refusal_line fault
+
+-- the status and the line of a fault
+abbrev pub status_of : Fault → ℕ
+status_of (Refused refusal) = refusal_status refusal
+status_of (Read name) = read_status
+status_of (Absent name) = absent_status
+status_of (TooLong name) = too_long_status
+status_of Write = write_status
+status_of NoMemory = memory_status
+
+abbrev pub line_of : Fault → List ℕ
+line_of (Refused refusal) = refusal_text refusal
+line_of (Read name) = read_line (string_bytes name)
+line_of (Absent name) = absent_line (string_bytes name)
+line_of (TooLong name) = too_long_line (string_bytes name)
+line_of Write = write_line
+line_of NoMemory = memory_line
+
+-- ---- where it comes from
 
 -- the fault that a refused get of this name makes
-abbrev pub FaultOf : ShelfError → List ℕ → Fault → Type 0
-FaultOf Failed name fault = IsNamed (λ n. Read n) name fault
-FaultOf NotThere name fault = IsNamed (λ n. Absent n) name fault
-FaultOf Overlong name fault = IsNamed (λ n. TooLong n) name fault
-FaultOf NoRoom name fault = fault ≡ NoMemory
+abbrev pub fault_of : ShelfError → String Global → Fault
+fault_of shelf_errors.Failed name = Read name
+fault_of shelf_errors.Absent name = Absent name
+fault_of shelf_errors.TooLong name = TooLong name
+fault_of shelf_errors.NoMemory name = NoMemory
 
 -- the fault that tables which were not read make
-abbrev pub IsUnread : ReadError → Fault → Type 0
-IsUnread (unread.Fault first) fault = fault ≡ Table first
-IsUnread unread.NoMemory fault = fault ≡ NoMemory
+abbrev pub unread_fault : ReadError → Fault
+unread_fault (unread.Fault first) = Refused (Table first)
+unread_fault unread.NoMemory = NoMemory
+
+-- a get of the command's files was refused, or memory ran out
+abbrev pub EndsGets : Command → ShelfState → ShelfState → Fault → Type 0
+EndsGets command before now (Refused refusal) = ⊥
+EndsGets command before now (Read name) = Refuses command before now shelf_errors.Failed (string_bytes name)
+EndsGets command before now (Absent name) = Refuses command before now shelf_errors.Absent (string_bytes name)
+EndsGets command before now (TooLong name) = Refuses command before now shelf_errors.TooLong (string_bytes name)
+EndsGets command before now Write = ⊥
+EndsGets command before now NoMemory = ⊤
+
+-- contents with these replies are refused, or memory ran out
+abbrev pub EndsReply : (Reply → Type 0) → Fault → Type 0
+EndsReply MayReply (Refused refusal) = MayReply (refused (refusal_status refusal) (refusal_text refusal))
+EndsReply MayReply (Read name) = ⊥
+EndsReply MayReply (Absent name) = ⊥
+EndsReply MayReply (TooLong name) = ⊥
+EndsReply MayReply Write = ⊥
+EndsReply MayReply NoMemory = ⊤
+
+-- ---- how the run has gone
+
+abbrev pub EndsBy : Command → Outside → Outside → Fault → Type 0
+EndsBy command before now (Refused refusal) = IsRefusal command before now (refusal_status refusal) (refusal_text refusal)
+EndsBy command before now (Read name) = IsMissing command before now shelf_errors.Failed (string_bytes name)
+EndsBy command before now (Absent name) = IsMissing command before now shelf_errors.Absent (string_bytes name)
+EndsBy command before now (TooLong name) = IsMissing command before now shelf_errors.TooLong (string_bytes name)
+EndsBy command before now Write = IsWriteFault command before now
+EndsBy command before now NoMemory = IsSilent before now

@@ -1,15 +1,14 @@
--- What the commands are, what they reply, and how they end; and what a plan promises.
-pub mod Options
-pub mod Words
-pub mod WordsRead
+-- What the commands are, what they reply, and how a run ends; and what a plan promises.
+pub mod Statuses
+pub mod Files
+pub mod Puts
 pub mod Replies
-pub mod Gathering
-pub mod Putting
-pub mod Lines
 pub mod Plans
 pub mod PlanCommand
 pub mod PlanLaws
 pub mod TablesRead
 pub mod Commands
+pub mod Gets
+pub mod Outside
 pub mod Ending
 pub mod Faults

@@ -1,15 +1,40 @@
--- The planning promise.
-use Rattle.std.specs.Prelude.{◌≡◌, ℤ, List, Option}
+-- What the plan of some bids is, apart from how it is printed.
+use Rattle.std.specs.Prelude.{◌≡◌, ◌↔◌, ℕ, ◌+◌, ◌-◌, ◌^◌, ◌≤◌, ℤ, List, length, Option}
 use Rattle.std.specs.Prelude.{◌≤ℤ◌}
+use Rattle.std.specs.declared.cmp.Ordering.{Ordering}
 use Rattle.optra_network.specs.Net.{Net}
 use Rattle.optra_bid.specs.declared.bids.Bid.{Bid}
 use Rattle.optra_walk.specs.declared.Leg.{Leg}
-use Rattle.optra_walk.specs.Choices.{IsConflictFree, IsOptimal, revenue_of}
+use Rattle.optra_walk.specs.Choices.{IsChoice, IsConflictFree, IsOptimal, revenue_of}
+use Rattle.optra_walk.specs.Families.{Rows, Entry, entries_of}
+use Rattle.optra_search.specs.Planner.{Planned, IsPlainPlan}
+use Rattle.optra_search.specs.Laws.{ArePairs, IsCertified, HasNumbers}
 
--- the choice is free of conflict and earns the revenue; no choice that is free of conflict earns more than the bound;
--- and where the two meet, the choice is optimal
-pub record IsPlan (net : Net) (bids : List Bid) (walks : List (Option (List Leg))) (revenue bound : ℤ) : Type 0 where
+-- A choice keeps the rule of the rows exactly where it is free of conflict.
+abbrev pub TellsConflicts : Net → List Bid → (List Entry → Type 0) → Type 0
+TellsConflicts net bids Keeps =
+    (walks : List (Option (List Leg))) → IsChoice net bids walks → Keeps (entries_of bids walks) ↔ IsConflictFree net bids walks
+
+-- The planning promise: the choice is free of conflict and earns the revenue; no choice that is free of conflict earns
+-- more than the bound; and where the two meet, the choice is optimal.
+pub record KeepsPromise (net : Net) (bids : List Bid) (walks : List (Option (List Leg))) (revenue bound : ℤ) : Type 0 where
   pub free : IsConflictFree net bids walks
   pub earns : revenue ≡ revenue_of net bids walks
   pub bounded : (other : List (Option (List Leg))) → IsConflictFree net bids other → revenue_of net bids other ≤ℤ bound
   pub optimal : revenue ≡ bound → IsOptimal net bids walks
+
+-- With this budget the bound is the revenue: it is at least one less than 2 to the power of one more than the number of
+-- different pairs of a bid and a leg of one of its walks.
+abbrev pub IsMetFrom : Net → List Bid → ℕ → ℤ → ℤ → Type 0
+IsMetFrom net bids budget revenue bound =
+    (pairs : List (ℕ × Leg)) → ArePairs net bids pairs → 2 ^ (length pairs + 1) - 1 ≤ budget → bound ≡ revenue
+
+-- This is the plan of the bids, by rows that state the rule, with so many price steps and this budget. It is the plan of
+-- the plain planner, of which there is one; it keeps the planning promise; its parts are a formed and valid certificate;
+-- its bound is above its revenue only where the budget was spent; and there is a budget from which on it is not.
+pub record IsPlanOf {R : Type 0} (cmp : R → R → Ordering) (net : Net) (rows : Rows R) (Keeps : List Entry → Type 0) (bids : List Bid) (steps budget : ℕ) (plan : Planned R) : Type 0 where
+  pub by_search : IsPlainPlan cmp net rows bids steps budget plan
+  pub promise : KeepsPromise net bids plan.choice plan.revenue plan.bound
+  pub certified : IsCertified cmp net rows Keeps bids plan
+  pub numbers : HasNumbers bids budget plan
+  pub sufficient : IsMetFrom net bids budget plan.revenue plan.bound

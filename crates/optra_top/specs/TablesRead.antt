@@ -2,7 +2,7 @@
 use Rattle.std.specs.Prelude.{map}
 use Rattle.optra_tables.specs.Bids.{parts_of}
 use Rattle.optra_top.specs.PlanCommand as meaning
-use Rattle.optra_top.specs.declared.planning.Tables.{Tables}
+use Rattle.optra_top.specs.declared.plan_command.Tables.{Tables}
 
 -- the network and the bids that were read
 abbrev pub tables_seen : Tables → meaning.Tables

@@ -2,19 +2,46 @@
 ghost use Rattle.std.specs.Prelude.{◌≡◌};
 ghost use Rattle.optra_outside.specs.Pen.{Writes};
 ghost use Rattle.optra_top.specs.declared.faults.Fault.TheVariants.{NoMemory};
-ghost use Rattle.optra_top.specs.Lines.{line_of, status_of};
-ghost use Rattle.optra_top.specs.Faults.{IsUnread};
+ghost use Rattle.optra_top.specs.Faults.{fault_of, line_of, refusal_status, refusal_text, status_of, unread_fault};
 
-use optra_outside::{Pen, PenFailed};
+use crate::statuses;
+use optra_outside::{Pen, PenFailed, ShelfError};
 use optra_tables::{ReadError, TableFault};
 use optra_text::{FaultView, fault_text};
 use std::alloc::{AllocError, AllocFailed};
 
+/// Why the contents of a command's files are refused.
+#[derive(Clone, Copy)]
+pub enum Refusal {
+    /// The tables are refused, by their first fault.
+    Table(TableFault),
+}
+
+impl Refusal {
+    /// The exit status of a command that refused its files so.
+    pub fn status(self) -> u8
+        ensures { result ≡ refusal_status self }
+    {
+        match self {
+            Refusal::Table(_) => statuses::REFUSED,
+        }
+    }
+
+    /// Writes the refusal's line. It takes no memory.
+    pub fn write<P: Pen>(self, pen: &mut P) -> Result<(), PenFailed>
+        ensures { Writes (P.state pen.old) (P.state pen.new) (refusal_text self) result }
+    {
+        match self {
+            Refusal::Table(fault) => fault_text(pen, FaultView::Table(fault)),
+        }
+    }
+}
+
 /// What ended a command.
 #[derive(Drop)]
 pub enum Fault {
-    /// The tables are refused, by their first fault.
-    Table(TableFault),
+    /// The contents of its files are refused.
+    Refused(Refusal),
     /// The file of this name could not be read.
     Read(String),
     /// No file has this name.
@@ -28,17 +55,29 @@ pub enum Fault {
 }
 
 impl Fault {
+    /// The fault of a refused get of the file of this name.
+    pub fn of_get(why: ShelfError, name: String) -> Fault
+        ensures { result ≡ fault_of why name }
+    {
+        match why {
+            ShelfError::Failed => Fault::Read(name),
+            ShelfError::Absent => Fault::Absent(name),
+            ShelfError::TooLong => Fault::TooLong(name),
+            ShelfError::NoMemory => Fault::NoMemory,
+        }
+    }
+
     /// The exit status of a command that this fault ended.
     pub fn status(&self) -> u8
         ensures { result ≡ status_of self.now }
     {
         match self {
-            Fault::Table(_) => 3,
-            Fault::Read(_) => 5,
-            Fault::Absent(_) => 6,
-            Fault::TooLong(_) => 9,
-            Fault::Write => 7,
-            Fault::NoMemory => 8,
+            Fault::Refused(refusal) => refusal.status(),
+            Fault::Read(_) => statuses::READ,
+            Fault::Absent(_) => statuses::ABSENT,
+            Fault::TooLong(_) => statuses::TOO_LONG,
+            Fault::Write => statuses::WRITE,
+            Fault::NoMemory => statuses::MEMORY,
         }
     }
 
@@ -47,7 +86,7 @@ impl Fault {
         ensures { Writes (P.state pen.old) (P.state pen.new) (line_of self.now) result }
     {
         match self {
-            Fault::Table(fault) => fault_text(pen, FaultView::Table(*fault)),
+            Fault::Refused(refusal) => refusal.write(pen),
             Fault::Read(name) => fault_text(pen, FaultView::Read(name.as_str())),
             Fault::Absent(name) => fault_text(pen, FaultView::Absent(name.as_str())),
             Fault::TooLong(name) => fault_text(pen, FaultView::TooLong(name.as_str())),
@@ -74,11 +113,11 @@ impl<T: Drop> From<AllocFailed<T>> for Fault {
 }
 
 impl From<ReadError> for Fault {
-    ghost from_gives = { IsUnread };
+    ghost from_gives = { λ error fault. fault ≡ unread_fault error };
 
     fn from(error: ReadError) -> Fault {
         match error {
-            ReadError::Fault(fault) => Fault::Table(fault),
+            ReadError::Fault(fault) => Fault::Refused(Refusal::Table(fault)),
             ReadError::NoMemory => Fault::NoMemory,
         }
     }

@@ -1,9 +1,18 @@
-//! The law of the printed plan, as the contract of a call that does nothing else.
+//! Laws of the printed plan, each as the contract of a call that does nothing else.
+ghost use Rattle.optra_rows.specs.Headways.{KeepsHeadwayRule};
 ghost use Rattle.optra_top.specs.PlanLaws.{OneText};
+ghost use Rattle.optra_top.specs.Plans.{TellsConflicts};
 
 use optra_rows::HeadwayRows;
 use optra_search::plan_laws;
 use optra_walk::Instance;
+
+/// A law, and no work: a choice of an instance keeps the rule of the headway rows exactly where it is free of conflict.
+pub fn headways_tell_conflicts(inst: Instance<'_>)
+    ensures { TellsConflicts inst.entry.net.now inst.entry.bids.now (KeepsHeadwayRule inst.entry.net.now) }
+{
+    let _ = inst;
+}
 
 /// A law, and no work: what the plan command prints of an instance, and its status, are a function of the instance, of the
 /// steps and of the budget.

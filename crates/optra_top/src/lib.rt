@@ -1,18 +1,18 @@
 //! The commands of the planner, over any shelf and any pens.
 #![tactic(auto)]
 
-mod answering;
+mod command_line;
+mod commands;
+mod entry;
+mod family_repairer;
 mod faults;
-mod gathering;
+mod files;
 mod laws;
-mod options;
-mod performing;
-mod planning;
-mod putting;
-mod repairing;
-mod running;
-mod searching;
-mod wording;
+mod outside;
+mod plan_command;
+mod plans;
+mod replies;
+mod statuses;
 
-pub use laws::one_text;
-pub use running::{run, run_without_faults};
+pub use entry::run;
+pub use laws::{headways_tell_conflicts, one_text};

@@ -1,0 +1,62 @@
+-- What the plan command refuses: contents that are refused have no other reply, and what the tables' faults are.
+use Rattle.std.proofs.Common.{◌≡◌, ℕ, List, [], Result, Ok, Err, refl, sym, ap, ◌∙◌, subst}
+use Rattle.std.specs.Prelude.{IsErrAnd}
+use Rattle.optra_network.specs.Net.{Net}
+use Rattle.optra_tables.specs.declared.ReadError.{ReadError}
+use Rattle.optra_tables.specs.declared.ReadError.TheVariants as unread
+use Rattle.optra_tables.specs.declared.TableFault.{TableFault}
+use Rattle.optra_tables.specs.Outcomes.{Fails, Gives}
+use Rattle.optra_tables.specs.Networks.{network_of}
+use Rattle.optra_tables.specs.Bids.{Parts}
+use Rattle.optra_tables.specs.Stops.{bids_of}
+use Rattle.optra_text.specs.FaultLines.{refusal_line}
+use Rattle.optra_top.specs.declared.files.Role.TheVariants.{Bids, Stops}
+use Rattle.optra_top.specs.Faults.{unread_fault, EndsReply}
+use Rattle.optra_top.specs.Files.{Contents, content_of}
+use Rattle.optra_top.specs.PlanCommand.{PlanReplies, PrintsHeadwayPlan, ReplyTo, Tables, meaning_of, net_files}
+use Rattle.optra_top.specs.Puts.{texts_of}
+use Rattle.optra_top.specs.declared.replies.Answer.{Answer}
+use Rattle.optra_top.specs.Replies.{Reply, refused, answered, reply_of}
+use Rattle.optra_top.specs.Statuses.{refused_status}
+
+refused-alone : (steps budget : ℕ) (read : Result Tables TableFault) (status : ℕ) (line : List ℕ) (reply : Reply) → ReplyTo steps budget read (refused status line) → ReplyTo steps budget read reply → reply ≡ refused status line
+refused-alone steps budget (Err fault) status line (refused status' other) refuses replies =
+    λ i. refused ((replies.0 ∙ sym refuses.0) i) ((replies.1 ∙ sym refuses.1) i)
+refused-alone steps budget (Err fault) status line (answered status' text puts) refuses replies = absurd replies
+refused-alone steps budget (Ok tables) status line reply refuses replies = absurd refuses
+
+pub plan-refused-alone : (steps budget : ℕ) (contents : Contents) (status : ℕ) (line : List ℕ) (reply : Reply) → PlanReplies steps budget contents (refused status line) → PlanReplies steps budget contents reply → reply ≡ refused status line
+plan-refused-alone steps budget contents status line reply refuses replies = refused-alone steps budget (meaning_of contents) status line reply refuses replies
+
+-- tables that were not read say why, or memory ran out
+pub EndsReply-unread : (steps budget : ℕ) (contents : Contents) (error : ReadError) → Fails error (meaning_of contents) → EndsReply (λ reply. PlanReplies steps budget contents reply) (unread_fault error)
+EndsReply-unread steps budget contents (unread.Fault first) fails = subst (λ read. ReplyTo steps budget read (refused refused_status (refusal_line first))) (sym fails) (refl, refl)
+EndsReply-unread steps budget contents unread.NoMemory fails = tt
+
+-- the network's first fault is that of the tables
+pub Fails-net : (contents : Contents) (error : ReadError) → Fails error (network_of (net_files contents)) → Fails error (meaning_of contents)
+unfolding meaning_of
+Fails-net contents (unread.Fault first) fails = rw fails refl
+Fails-net contents unread.NoMemory fails = tt
+
+-- where the network has no fault, the bids' first one is that of the tables
+pub Fails-bids : (contents : Contents) (net : Net) (error : ReadError) → network_of (net_files contents) ≡ Ok net → Fails error (bids_of net (content_of contents Bids) (content_of contents Stops)) → Fails error (meaning_of contents)
+unfolding meaning_of
+Fails-bids contents net (unread.Fault first) is fails = rw (is, fails) refl
+Fails-bids contents net unread.NoMemory is fails = tt
+
+-- a network and bids without a fault are what the tables mean
+pub meaning-read : (contents : Contents) (net : Net) (bids : List Parts) → network_of (net_files contents) ≡ Ok net → bids_of net (content_of contents Bids) (content_of contents Stops) ≡ Ok bids → meaning_of contents ≡ Ok (record { net = net; bids = bids })
+unfolding meaning_of
+meaning-read contents net bids is read = rw (is, read) refl
+
+-- an error that is handed on says what it said
+pub Gives-kept : {X Y : Type 0} (view : X → Y) (result : Result X ReadError) (error : ReadError) (read : Result Y TableFault) → IsErrAnd result (λ e. e ≡ error) → Fails error read → Gives view result read
+Gives-kept view (Ok x) error read is fails = absurd is
+Gives-kept view (Err e) error read is fails = rw is fails
+
+-- a plan of what the tables mean is the reply
+pub plan-replies : (steps budget : ℕ) (contents : Contents) (tables : Tables) (answer : Answer) → meaning_of contents ≡ Ok tables → PrintsHeadwayPlan steps budget tables answer.status answer.text.items → answer.puts.items ≡ []
+    → PlanReplies steps budget contents (reply_of answer)
+plan-replies steps budget contents tables answer is prints puts =
+    subst (λ read. ReplyTo steps budget read (reply_of answer)) (sym is) (prints, ap texts_of puts)
