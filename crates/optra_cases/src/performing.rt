@@ -3,12 +3,25 @@ use crate::cases::{Case, HeldFile, PenRules, Run, Step};
 use crate::printing::{print_bytes, print_puts, print_words};
 use crate::watched_shelf::WatchedShelf;
 use anyhow::{Result, ensure};
-use optra_outside::{MemoryPen, MemoryShelf};
+use optra_outside::{MemoryDisk, MemoryPen, MemoryShelf};
 use std::alloc::{AllocError, Global};
 use std::io::Write;
 
-/// Runs a case over a shelf of its own, and prints what came of each run.
+/// Runs a case over a shelf and a disk of its own, and prints what came of each run.
 pub fn perform<W: Write>(alloc: Global, name: &str, case: &Case, to: &mut W) -> Result<()> {
+    let mut disk = MemoryDisk::new(alloc, 0, Vec::new(alloc))?;
+    perform_over(alloc, name, case, &mut disk, to)?;
+    Ok(())
+}
+
+/// Runs a case over a shelf of its own and this disk, which no command calls yet.
+fn perform_over<W: Write>(
+    alloc: Global,
+    name: &str,
+    case: &Case,
+    disk: &mut MemoryDisk,
+    to: &mut W,
+) -> Result<()> {
     writeln!(to, "== {name}: {}", case.title)?;
     let rules = &case.shelf;
     let under = MemoryShelf::new(alloc, rules.limit, rules.room, rules.fails.clone()?)?;
@@ -16,7 +29,7 @@ pub fn perform<W: Write>(alloc: Global, name: &str, case: &Case, to: &mut W) -> 
     for step in case.steps.iter() {
         match step {
             Step::Load(HeldFile { name, bytes }) => shelf.under.load(name.as_str(), bytes)?,
-            Step::Run(run) => perform_run(alloc, run, &mut shelf, to)?,
+            Step::Run(run) => perform_run(alloc, run, &mut shelf, disk, to)?,
         }
     }
     Ok(())
@@ -26,11 +39,12 @@ fn perform_run<W: Write>(
     alloc: Global,
     run: &Run,
     shelf: &mut WatchedShelf,
+    disk: &mut MemoryDisk,
     to: &mut W,
 ) -> Result<()> {
     let mut out = pen(alloc, &run.out)?;
     let mut err = pen(alloc, &run.err)?;
-    let status = optra_top::run(alloc, &run.words, shelf, &mut out, &mut err);
+    let status = optra_top::run(alloc, &run.words, shelf, &mut out, &mut err, disk);
     print_words(to, &run.words)?;
     writeln!(to, "status {status}")?;
     print_bytes(to, "out", out.bytes())?;

@@ -4,3 +4,4 @@ pub mod NameLemmas
 pub mod BothReads
 pub mod Examples
 pub mod WritableLemmas
+pub mod ApartLemmas

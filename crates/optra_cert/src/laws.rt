@@ -1,5 +1,6 @@
-//! The law that leads from a valid certificate to its text.
+//! The laws that lead from a valid certificate to its text.
 ghost use Rattle.std.specs.Prelude.{◌≡◌};
+ghost use Rattle.optra_cert.specs.Headways.{headway_texts};
 ghost use Rattle.optra_cert.specs.RowTexts.{AreApart};
 ghost use Rattle.optra_cert.specs.Writables.{ValidIsWritable};
 
@@ -14,4 +15,10 @@ pub fn valid_is_writable<F: RowText>(inst: Instance<'_>, rows: &F)
 {
     let _ = inst.net.track_count();
     let _ = rows;
+}
+
+/// A law, and no work: the kinds of headway rows have different words.
+pub fn headway_kinds_are_apart()
+    ensures { AreApart headway_texts.kinds }
+{
 }

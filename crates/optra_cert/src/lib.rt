@@ -15,7 +15,7 @@ mod row_text;
 mod writing;
 
 pub use cell::Cell;
-pub use laws::valid_is_writable;
+pub use laws::{headway_kinds_are_apart, valid_is_writable};
 pub use row_text::{RowRead, RowText};
 pub use writing::write_certificate;
 

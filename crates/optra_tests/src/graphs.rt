@@ -125,6 +125,16 @@ fn check_served<G: Graphs>(
     Ok(())
 }
 
+fn check_all(rt: &(impl Abort + AllocGlobal), inst: Instance<'_>) -> Result<(), NoMemory>
+    requires { All (λ bid. IsPathOn inst.net.now bid.path) inst.bids.now }
+{
+    check_built(rt, inst)?;
+    let mut graphs = FreshGraphs::new(inst.net);
+    check_served(rt, inst, &mut graphs)?;
+    assert_eq!(rt; graphs.builds(), 9);
+    Ok(())
+}
+
 #[test]
 fn graphs_have_the_arcs_that_were_counted_by_hand(rt: HostRuntime) -> Result<(), Fail> {
     let held = read(rt.alloc(), &BIDS)?;
@@ -132,9 +142,6 @@ fn graphs_have_the_arcs_that_were_counted_by_hand(rt: HostRuntime) -> Result<(),
         net: &held.net,
         bids: &held.bids,
     };
-    check_built(&rt, inst)?;
-    let mut graphs = FreshGraphs::new(inst.net);
-    check_served(&rt, inst, &mut graphs)?;
-    assert_eq!(rt; graphs.builds(), 9);
+    check_all(&rt, inst)?;
     Ok(())
 }

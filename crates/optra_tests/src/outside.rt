@@ -1,11 +1,11 @@
 //! Real files and writers, of which no clause can say what they hold; puts on the shelf in memory; and the shelf and the pen
 //! that never fail.
 use optra_outside::{
-    FolderShelf, MemoryPen, MemoryShelf, NeverPen, NeverShelf, Pen, PenFailed, Shelf, ShelfError,
+    FolderShelf, MemoryDisk, MemoryShelf, NeverPen, NeverShelf, Pen, PenFailed, Shelf, ShelfError,
     StdPen,
 };
-use optra_top::{run, run_without_faults};
-use std::alloc::Global;
+use optra_top::run;
+use std::alloc::{AllocError, Global};
 use std::io::{ErrorKind, Write};
 use std::process::Abort;
 use std::test::Fail;
@@ -152,7 +152,7 @@ fn a_shelf_in_memory(rt: HostRuntime) -> Result<(), Fail> {
     Ok(())
 }
 
-/// The files of one bid, and the text of its plan.
+/// The files of one bid.
 static FILES: [(&str, &str); 7] = [
     ("net/stations.csv", "station\nA\nB\n"),
     ("net/tracks.csv", "track,from,to\nab,A,B\n"),
@@ -175,9 +175,6 @@ static FILES: [(&str, &str); 7] = [
     ),
 ];
 
-const PLAN: &str =
-    "status,optimal\nrevenue,1000\nbound,1000\nnodes,1\ntrain,1,b1,ann,1000\nleg,ab,A,2,B,12,finish,0\n";
-
 fn words(alloc: Global) -> Result<Vec<String>, Fail> {
     let mut words = Vec::new(alloc);
     for word in "plan --net net --bids bids.csv --stops stops.csv".split(' ') {
@@ -186,20 +183,36 @@ fn words(alloc: Global) -> Result<Vec<String>, Fail> {
     Ok(words)
 }
 
+/// The status of a run over the shelf, with an output and an error line that never fail.
+fn status_over(alloc: Global, words: &[String], shelf: &mut NeverShelf) -> Result<u8, AllocError> {
+    let mut disk = MemoryDisk::new(alloc, 0, Vec::new(alloc))?;
+    Ok(run(
+        alloc,
+        words,
+        shelf,
+        &mut NeverPen::new(),
+        &mut NeverPen::new(),
+        &mut disk,
+    ))
+}
+
 #[test]
-fn nothing_fails_over_the_never_shelf(rt: HostRuntime) -> Result<(), Fail> {
+fn a_plan_over_what_never_fails(rt: HostRuntime) -> Result<(), Fail> {
     let alloc = rt.alloc();
     let words = words(alloc)?;
     let mut shelf = NeverShelf::new(alloc, 1000);
-    assert_eq!(rt; run_without_faults(alloc, &words, &mut shelf), 6);
+    assert_eq!(rt; status_over(alloc, &words, &mut shelf)?, 6);
     for (name, content) in &FILES {
         shelf.load(name, content.as_bytes())?;
     }
-    assert_eq!(rt; run_without_faults(alloc, &words, &mut shelf), 0);
-    let mut out = MemoryPen::new(alloc, 1000, Vec::new(alloc), 0)?;
-    let status = run(alloc, &words, &mut shelf, &mut out, &mut NeverPen::new());
-    assert_eq!(rt; status, 0);
-    assert_eq!(rt; out.bytes(), PLAN.as_bytes());
+    assert_eq!(rt; status_over(alloc, &words, &mut shelf)?, 0);
+    Ok(())
+}
+
+#[test]
+fn nothing_fails_over_the_never_shelf(rt: HostRuntime) -> Result<(), Fail> {
+    let alloc = rt.alloc();
+    let mut shelf = NeverShelf::new(alloc, 1000);
     shelf.load("long", &[0; 1001])?;
     expect_get(&rt, alloc, &mut shelf, "long", Err(ShelfError::TooLong));
     expect_get(&rt, alloc, &mut shelf, "none", Err(ShelfError::Absent));

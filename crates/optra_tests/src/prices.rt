@@ -173,17 +173,42 @@ fn check_case<G: Graphs>(
     Ok(())
 }
 
+fn check_all<G: Graphs>(
+    rt: &(impl Abort + AllocGlobal),
+    inst: Instance<'_>,
+    graphs: &G,
+    cases: &[Case],
+) -> Result<(), NoMemory>
+    requires instance { IsInstance inst.net.now inst.bids.now }
+    requires network { G.network graphs.now ≡ inst.net.now }
+    requires held { All (λ bid. Contains (G.held graphs.now) bid.path) inst.bids.now }
+{
+    for case in cases {
+        check_case(rt, inst, graphs, case)?;
+    }
+    Ok(())
+}
+
+fn check_on_graphs(
+    rt: &(impl Abort + AllocGlobal),
+    inst: Instance<'_>,
+    cases: &[Case],
+) -> Result<(), NoMemory>
+    requires { IsInstance inst.net.now inst.bids.now }
+{
+    let mut graphs = FreshGraphs::new(inst.net);
+    graphs.prepare(rt.alloc(), inst.bids)?;
+    check_all(rt, inst, &graphs, cases)?;
+    Ok(())
+}
+
 fn check_cases(rt: &(impl Abort + AllocGlobal), rows: &Rows, cases: &[Case]) -> Result<(), Fail> {
     let held = read(rt.alloc(), rows)?;
     let inst = Instance {
         net: &held.net,
         bids: &held.bids,
     };
-    let mut graphs = FreshGraphs::new(inst.net);
-    graphs.prepare(rt.alloc(), inst.bids)?;
-    for case in cases {
-        check_case(rt, inst, &graphs, case)?;
-    }
+    check_on_graphs(rt, inst, cases)?;
     Ok(())
 }
 
@@ -283,6 +308,33 @@ fn check_result<G: Graphs>(
 }
 
 /// The steps one by one; and the path, which goes on to the last step, or ends after the first one.
+fn check_path<G: Graphs>(
+    rt: &(impl Abort + AllocGlobal),
+    inst: Instance<'_>,
+    graphs: &G,
+) -> Result<(), NoMemory>
+    requires instance { IsInstance inst.net.now inst.bids.now }
+    requires network { G.network graphs.now ≡ inst.net.now }
+    requires held { All (λ bid. Contains (G.held graphs.now) bid.path) inst.bids.now }
+{
+    check_steps(rt, inst, graphs)?;
+    check_result(rt, inst, graphs, 0, 200173)?;
+    check_result(rt, inst, graphs, 1250, 250000)?;
+    Ok(())
+}
+
+fn check_path_on_graphs(
+    rt: &(impl Abort + AllocGlobal),
+    inst: Instance<'_>,
+) -> Result<(), NoMemory>
+    requires { IsInstance inst.net.now inst.bids.now }
+{
+    let mut graphs = FreshGraphs::new(inst.net);
+    graphs.prepare(rt.alloc(), inst.bids)?;
+    check_path(rt, inst, &graphs)?;
+    Ok(())
+}
+
 #[test]
 fn prices_rise_and_fall_by_the_replies(rt: HostRuntime) -> Result<(), Fail> {
     let held = read(rt.alloc(), &ONE_MINUTE)?;
@@ -290,10 +342,6 @@ fn prices_rise_and_fall_by_the_replies(rt: HostRuntime) -> Result<(), Fail> {
         net: &held.net,
         bids: &held.bids,
     };
-    let mut graphs = FreshGraphs::new(inst.net);
-    graphs.prepare(rt.alloc(), inst.bids)?;
-    check_steps(&rt, inst, &graphs)?;
-    check_result(&rt, inst, &graphs, 0, 200173)?;
-    check_result(&rt, inst, &graphs, 1250, 250000)?;
+    check_path_on_graphs(&rt, inst)?;
     Ok(())
 }

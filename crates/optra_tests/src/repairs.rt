@@ -113,19 +113,16 @@ fn repaired<'n, P: Repairer<HeadwayRows, FreshGraphs<'n>>>(
     repairer.repair(alloc, inst, &graphs, &HeadwayRows::new(), &node, dual)
 }
 
-/// The trains of a repair depart at these minutes.
-fn check(
+/// The trains of a repair of an instance depart at these minutes.
+fn check_on(
     rt: &(impl Abort + AllocGlobal),
-    rows: &Rows,
+    inst: Instance<'_>,
     terms: &[Option<i128>],
     want: &[Option<Minute>],
-) -> Result<(), Fail> {
+) -> Result<(), NoMemory>
+    requires { IsInstance inst.net.now inst.bids.now }
+{
     let alloc = rt.alloc();
-    let held = read(alloc, rows)?;
-    let inst = Instance {
-        net: &held.net,
-        bids: &held.bids,
-    };
     let dual = dual(alloc, inst.bids, terms)?;
     assert!(rt; dual.terms.len() == inst.bids.len());
     assert!(rt; are_walks(inst.net, inst.bids, &dual.replies));
@@ -138,6 +135,22 @@ fn check(
         };
         assert_eq!(rt; departure, *minute);
     }
+    Ok(())
+}
+
+/// The trains of a repair depart at these minutes.
+fn check(
+    rt: &(impl Abort + AllocGlobal),
+    rows: &Rows,
+    terms: &[Option<i128>],
+    want: &[Option<Minute>],
+) -> Result<(), Fail> {
+    let held = read(rt.alloc(), rows)?;
+    let inst = Instance {
+        net: &held.net,
+        bids: &held.bids,
+    };
+    check_on(rt, inst, terms, want)?;
     Ok(())
 }
 

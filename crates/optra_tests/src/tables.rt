@@ -8,6 +8,7 @@ use optra_bid::Bid;
 use optra_network::{Network, NoMemory};
 use optra_tables::{ReadError, bids_text, read_bids, stops_text};
 use std::alloc::Global;
+use std::process::Abort;
 use std::test::Fail;
 
 /// A station whose name stands in quotes.
@@ -67,19 +68,31 @@ fn bids_are_written_and_read_again(rt: HostRuntime) -> Result<(), Fail> {
     Ok(())
 }
 
-#[test]
-fn a_copy_is_equal_and_paths_are_compared_whole(rt: HostRuntime) -> Result<(), Fail> {
-    let alloc = rt.alloc();
-    let net = network(alloc, &QUOTED)?;
-    let bids = read_bids(alloc, &net, BIDS[1].as_bytes(), STOPS[1].as_bytes())?;
+/// Each bid's copy is equal, and has its path alone.
+fn check_copies(rt: &impl Abort, alloc: Global, bids: &[Bid]) -> Result<(), NoMemory> {
     for (place, bid) in bids.iter().enumerate() {
         let copy = bid.copied(alloc)?;
-        assert_eq!(rt; copy.name.copied(alloc)?.text(), bid.name.text());
+        assert_eq!(rt; copy.name.text(), bid.name.text());
         assert_eq!(rt; copy.bidder.text(), bid.bidder.text());
         assert_eq!(rt; copy.money, bid.money);
         for (other_place, other) in bids.iter().enumerate() {
             assert_eq!(rt; copy.same_path(other), place == other_place);
         }
+        let name = bid.name.copied(alloc)?;
+        assert_eq!(rt; name.text(), bid.name.text());
     }
+    Ok(())
+}
+
+/// The bids of the written tables.
+fn bids_on(alloc: Global, net: &Network) -> Result<Vec<Bid>, ReadError> {
+    read_bids(alloc, net, BIDS[1].as_bytes(), STOPS[1].as_bytes())
+}
+
+#[test]
+fn a_copy_is_equal_and_paths_are_compared_whole(rt: HostRuntime) -> Result<(), Fail> {
+    let net = network(rt.alloc(), &QUOTED)?;
+    let bids = bids_on(rt.alloc(), &net)?;
+    check_copies(&rt, rt.alloc(), &bids)?;
     Ok(())
 }

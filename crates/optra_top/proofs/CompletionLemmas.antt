@@ -25,7 +25,7 @@ reply-held command before now contents others reply holds replied =
 
 -- contents that are refused have no other reply
 refused-alone : (command : Command) (contents : Contents) (before now now' : DiskState) (status : ℕ) (line : List ℕ) (reply : Reply) → MayReply command contents before now (refused status line) → MayReply command contents before now' reply → reply ≡ refused status line
-refused-alone (Plan net bids stops steps budget cert) contents before now now' status line reply refuses replies = plan-refused-alone steps budget contents status line reply refuses replies
+refused-alone (Plan net bids stops steps budget cert) contents before now now' status line reply refuses replies = plan-refused-alone (record { steps = steps; budget = budget; cert = cert }) contents status line reply refuses replies
 
 not_both : (due : ℕ) (line : List ℕ) (status : ℕ) (text : List ℕ) (puts : List (List ℕ × List ℕ)) → answered status text puts ≡ refused due line → ⊥
 not_both due line status text puts is = cc

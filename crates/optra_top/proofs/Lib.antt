@@ -8,3 +8,4 @@ mod CompletionLemmas
 mod PlanLemmas
 mod BidLemmas
 mod TextLemmas
+pub mod AmountLemmas

@@ -13,25 +13,27 @@ use Rattle.optra_text.specs.FaultLines.{refusal_line}
 use Rattle.optra_top.specs.declared.files.Role.TheVariants.{Bids, Stops}
 use Rattle.optra_top.specs.Faults.{unread_fault, EndsReply}
 use Rattle.optra_top.specs.Files.{Contents, content_of}
-use Rattle.optra_top.specs.PlanCommand.{PlanReplies, PrintsHeadwayPlan, ReplyTo, Tables, meaning_of, net_files}
+use Rattle.optra_top.specs.PlanCommand.{PlanAsked, PlanReplies, PrintsHeadwayPlan, ReplyTo, Tables, meaning_of, net_files}
 use Rattle.optra_top.specs.Puts.{texts_of}
 use Rattle.optra_top.specs.declared.replies.Answer.{Answer}
 use Rattle.optra_top.specs.Replies.{Reply, refused, answered, reply_of}
 use Rattle.optra_top.specs.Statuses.{refused_status}
 
-refused-alone : (steps budget : ℕ) (read : Result Tables TableFault) (status : ℕ) (line : List ℕ) (reply : Reply) → ReplyTo steps budget read (refused status line) → ReplyTo steps budget read reply → reply ≡ refused status line
-refused-alone steps budget (Err fault) status line (refused status' other) refuses replies =
+refused-alone : (asks : PlanAsked) (read : Result Tables TableFault) (status : ℕ) (line : List ℕ) (reply : Reply) → ReplyTo asks read (refused status line) → ReplyTo asks read reply → reply ≡ refused status line
+refused-alone asks (Err fault) status line (refused status' other) refuses replies =
     λ i. refused ((replies.0 ∙ sym refuses.0) i) ((replies.1 ∙ sym refuses.1) i)
-refused-alone steps budget (Err fault) status line (answered status' text puts) refuses replies = absurd replies
-refused-alone steps budget (Ok tables) status line reply refuses replies = absurd refuses
+refused-alone asks (Err fault) status line (answered status' text puts) refuses replies = absurd replies
+refused-alone asks (Ok tables) status line reply refuses replies = absurd refuses
 
-pub plan-refused-alone : (steps budget : ℕ) (contents : Contents) (status : ℕ) (line : List ℕ) (reply : Reply) → PlanReplies steps budget contents (refused status line) → PlanReplies steps budget contents reply → reply ≡ refused status line
-plan-refused-alone steps budget contents status line reply refuses replies = refused-alone steps budget (meaning_of contents) status line reply refuses replies
+pub plan-refused-alone : (asks : PlanAsked) (contents : Contents) (status : ℕ) (line : List ℕ) (reply : Reply) → PlanReplies asks contents (refused status line) → PlanReplies asks contents reply → reply ≡ refused status line
+unfolding PlanReplies
+plan-refused-alone asks contents status line reply refuses replies = refused-alone asks (meaning_of contents) status line reply refuses replies
 
 -- tables that were not read say why, or memory ran out
-pub EndsReply-unread : (steps budget : ℕ) (contents : Contents) (error : ReadError) → Fails error (meaning_of contents) → EndsReply (λ reply. PlanReplies steps budget contents reply) (unread_fault error)
-EndsReply-unread steps budget contents (unread.Fault first) fails = subst (λ read. ReplyTo steps budget read (refused refused_status (refusal_line first))) (sym fails) (refl, refl)
-EndsReply-unread steps budget contents unread.NoMemory fails = tt
+pub EndsReply-unread : (asks : PlanAsked) (contents : Contents) (error : ReadError) → Fails error (meaning_of contents) → EndsReply (λ reply. PlanReplies asks contents reply) (unread_fault error)
+unfolding PlanReplies
+EndsReply-unread asks contents (unread.Fault first) fails = subst (λ read. ReplyTo asks read (refused refused_status (refusal_line first))) (sym fails) (refl, refl)
+EndsReply-unread asks contents unread.NoMemory fails = tt
 
 -- the network's first fault is that of the tables
 pub Fails-net : (contents : Contents) (error : ReadError) → Fails error (network_of (net_files contents)) → Fails error (meaning_of contents)
@@ -56,7 +58,8 @@ Gives-kept view (Ok x) error read is fails = absurd is
 Gives-kept view (Err e) error read is fails = rw is fails
 
 -- a plan of what the tables mean is the reply
-pub plan-replies : (steps budget : ℕ) (contents : Contents) (tables : Tables) (answer : Answer) → meaning_of contents ≡ Ok tables → PrintsHeadwayPlan steps budget tables answer.status answer.text.items → answer.puts.items ≡ []
-    → PlanReplies steps budget contents (reply_of answer)
-plan-replies steps budget contents tables answer is prints puts =
-    subst (λ read. ReplyTo steps budget read (reply_of answer)) (sym is) (prints, ap texts_of puts)
+pub plan-replies : (asks : PlanAsked) (contents : Contents) (tables : Tables) (answer : Answer) → meaning_of contents ≡ Ok tables → PrintsHeadwayPlan asks tables answer.status answer.text.items (texts_of answer.puts.items)
+    → PlanReplies asks contents (reply_of answer)
+unfolding PlanReplies
+plan-replies asks contents tables answer is prints =
+    subst (λ read. ReplyTo asks read (reply_of answer)) (sym is) prints

@@ -1,6 +1,6 @@
 -- The commands: which words ask for one, which files each gets, and what it may reply to their contents. A command more
 -- is an arm more in each definition here.
-use Rattle.std.specs.Prelude.{◌≡◌, ◌⊎◌, ℕ, Bool, List, Option, Some, None, is_none, if◌then◌else◌, map, String, string_bytes}
+use Rattle.std.specs.Prelude.{◌≡◌, ◌⊎◌, ℕ, List, Option, map, String, string_bytes}
 use Rattle.std.specs.declared.alloc.Global.{Global}
 use Rattle.optra_outside.specs.Disk.{DiskState}
 use Rattle.optra_text.specs.Words.{words_of}
@@ -15,18 +15,9 @@ use Rattle.optra_top.specs.Statuses.{optimal_status, gap_status}
 abbrev pub Command : Type 0
 Command = Words
 
--- whether it is built: no certificate is put yet
-abbrev pub is_built : Command → Bool
-is_built (Plan net bids stops steps budget cert) = is_none cert
-
--- the command, where it is built
-abbrev pub built : Option Command → Option Command
-built None = None
-built (Some command) = if is_built command then Some command else None
-
 -- the command that these words ask for; none where they are no command form
 abbrev pub asked : List (String Global) → Option Command
-asked words = built (words_of (map string_bytes words))
+asked words = words_of (map string_bytes words)
 
 -- the file that it gets after these; none once it has got all
 abbrev pub next_file : Command → Contents → Option File
@@ -34,7 +25,7 @@ next_file (Plan net bids stops steps budget cert) contents = next_plan_file net 
 
 -- what it may reply to the contents of its files, with the disk before and after
 abbrev pub MayReply : Command → Contents → DiskState → DiskState → Reply → Type 0
-MayReply (Plan net bids stops steps budget cert) contents before now reply = PlanReplies steps budget contents reply
+MayReply (Plan net bids stops steps budget cert) contents before now reply = PlanReplies (record { steps = steps; budget = budget; cert = cert }) contents reply
 
 -- the statuses of one that did its work
 abbrev pub IsDoneStatus : Command → ℕ → Type 0

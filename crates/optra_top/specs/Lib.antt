@@ -6,6 +6,7 @@ pub mod Replies
 pub mod Plans
 pub mod PlanCommand
 pub mod PlanLaws
+pub mod PlansAsked
 pub mod TablesRead
 pub mod Commands
 pub mod Gets

@@ -1,13 +1,18 @@
 -- The plan command: the files that it gets, and what it replies to their contents.
-use Rattle.std.specs.Prelude.{◌≡◌, ◌⊎◌, ℕ, ℤ, List, [], ◌∷◌, ◌++◌, length, map, Option, slice_get, Result, Ok, Err, codes}
+use Rattle.std.specs.Prelude.{◌≡◌, ◌⊎◌, ℕ, ℤ, List, [], ◌∷◌, ◌++◌, length, map, Option, Some, None, slice_get, Result, Ok, Err, codes}
 use Rattle.std.specs.Prelude.{◌<ℤ◌}
 use Rattle.std.specs.Option.{option_map}
 use Rattle.std.specs.declared.cmp.Ordering.{Ordering}
 use Rattle.optra_network.specs.Net.{Net}
 use Rattle.optra_bid.specs.declared.bids.Bid.{Bid}
+use Rattle.optra_cert.specs.CertTexts.{cert_text}
+use Rattle.optra_cert.specs.Certs.{Cert, IsWritable}
+use Rattle.optra_cert.specs.Headways.{headway_texts}
+use Rattle.optra_cert.specs.RowTexts.{RowTexts}
 use Rattle.optra_walk.specs.Families.{Rows, Entry}
 use Rattle.optra_rows.specs.Headways.{headway_rows, KeepsHeadwayRule}
 use Rattle.optra_rows.specs.TouchedLemmas.{row_cmp}
+use Rattle.optra_rows.specs.declared.HRow.{HRow}
 use Rattle.optra_search.specs.Planner.{Planned}
 use Rattle.optra_tables.specs.declared.TableFault.{TableFault}
 use Rattle.optra_tables.specs.Outcomes.{◌>>=◌}
@@ -78,29 +83,59 @@ abbrev pub IsStatusOf : ℤ → ℤ → ℕ → Type 0
 IsStatusOf revenue bound status =
     ((status ≡ optimal_status) × (revenue ≡ bound)) ⊎ ((status ≡ gap_status) × (revenue <ℤ bound))
 
--- The text and the status are those of the plan of these bids, by rows that state the rule, with so many steps and
--- this budget. There is one such plan, so what
--- is printed is a function of the tables and these two numbers.
-pub record PrintsPlan {R : Type 0} (cmp : R → R → Ordering) (rows : Rows R) (Keeps : List Entry → Type 0) (steps budget : ℕ) (tables : Tables) (status : ℕ) (text : List ℕ) : Type 0 where
+-- ---- what is put
+
+-- the plan as a certificate
+abbrev pub certificate_of : {R : Type 0} → Planned R → Cert R
+certificate_of plan = record { revenue = plan.revenue; bound = plan.bound; choice = plan.choice; tree = plan.tree }
+
+-- the certificate's text under the name, where one is given, in the version of the family's texts
+abbrev pub certificate_puts : {R : Type 0} → RowTexts R → Net → Option (List ℕ) → Cert R → List (List ℕ × List ℕ)
+certificate_puts texts net None cert = []
+certificate_puts texts net (Some name) cert = (name, cert_text texts net texts.version cert) ∷ []
+
+-- ---- the reply
+
+-- a family of rows: their order, what they are, and their texts
+pub record FamilyOf (R : Type 0) : Type 0 where
+  pub cmp : R → R → Ordering
+  pub rows : Rows R
+  pub texts : RowTexts R
+
+-- what is asked of the plan: the price steps, the budget, and the name of the certificate, if it is to be put
+pub record PlanAsked : Type 0 where
+  pub steps : ℕ
+  pub budget : ℕ
+  pub cert : Option (List ℕ)
+
+-- The text, the status and what is put are those of the plan of these bids, by rows that state the rule. There is one
+-- such plan, so all of this is a function of the tables and of what is asked. The plan is a valid certificate that can
+-- be written.
+pub record PrintsPlan {R : Type 0} (family : FamilyOf R) (Keeps : List Entry → Type 0) (asks : PlanAsked) (tables : Tables) (status : ℕ) (text : List ℕ) (puts : List (List ℕ × List ℕ)) : Type 0 where
   pub bids : List Bid
   pub are_those : map parts_of bids ≡ tables.bids
   pub plan : Planned R
-  pub is_plan : IsPlanOf cmp tables.net rows Keeps bids steps budget plan
+  pub is_plan : IsPlanOf family.cmp tables.net family.rows Keeps bids asks.steps asks.budget plan
   pub printed : text ≡ plan_text_of tables.net bids plan.choice plan.revenue plan.bound plan.nodes
   pub ends : IsStatusOf plan.revenue plan.bound status
+  pub writable : IsWritable family.cmp family.texts tables.net (length bids) family.texts.version (certificate_of plan)
+  pub put : puts ≡ certificate_puts family.texts tables.net asks.cert (certificate_of plan)
 
--- the plan by the rows of headways is printed
-abbrev pub PrintsHeadwayPlan : ℕ → ℕ → Tables → ℕ → List ℕ → Type 0
-PrintsHeadwayPlan steps budget tables status text =
-    PrintsPlan row_cmp (headway_rows tables.net) (KeepsHeadwayRule tables.net) steps budget tables status text
+-- the rows of headways
+abbrev pub headway_family : Net → FamilyOf HRow
+headway_family net = record { cmp = row_cmp; rows = headway_rows net; texts = headway_texts }
+
+-- the plan by the rows of headways is printed and put
+abbrev pub PrintsHeadwayPlan : PlanAsked → Tables → ℕ → List ℕ → List (List ℕ × List ℕ) → Type 0
+PrintsHeadwayPlan asks tables status text puts = PrintsPlan (headway_family tables.net) (KeepsHeadwayRule tables.net) asks tables status text puts
 
 -- the reply to what the contents mean
-abbrev pub ReplyTo : ℕ → ℕ → Result Tables TableFault → Reply → Type 0
-ReplyTo steps budget (Err fault) (refused status line) = (status ≡ refused_status) × (line ≡ refusal_line fault)
-ReplyTo steps budget (Err fault) (answered status text puts) = ⊥
-ReplyTo steps budget (Ok tables) (refused status line) = ⊥
-ReplyTo steps budget (Ok tables) (answered status text puts) = PrintsHeadwayPlan steps budget tables status text × (puts ≡ [])
+abbrev pub ReplyTo : PlanAsked → Result Tables TableFault → Reply → Type 0
+ReplyTo asks (Err fault) (refused status line) = (status ≡ refused_status) × (line ≡ refusal_line fault)
+ReplyTo asks (Err fault) (answered status text puts) = ⊥
+ReplyTo asks (Ok tables) (refused status line) = ⊥
+ReplyTo asks (Ok tables) (answered status text puts) = PrintsHeadwayPlan asks tables status text puts
 
 -- the reply to the contents of the files
-abbrev pub PlanReplies : ℕ → ℕ → Contents → Reply → Type 0
-PlanReplies steps budget contents reply = ReplyTo steps budget (meaning_of contents) reply
+unfoldable pub PlanReplies : PlanAsked → Contents → Reply → Type 0
+PlanReplies asks contents reply = ReplyTo asks (meaning_of contents) reply

@@ -52,9 +52,14 @@ pub fn reply_to<D: Disk>(
 {
     let _ = disk;
     match command {
-        Words::Plan { steps, budget, .. } => {
+        Words::Plan {
+            steps,
+            budget,
+            cert,
+            ..
+        } => {
             let (steps, budget) = (*steps, *budget);
-            plan_command::reply(alloc, files, Limits { steps, budget })
+            plan_command::reply(alloc, files, Limits { steps, budget }, cert)
         }
     }
 }

@@ -8,13 +8,12 @@ ghost use Rattle.optra_top.specs.Faults.{EndsBy, line_of, status_of};
 ghost use Rattle.optra_top.specs.Outside.{SaysLine, outside_of};
 ghost use Rattle.optra_top.specs.Statuses.{IsFaultStatus};
 
-use crate::command_line::read_command;
 use crate::commands::reply_to;
 use crate::faults::Fault;
 use crate::outside::{get_files, put_all};
 use crate::statuses;
 use optra_outside::{Disk, Pen, Shelf};
-use optra_text::{FaultView, Words, WordsError, fault_text};
+use optra_text::{FaultView, Words, WordsError, fault_text, read_words};
 use std::alloc::Global;
 
 /// Runs the command of these words, which are those after the program's name, and answers its exit status.
@@ -56,7 +55,7 @@ pub fn run<S: Shelf, O: Pen, E: Pen, D: Disk>(
     ensures statuses { IsFaultStatus result
         ⊎ IsSomeAnd (asked words.now) (λ command. IsDoneStatus command result) }
 {
-    match read_command(alloc, words) {
+    match read_words(alloc, words) {
         Ok(command) => carry_out(alloc, &command, shelf, out, err, disk),
         Err(WordsError::Usage) => {
             let _ = fault_text(err, FaultView::Usage);

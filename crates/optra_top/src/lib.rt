@@ -1,7 +1,6 @@
 //! The commands of the planner, over any shelf and any pens.
 #![tactic(auto)]
 
-mod command_line;
 mod commands;
 mod entry;
 mod family_repairer;

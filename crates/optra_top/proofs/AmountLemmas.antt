@@ -1,0 +1,20 @@
+-- What a plan can be worth at most.
+use Rattle.std.proofs.Common.{◌≡◌, ◌+◌, ◌*◌, ◌≤◌, ◌^◌, ℕ, List, [], ◌∷◌, length, arith}
+use Rattle.std.specs.Prelude.{ℤ, pos, ◌≤ℤ◌, ◌<ℤ◌, ◌+ℤ◌}
+use Rattle.std.proofs.lemmas.Int.{ints}
+use Rattle.optra_bid.specs.declared.bids.Bid.{Bid}
+use Rattle.optra_node.proofs.SumLemmas.{sum_of-cons}
+use Rattle.optra_node.specs.Duals.{sum_of}
+
+-- a base is at most 1,000,000,000 cents
+bases_below : (bids : List Bid) → sum_of (λ b. b.money.base) bids ≤ℤ pos (1000000000 * length bids)
+bases_below [] = omega (arith, ints)
+bases_below (bid ∷ bids) =
+    let s = sum_of-cons (λ (b : Bid). b.money.base) bid bids in
+    let b = bid.bounds.amounts.base.1 in
+    let i = bases_below bids in
+    omega (arith, ints)
+
+-- a bound that is at most the sum of the bases has fewer than 18 digits
+pub bound_small : (bids : List Bid) (bound : ℤ) → length bids ≤ 1000 → bound ≤ℤ sum_of (λ b. b.money.base) bids → bound <ℤ pos (10 ^ 18)
+bound_small bids bound few within = let below = bases_below bids in omega (arith, ints, few, within, below)
