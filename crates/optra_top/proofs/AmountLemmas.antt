@@ -2,7 +2,16 @@
 use Rattle.std.proofs.Common.{◌≡◌, ◌+◌, ◌*◌, ◌≤◌, ◌^◌, ℕ, List, [], ◌∷◌, length, arith}
 use Rattle.std.specs.Prelude.{ℤ, pos, ◌≤ℤ◌, ◌<ℤ◌, ◌+ℤ◌}
 use Rattle.std.proofs.lemmas.Int.{ints}
+use Rattle.std.specs.declared.cmp.Ordering.{Ordering}
+use Rattle.optra_network.specs.Net.{Net}
 use Rattle.optra_bid.specs.declared.bids.Bid.{Bid}
+use Rattle.optra_cert.specs.Certs.{IsWritable}
+use Rattle.optra_cert.specs.RowTexts.{RowTexts}
+use Rattle.optra_cert.specs.Writables.{AreFew, ValidIsWritable}
+use Rattle.optra_walk.specs.Families.{Rows, Entry}
+use Rattle.optra_search.specs.Planner.{Planned}
+use Rattle.optra_top.specs.PlanCommand.{certificate_of}
+use Rattle.optra_top.specs.Plans.{IsPlanOf}
 use Rattle.optra_node.proofs.SumLemmas.{sum_of-cons}
 use Rattle.optra_node.specs.Duals.{sum_of}
 
@@ -18,3 +27,10 @@ bases_below (bid ∷ bids) =
 -- a bound that is at most the sum of the bases has fewer than 18 digits
 pub bound_small : (bids : List Bid) (bound : ℤ) → length bids ≤ 1000 → bound ≤ℤ sum_of (λ b. b.money.base) bids → bound <ℤ pos (10 ^ 18)
 bound_small bids bound few within = let below = bases_below bids in omega (arith, ints, few, within, below)
+
+-- a plan is a certificate that can be written
+pub plan-writable : {R : Type 0} (cmp : R → R → Ordering) (texts : RowTexts R) (net : Net) (rows : Rows R) (Keeps : List Entry → Type 0) (bids : List Bid) (steps budget : ℕ) (plan : Planned R)
+    → ValidIsWritable cmp texts net rows Keeps bids → AreFew cmp rows → length bids ≤ 1000 → IsPlanOf cmp net rows Keeps bids steps budget plan
+    → IsWritable cmp texts net (length bids) texts.version (certificate_of plan)
+plan-writable cmp texts net rows Keeps bids steps budget plan writable few short is =
+    writable (certificate_of plan) few is.certified.formed is.certified.valid is.numbers.least is.numbers.within (bound_small bids plan.bound short is.numbers.bases)

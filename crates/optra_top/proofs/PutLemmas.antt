@@ -1,10 +1,11 @@
 -- Lemmas on puts in a row.
-use Rattle.std.proofs.Common.{◌≡◌, ℕ, ◌+◌, ◌≤◌, ◌<◌, List, [], ◌∷◌, ◌++◌, length, take, get_or, true, refl, ap, ◌∙◌, arith, Result, Ok, Err, IsErr, OnErr}
+use Rattle.std.proofs.Common.{◌≡◌, ℕ, ◌+◌, ◌≤◌, ◌<◌, List, [], ◌∷◌, ◌++◌, length, take, get_or, true, is_err, refl, sym, ap, ◌∙◌, subst, arith, Result, Ok, Err, IsErr, OnErr}
 use Rattle.std.proofs.lemmas.List.{take_more}
 use Rattle.std.specs.FinMap.{insert}
 use Rattle.optra_outside.specs.FileMap.{FileMap}
 use Rattle.optra_outside.specs.Counts.{Rose}
-use Rattle.optra_outside.specs.Shelf.{ShelfState, PutLeaves, SameOthers}
+use Rattle.optra_outside.specs.Shelf.{ShelfState, GetLeaves, PutLeaves, SameOthers}
+use Rattle.optra_top.specs.Outside.{RunLeaves}
 use Rattle.optra_top.specs.Puts.{put_in_order, PutPart}
 
 pub PutLeaves-trans : (a b c : ShelfState) → PutLeaves a b → PutLeaves b c → PutLeaves a c
@@ -40,3 +41,28 @@ put-part before mid now texts at name (Err e) err lt is held told others later r
   held = λ tells. rw (is, ← (held (told tells))) (others tells);
   cause = omega arith;
 }
+
+-- gets and then puts leave this
+pub run-leaves : (before mid now : ShelfState) → GetLeaves before mid → PutLeaves mid now → RunLeaves before now
+run-leaves before mid now got put = record {
+  told = λ tells. sym got.tells ∙ put.told tells;
+  limit = put.limit ∙ got.limit;
+  read_faults = omega (arith, got.read_faults, put.read_faults);
+  write_faults = omega (arith, got.write_faults, put.write_faults);
+  absences = omega (arith, got.absences, put.absences);
+  overlong = omega (arith, got.overlong, put.overlong);
+}
+
+-- a part that was put after the gets was put since before them
+pub part-since : (before mid now : ShelfState) (texts : List (List ℕ × List ℕ)) → GetLeaves before mid → PutPart mid now texts → PutPart before now texts
+part-since before mid now texts got part = record {
+  count = part.count;
+  fewer = part.fewer;
+  held = λ tells. subst (λ (files : FileMap). SameOthers (put_in_order (take part.count texts) files) now.files (get_or texts part.count ([], [])).0) got.files (part.held tells);
+  cause = subst (λ (count : ℕ). Rose count now.write_faults) got.write_faults part.cause;
+}
+
+-- what an error says, where there is one
+pub on-err : {T E : Type 0} (result : Result T E) (P : Type 0) → is_err result ≡ true → OnErr result P → P
+on-err (Ok x) P is says = absurd (cc is)
+on-err (Err e) P is says = says

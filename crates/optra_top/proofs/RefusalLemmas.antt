@@ -26,12 +26,10 @@ refused-alone asks (Err fault) status line (answered status' text puts) refuses 
 refused-alone asks (Ok tables) status line reply refuses replies = absurd refuses
 
 pub plan-refused-alone : (asks : PlanAsked) (contents : Contents) (status : ℕ) (line : List ℕ) (reply : Reply) → PlanReplies asks contents (refused status line) → PlanReplies asks contents reply → reply ≡ refused status line
-unfolding PlanReplies
 plan-refused-alone asks contents status line reply refuses replies = refused-alone asks (meaning_of contents) status line reply refuses replies
 
 -- tables that were not read say why, or memory ran out
 pub EndsReply-unread : (asks : PlanAsked) (contents : Contents) (error : ReadError) → Fails error (meaning_of contents) → EndsReply (λ reply. PlanReplies asks contents reply) (unread_fault error)
-unfolding PlanReplies
 EndsReply-unread asks contents (unread.Fault first) fails = subst (λ read. ReplyTo asks read (refused refused_status (refusal_line first))) (sym fails) (refl, refl)
 EndsReply-unread asks contents unread.NoMemory fails = tt
 
@@ -60,6 +58,5 @@ Gives-kept view (Err e) error read is fails = rw is fails
 -- a plan of what the tables mean is the reply
 pub plan-replies : (asks : PlanAsked) (contents : Contents) (tables : Tables) (answer : Answer) → meaning_of contents ≡ Ok tables → PrintsHeadwayPlan asks tables answer.status answer.text.items (texts_of answer.puts.items)
     → PlanReplies asks contents (reply_of answer)
-unfolding PlanReplies
 plan-replies asks contents tables answer is prints =
     subst (λ read. ReplyTo asks read (reply_of answer)) (sym is) prints

@@ -137,5 +137,5 @@ ReplyTo asks (Ok tables) (refused status line) = ⊥
 ReplyTo asks (Ok tables) (answered status text puts) = PrintsHeadwayPlan asks tables status text puts
 
 -- the reply to the contents of the files
-unfoldable pub PlanReplies : PlanAsked → Contents → Reply → Type 0
+abbrev pub PlanReplies : PlanAsked → Contents → Reply → Type 0
 PlanReplies asks contents reply = ReplyTo asks (meaning_of contents) reply

@@ -1,14 +1,14 @@
--- The plan of the bids is printed, and it can be written.
+-- The plan of the bids is printed, and its certificate can be written.
 use Rattle.std.proofs.Common.{refl, rules}
-use Rattle.optra_top.specs.PlanCommand.{certificate_of}
-use Rattle.optra_top.proofs.AmountLemmas.{bound_small}
+use Rattle.optra_top.proofs.AmountLemmas.{plan-writable}
 use Rattle.optra_top.proofs.plan_command.reply_by.Goals as goal
 
 pub certificate_puts-requires-clause-writable : goal.certificate_puts-requires-clause-writable
 certificate_puts-requires-clause-writable g c =
-    let plan = c.in_ok-plan.plan in
-    let is = c.in_ok-plan.ensures in
-    c.valid_is_writable.ensures (certificate_of plan) c.requires.few is.certified.formed is.certified.valid is.numbers.least is.numbers.within (bound_small c.args.inst.bids.now plan.bound c.requires.instance.few is.numbers.bases)
+    rw c.certificate_of.ensures (
+    plan-writable g.F.Row.Ord.cmp (g.F.RowText.texts_of c.args.rows.now) c.args.inst.net.now (g.F.RowFamily.rows_of c.args.rows.now c.args.inst.net.now) (g.F.RowFamily.KeepsRule c.args.rows.now c.args.inst.net.now)
+    c.args.inst.bids.now c.args.limits.steps c.args.limits.budget c.in_ok-plan.plan c.valid_is_writable.ensures c.requires.few c.requires.instance.few c.in_ok-plan.ensures
+    )
 
 pub returns : goal.returns
 returns g c = record {
@@ -18,6 +18,7 @@ returns g c = record {
   is_plan = c.in_ok-plan.ensures;
   printed = search (rules, c.in_ok-text.ensures);
   ends = search (rules, c.status-status.ensures);
-  writable = certificate_puts-requires-clause-writable g c;
-  put = search (rules, c.in_ok-puts.ensures);
+  writable = plan-writable g.F.Row.Ord.cmp (g.F.RowText.texts_of c.args.rows.now) c.args.inst.net.now (g.F.RowFamily.rows_of c.args.rows.now c.args.inst.net.now) (g.F.RowFamily.KeepsRule c.args.rows.now c.args.inst.net.now)
+      c.args.inst.bids.now c.args.limits.steps c.args.limits.budget c.in_ok-plan.plan c.valid_is_writable.ensures c.requires.few c.requires.instance.few c.in_ok-plan.ensures;
+  put = rw c.certificate_of.ensures at c.in_ok-puts.ensures;
 }
