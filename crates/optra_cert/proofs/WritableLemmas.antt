@@ -19,8 +19,7 @@ use Rattle.optra_cert.specs.Certs.{Cert, IsListed, IsWritable, IsWritableItem}
 use Rattle.optra_cert.specs.Writables.{AreFew}
 
 module _ {R : Type 0} (cmp : R → R → Ordering) (texts : RowTexts R) (net : Net) (rows : Rows R) (Keeps : List Entry → Type 0) (bids : List Bid)
-  (are : AreTexts texts) (fits : (row : R) → rows.is_row row ≡ true → FitsRow texts net row) (few : AreFew cmp rows) where
-
+    (are : AreTexts texts) (fits : (row : R) → rows.is_row row ≡ true → FitsRow texts net row) (few : AreFew cmp rows) where
   -- a list of prices is as long as that of its rows
   few_prices : (prices : PriceList R) → AreAscending cmp prices → ArePrices rows prices → length prices < 10 ^ 18
   few_prices prices ascend priced =
@@ -29,8 +28,8 @@ module _ {R : Type 0} (cmp : R → R → Ordering) (texts : RowTexts R) (net : N
       let is : (i : ℕ) (d : R) → i < length prices → get_or (map first prices) i d ≡ first (get_or prices i (d, pos 0)) =
       λ i d within. get_or-map first prices i (d, pos 0) d within in
       let below : length (map first prices) < 10 ^ 18 = few (map first prices)
-          (λ i j d before within. rw (is i d (omega (arith, long, before, within)), is j d (omega (arith, long, within))) (ascend i j (d, pos 0) before (omega (arith, long, within))))
-          (λ k d within. rw (is k d (omega (arith, long, within))) (priced k (d, pos 0) (omega (arith, long, within))).is_row) in
+      (λ i j d before within. rw (is i d (omega (arith, long, before, within)), is j d (omega (arith, long, within))) (ascend i j (d, pos 0) before (omega (arith, long, within))))
+      (λ k d within. rw (is k d (omega (arith, long, within))) (priced k (d, pos 0) (omega (arith, long, within))).is_row) in
       omega (arith, long, below)
 
   row_of : (row : R) → rows.is_row row ≡ true → IsRowOf texts net texts.version row

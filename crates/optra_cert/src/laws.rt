@@ -20,5 +20,4 @@ pub fn valid_is_writable<F: RowText>(inst: Instance<'_>, rows: &F)
 /// A law, and no work: the kinds of headway rows have different words.
 pub fn headway_kinds_are_apart()
     ensures { AreApart headway_texts.kinds }
-{
-}
+{}

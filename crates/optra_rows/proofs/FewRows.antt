@@ -64,9 +64,9 @@ less_parts : (x y : ℕ) (o : Ordering) → ordering_then (nat_cmp x y) o ≡ Le
 less_parts x y o less = elim (cases_lt x y) [
   | inl lt ↦ inl lt
   | inr ge ↦ elim (cases_lt y x) [
-      | inl gt ↦ absurd (greater_parts x y o gt less)
-      | inr le ↦ let same : x ≡ y = omega arith in inr (same, equal_parts x y o same less)
-    ]
+    | inl gt ↦ absurd (greater_parts x y o gt less)
+    | inr le ↦ let same : x ≡ y = omega arith in inr (same, equal_parts x y o same less)
+  ]
 ]
 
 last_part : (x y : ℕ) → nat_cmp x y ≡ Less → x < y
@@ -89,15 +89,15 @@ places_rise (Pair k t a u b) (Pair k' t' a' u' b') sa sb less =
     elim (less_parts k.0 k'.0 _ less) [
       | inl lt ↦ omega (arith, lt, st, ta, su, tb)
       | inr k_same ↦ let ek = k_same.0 in elim (less_parts t t' _ k_same.1) [
-          | inl lt ↦ omega (arith, ek, lt, ta, su, tb)
-          | inr t_same ↦ let et = t_same.0 in elim (less_parts a.0 a'.0 _ t_same.1) [
-              | inl lt ↦ omega (arith, ek, et, lt, su, tb)
-              | inr a_same ↦ let ea = a_same.0 in elim (less_parts u u' _ a_same.1) [
-                  | inl lt ↦ omega (arith, ek, et, ea, lt, tb)
-                  | inr u_same ↦ let eu = u_same.0 in let l = last_part b.0 b'.0 u_same.1 in omega (arith, ek, et, ea, eu, l)
-                ]
-            ]
+        | inl lt ↦ omega (arith, ek, lt, ta, su, tb)
+        | inr t_same ↦ let et = t_same.0 in elim (less_parts a.0 a'.0 _ t_same.1) [
+          | inl lt ↦ omega (arith, ek, et, lt, su, tb)
+          | inr a_same ↦ let ea = a_same.0 in elim (less_parts u u' _ a_same.1) [
+            | inl lt ↦ omega (arith, ek, et, ea, lt, tb)
+            | inr u_same ↦ let eu = u_same.0 in let l = last_part b.0 b'.0 u_same.1 in omega (arith, ek, et, ea, eu, l)
+          ]
         ]
+      ]
     ]
 
 -- ---- so there are few

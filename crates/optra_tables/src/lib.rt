@@ -21,13 +21,12 @@ mod types;
 mod writing;
 
 pub use networks::read_network;
-pub use stops::read_bids;
-pub use writing::{bids_text, stops_text};
-
 use optra_bid::BidRefusal;
 use optra_network::NetRefusal;
 use std::alloc::{AllocError, AllocFailed};
+pub use stops::read_bids;
 use thiserror::Error;
+pub use writing::{bids_text, stops_text};
 
 /// The tables, in the order in which they are read.
 #[derive(Clone, Copy, Debug, PartialEq, Eq)]

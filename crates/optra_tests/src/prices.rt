@@ -323,10 +323,7 @@ fn check_path<G: Graphs>(
     Ok(())
 }
 
-fn check_path_on_graphs(
-    rt: &(impl Abort + AllocGlobal),
-    inst: Instance<'_>,
-) -> Result<(), NoMemory>
+fn check_path_on_graphs(rt: &(impl Abort + AllocGlobal), inst: Instance<'_>) -> Result<(), NoMemory>
     requires { IsInstance inst.net.now inst.bids.now }
 {
     let mut graphs = FreshGraphs::new(inst.net);

@@ -14,4 +14,3 @@ pub use path_text::PathText;
 pub use plans::{PlanView, plan_text, text_tells_plan};
 pub use verdicts::{VerdictView, verdict_text};
 pub use words::{Words, WordsError, read_words};
-
