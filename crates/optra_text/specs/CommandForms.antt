@@ -26,8 +26,16 @@ pub record IsSimple (app : App) : Type 0 where
 unfoldable pub rows_given : App → List Word → Option (List Row)
 rows_given app words = if is_empty (fault_of app words) then Some (matches_of app words) else None
 
+-- a command that needs the network's folder, the bids and the stops
+abbrev pub tables_app : Word → App
+tables_app name = with_rule (with_rule (with_rule (bare_app name)
+    (option_rule (codes "net") true)) (option_rule (codes "bids") true)) (option_rule (codes "stops") true)
+
 -- plan --net DIR --bids FILE --stops FILE [--steps K] [--budget B] [--cert FILE]
 abbrev pub plan_app : App
-plan_app = with_rule (with_rule (with_rule (with_rule (with_rule (with_rule (bare_app (codes "plan"))
-    (option_rule (codes "net") true)) (option_rule (codes "bids") true)) (option_rule (codes "stops") true))
+plan_app = with_rule (with_rule (with_rule (tables_app (codes "plan"))
     (option_rule (codes "steps") false)) (option_rule (codes "budget") false)) (option_rule (codes "cert") false)
+
+-- check --net DIR --bids FILE --stops FILE --cert FILE
+abbrev pub check_app : App
+check_app = with_rule (tables_app (codes "check")) (option_rule (codes "cert") true)

@@ -1,13 +1,13 @@
 -- Which words are a command form, and what they ask for.
-use Rattle.std.specs.Prelude.{◌≡◌, ◌≤◌, ◌&&◌, ℕ, Bool, List, [], ◌∷◌, length, Option, Some, None, Result, Ok, Err, nat_le, codes, option_map, if◌then◌else◌}
+use Rattle.std.specs.Prelude.{◌≡◌, ◌≤◌, ◌&&◌, ℕ, Bool, List, [], ◌∷◌, length, Option, Some, None, Result, Ok, Err, nat_le, codes, option_map, if◌then◌else◌, ⊤}
 use Rattle.std.specs.Str.{bytes_eq}
 use Rattle.clap.specs.Words.{Row, first_of}
 use Rattle.clap.specs.declared.error.kind.ErrorKind.{ErrorKind}
 use Rattle.clap.specs.declared.error.kind.ErrorKind.TheVariants as kind
 use Rattle.optra_records.specs.Numbers.{number_of}
-use Rattle.optra_text.specs.CommandForms.{Word, rows_given, plan_app}
+use Rattle.optra_text.specs.CommandForms.{Word, rows_given, plan_app, check_app}
 use Rattle.optra_text.specs.declared.words.Words.{Words}
-use Rattle.optra_text.specs.declared.words.Words.TheVariants.{Plan}
+use Rattle.optra_text.specs.declared.words.Words.TheVariants.{Plan, Check}
 use Rattle.optra_text.specs.declared.words.WordsError.{WordsError}
 use Rattle.optra_text.specs.declared.words.WordsError.TheVariants as errors
 
@@ -68,14 +68,27 @@ plan_words words = do
   cert ← optional_path (first_of (codes "cert") rows)
   Some (Plan net bids stops steps budget cert)
 
+-- what the words behind `check` ask for
+unfoldable pub check_words : List Word → Option Words
+check_words words = do
+  rows ← rows_given check_app words
+  net ← needed_path (first_of (codes "net") rows)
+  bids ← needed_path (first_of (codes "bids") rows)
+  stops ← needed_path (first_of (codes "stops") rows)
+  cert ← needed_path (first_of (codes "cert") rows)
+  Some (Check net bids stops cert)
+
 -- What the words ask for, where they are a command form: the first is the command, and the others are its options.
 abbrev pub words_of : List Word → Option Words
 words_of [] = None
-words_of (command ∷ words) = if bytes_eq command (codes "plan") then plan_words words else None
+words_of (command ∷ words) =
+    if bytes_eq command (codes "plan") then plan_words words else (
+    if bytes_eq command (codes "check") then check_words words else None)
 
 -- a plan has a budget of at least one node
 abbrev pub HasBudget : Words → Type 0
 HasBudget (Plan net bids stops steps budget cert) = 1 ≤ budget
+HasBudget (Check net bids stops cert) = ⊤
 
 -- ---- answers
 

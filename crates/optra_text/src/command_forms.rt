@@ -1,7 +1,7 @@
 //! The commands, as `clap` knows them.
 ghost use Rattle.std.specs.Prelude.{◌≡◌, IfOk, false};
 ghost use Rattle.clap.specs.Words.{app_of, rule_of, with_rule};
-ghost use Rattle.optra_text.specs.CommandForms.{bare_app, option_rule, plan_app};
+ghost use Rattle.optra_text.specs.CommandForms.{bare_app, check_app, option_rule, plan_app, tables_app};
 
 use clap::{Arg, ArgAction, Command};
 use std::alloc::{AllocError, Global};
@@ -10,13 +10,30 @@ use std::alloc::{AllocError, Global};
 pub fn plan_command<'a>(alloc: Global) -> Result<Command<'a>, AllocError>
     ensures { IfOk result (λ command. app_of command ≡ plan_app) }
 {
-    let command = bare_command(alloc, "plan");
-    let command = with_option(alloc, command, "net", true)?;
-    let command = with_option(alloc, command, "bids", true)?;
-    let command = with_option(alloc, command, "stops", true)?;
+    let command = tables_command(alloc, "plan")?;
     let command = with_option(alloc, command, "steps", false)?;
     let command = with_option(alloc, command, "budget", false)?;
     let command = with_option(alloc, command, "cert", false)?;
+    Ok(command)
+}
+
+/// check --net DIR --bids FILE --stops FILE --cert FILE
+pub fn check_command<'a>(alloc: Global) -> Result<Command<'a>, AllocError>
+    ensures { IfOk result (λ command. app_of command ≡ check_app) }
+{
+    let command = tables_command(alloc, "check")?;
+    let command = with_option(alloc, command, "cert", true)?;
+    Ok(command)
+}
+
+/// A command that needs the network's folder, the bids and the stops.
+fn tables_command<'a>(alloc: Global, name: &'a str) -> Result<Command<'a>, AllocError>
+    ensures { IfOk result (λ command. app_of command ≡ tables_app name.entry.now) }
+{
+    let command = bare_command(alloc, name);
+    let command = with_option(alloc, command, "net", true)?;
+    let command = with_option(alloc, command, "bids", true)?;
+    let command = with_option(alloc, command, "stops", true)?;
     Ok(command)
 }
 

@@ -9,7 +9,7 @@ use optra_records::{Fields, Printer};
 use std::alloc::Global;
 
 /// A verdict, as it is printed.
-#[derive(Clone, Copy)]
+#[derive(Clone, Copy, Debug, PartialEq, Eq)]
 pub enum VerdictView {
     /// The certificate is valid.
     Yes {
@@ -44,7 +44,7 @@ pub fn verdict_text(alloc: Global, view: VerdictView) -> Result<Vec<u8>, NoMemor
 }
 
 /// Prints the record of a verdict.
-pub(crate) fn print_verdict(
+fn print_verdict(
     alloc: Global,
     printer: &mut Printer,
     fields: &mut Fields,

@@ -2,10 +2,10 @@
 ghost use Rattle.std.specs.Prelude.{◌≡◌, ◌≤◌, map, string_bytes, option_map, IfSome, IfOk};
 ghost use Rattle.clap.specs.Words.{app_of, first_of, found_of, rows_of};
 ghost use Rattle.optra_text.specs.CommandForms.{IsSimple, rows_given};
-ghost use Rattle.optra_text.specs.Words.{HasBudget, IsRefusal, Reads, is_path, needed_path, number_or, number_within, optional_path, plan_words, words_of};
+ghost use Rattle.optra_text.specs.Words.{HasBudget, IsRefusal, Reads, check_words, is_path, needed_path, number_or, number_within, optional_path, plan_words, words_of};
 ghost use Rattle.optra_text.specs.declared.words.WordsError.TheVariants.{NoMemory};
 
-use crate::command_forms::plan_command;
+use crate::command_forms::{check_command, plan_command};
 use crate::path_text::PathText;
 use clap::error::ErrorKind;
 use clap::{ArgMatches, Command};
@@ -41,6 +41,17 @@ pub enum Words {
         /// Where the certificate is to be put, if it is.
         cert: Option<PathText>,
     },
+    /// check --net DIR --bids FILE --stops FILE --cert FILE
+    Check {
+        /// The folder of the network's tables.
+        net: PathText,
+        /// The table of bids.
+        bids: PathText,
+        /// The table of stops.
+        stops: PathText,
+        /// The certificate that is to be checked.
+        cert: PathText,
+    },
 }
 
 /// Why words were not read.
@@ -74,6 +85,7 @@ pub fn read_words(alloc: Global, words: &[String]) -> Result<Words, WordsError>
     };
     match command.as_str() {
         "plan" => read_plan(alloc, options),
+        "check" => read_check(alloc, options),
         _ => Err(WordsError::Usage),
     }
 }
@@ -97,6 +109,25 @@ fn read_plan(alloc: Global, words: &[String]) -> Result<Words, WordsError>
         stops,
         steps: steps as u32,
         budget,
+        cert,
+    })
+}
+
+/// What the words behind `check` ask for.
+#[tactic(auto, unfolding(crate::specs::Words::check_words))]
+fn read_check(alloc: Global, words: &[String]) -> Result<Words, WordsError>
+    ensures read { Reads (λ read. read) result (check_words (map string_bytes words.now)) }
+    ensures budget { IfOk result HasBudget }
+{
+    let matches = matches_of(check_command(alloc)?, words)?;
+    let net = path_of(alloc, given(&matches, "net"))?;
+    let bids = path_of(alloc, given(&matches, "bids"))?;
+    let stops = path_of(alloc, given(&matches, "stops"))?;
+    let cert = path_of(alloc, given(&matches, "cert"))?;
+    Ok(Words::Check {
+        net,
+        bids,
+        stops,
         cert,
     })
 }

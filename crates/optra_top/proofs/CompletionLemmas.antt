@@ -6,16 +6,18 @@ use Rattle.optra_outside.specs.Shelf.{ShelfState}
 use Rattle.optra_outside.specs.declared.shelves.ShelfError.TheVariants.{Absent as NotThere, TooLong as Overlong}
 use Rattle.optra_top.specs.declared.faults.Fault.{Fault}
 use Rattle.optra_top.specs.declared.faults.Fault.TheVariants.{Refused, Read, Absent, TooLong, Write, NoMemory}
-use Rattle.optra_text.specs.declared.words.Words.TheVariants.{Plan}
+use Rattle.optra_text.specs.declared.words.Words.TheVariants.{Plan, Check}
+use Rattle.optra_top.specs.CheckCommand.{PrintsHeadwayVerdict, certificate_in}
 use Rattle.optra_top.specs.Commands.{Command, MayReply}
 use Rattle.optra_top.specs.Ending.{Completes, IsValid, IsRefused, Holds, IsMissing, Replies, IsDone, NoFaults, NoReadFaults}
 use Rattle.optra_top.specs.Faults.{EndsBy, line_of, status_of, refusal_status, refusal_text}
 use Rattle.optra_top.specs.Files.{Contents}
 use Rattle.optra_top.specs.Outside.{Outside, Says}
+use Rattle.optra_top.specs.PlanCommand.{PrintsHeadwayPlan}
 use Rattle.optra_top.specs.Replies.{Reply, refused, answered}
 use Rattle.optra_top.specs.Statuses.{usage_status, memory_status}
 use Rattle.optra_top.proofs.GetLemmas.{one-contents, name-held}
-use Rattle.optra_top.proofs.RefusalLemmas.{plan-refused-alone}
+use Rattle.optra_top.proofs.RefusalLemmas.{tables-refused-alone}
 
 -- the reply to what was got is one to what the shelf holds
 reply-held : (command : Command) (before now : Outside) (contents others : Contents) (reply : Reply) → Holds command before.shelf contents → Replies command before now others reply → MayReply command contents before.disk now.disk reply
@@ -25,7 +27,10 @@ reply-held command before now contents others reply holds replied =
 
 -- contents that are refused have no other reply
 refused-alone : (command : Command) (contents : Contents) (before now now' : DiskState) (status : ℕ) (line : List ℕ) (reply : Reply) → MayReply command contents before now (refused status line) → MayReply command contents before now' reply → reply ≡ refused status line
-refused-alone (Plan net bids stops steps budget cert) contents before now now' status line reply refuses replies = plan-refused-alone (record { steps = steps; budget = budget; cert = cert }) contents status line reply refuses replies
+refused-alone (Plan net bids stops steps budget cert) contents before now now' status line reply refuses replies =
+    tables-refused-alone (PrintsHeadwayPlan (record { steps = steps; budget = budget; cert = cert })) contents status line reply refuses replies
+refused-alone (Check net bids stops cert) contents before now now' status line reply refuses replies =
+    tables-refused-alone (PrintsHeadwayVerdict (certificate_in contents)) contents status line reply refuses replies
 
 not_both : (due : ℕ) (line : List ℕ) (status : ℕ) (text : List ℕ) (puts : List (List ℕ × List ℕ)) → answered status text puts ≡ refused due line → ⊥
 not_both due line status text puts is = cc

@@ -1,4 +1,4 @@
--- What the plan command refuses: contents that are refused have no other reply, and what the tables' faults are.
+-- What a command over tables refuses: contents that are refused have no other reply, and what the tables' faults are.
 use Rattle.std.proofs.Common.{◌≡◌, ℕ, List, [], Result, Ok, Err, refl, sym, ap, ◌∙◌, subst}
 use Rattle.std.specs.Prelude.{IsErrAnd}
 use Rattle.optra_network.specs.Net.{Net}
@@ -10,28 +10,29 @@ use Rattle.optra_tables.specs.Networks.{network_of}
 use Rattle.optra_tables.specs.Bids.{Parts}
 use Rattle.optra_tables.specs.Stops.{bids_of}
 use Rattle.optra_text.specs.FaultLines.{refusal_line}
-use Rattle.optra_top.specs.declared.files.Role.TheVariants.{Bids, Stops}
+use Rattle.optra_tables.specs.declared.Table.TheVariants.{Bids, Stops}
 use Rattle.optra_top.specs.Faults.{unread_fault, EndsReply}
-use Rattle.optra_top.specs.Files.{Contents, content_of}
-use Rattle.optra_top.specs.PlanCommand.{PlanAsked, PlanReplies, PrintsHeadwayPlan, ReplyTo, Tables, meaning_of, net_files}
+use Rattle.optra_top.specs.Files.{Contents}
+use Rattle.optra_top.specs.TableFiles.{AnswerTo, ReplyTo, Tables, meaning_of, net_files, table_content}
 use Rattle.optra_top.specs.Puts.{texts_of}
 use Rattle.optra_top.specs.declared.replies.Answer.{Answer}
 use Rattle.optra_top.specs.Replies.{Reply, refused, answered, reply_of}
 use Rattle.optra_top.specs.Statuses.{refused_status}
 
-refused-alone : (asks : PlanAsked) (read : Result Tables TableFault) (status : ℕ) (line : List ℕ) (reply : Reply) → ReplyTo asks read (refused status line) → ReplyTo asks read reply → reply ≡ refused status line
-refused-alone asks (Err fault) status line (refused status' other) refuses replies =
+refused-alone : (Answers : AnswerTo) (read : Result Tables TableFault) (status : ℕ) (line : List ℕ) (reply : Reply) → ReplyTo Answers read (refused status line) → ReplyTo Answers read reply → reply ≡ refused status line
+refused-alone Answers (Err fault) status line (refused status' other) refuses replies =
     λ i. refused ((replies.0 ∙ sym refuses.0) i) ((replies.1 ∙ sym refuses.1) i)
-refused-alone asks (Err fault) status line (answered status' text puts) refuses replies = absurd replies
-refused-alone asks (Ok tables) status line reply refuses replies = absurd refuses
+refused-alone Answers (Err fault) status line (answered status' text puts) refuses replies = absurd replies
+refused-alone Answers (Ok tables) status line reply refuses replies = absurd refuses
 
-pub plan-refused-alone : (asks : PlanAsked) (contents : Contents) (status : ℕ) (line : List ℕ) (reply : Reply) → PlanReplies asks contents (refused status line) → PlanReplies asks contents reply → reply ≡ refused status line
-plan-refused-alone asks contents status line reply refuses replies = refused-alone asks (meaning_of contents) status line reply refuses replies
+-- contents that are refused have no other reply
+pub tables-refused-alone : (Answers : AnswerTo) (contents : Contents) (status : ℕ) (line : List ℕ) (reply : Reply) → ReplyTo Answers (meaning_of contents) (refused status line) → ReplyTo Answers (meaning_of contents) reply → reply ≡ refused status line
+tables-refused-alone Answers contents status line reply refuses replies = refused-alone Answers (meaning_of contents) status line reply refuses replies
 
 -- tables that were not read say why, or memory ran out
-pub EndsReply-unread : (asks : PlanAsked) (contents : Contents) (error : ReadError) → Fails error (meaning_of contents) → EndsReply (λ reply. PlanReplies asks contents reply) (unread_fault error)
-EndsReply-unread asks contents (unread.Fault first) fails = subst (λ read. ReplyTo asks read (refused refused_status (refusal_line first))) (sym fails) (refl, refl)
-EndsReply-unread asks contents unread.NoMemory fails = tt
+pub EndsReply-unread : (Answers : AnswerTo) (contents : Contents) (error : ReadError) → Fails error (meaning_of contents) → EndsReply (λ reply. ReplyTo Answers (meaning_of contents) reply) (unread_fault error)
+EndsReply-unread Answers contents (unread.Fault first) fails = subst (λ read. ReplyTo Answers read (refused refused_status (refusal_line first))) (sym fails) (refl, refl)
+EndsReply-unread Answers contents unread.NoMemory fails = tt
 
 -- the network's first fault is that of the tables
 pub Fails-net : (contents : Contents) (error : ReadError) → Fails error (network_of (net_files contents)) → Fails error (meaning_of contents)
@@ -40,13 +41,13 @@ Fails-net contents (unread.Fault first) fails = rw fails refl
 Fails-net contents unread.NoMemory fails = tt
 
 -- where the network has no fault, the bids' first one is that of the tables
-pub Fails-bids : (contents : Contents) (net : Net) (error : ReadError) → network_of (net_files contents) ≡ Ok net → Fails error (bids_of net (content_of contents Bids) (content_of contents Stops)) → Fails error (meaning_of contents)
+pub Fails-bids : (contents : Contents) (net : Net) (error : ReadError) → network_of (net_files contents) ≡ Ok net → Fails error (bids_of net (table_content contents Bids) (table_content contents Stops)) → Fails error (meaning_of contents)
 unfolding meaning_of
 Fails-bids contents net (unread.Fault first) is fails = rw (is, fails) refl
 Fails-bids contents net unread.NoMemory is fails = tt
 
 -- a network and bids without a fault are what the tables mean
-pub meaning-read : (contents : Contents) (net : Net) (bids : List Parts) → network_of (net_files contents) ≡ Ok net → bids_of net (content_of contents Bids) (content_of contents Stops) ≡ Ok bids → meaning_of contents ≡ Ok (record { net = net; bids = bids })
+pub meaning-read : (contents : Contents) (net : Net) (bids : List Parts) → network_of (net_files contents) ≡ Ok net → bids_of net (table_content contents Bids) (table_content contents Stops) ≡ Ok bids → meaning_of contents ≡ Ok (record { net = net; bids = bids })
 unfolding meaning_of
 meaning-read contents net bids is read = rw (is, read) refl
 
@@ -55,8 +56,8 @@ pub Gives-kept : {X Y : Type 0} (view : X → Y) (result : Result X ReadError) (
 Gives-kept view (Ok x) error read is fails = absurd is
 Gives-kept view (Err e) error read is fails = rw is fails
 
--- a plan of what the tables mean is the reply
-pub plan-replies : (asks : PlanAsked) (contents : Contents) (tables : Tables) (answer : Answer) → meaning_of contents ≡ Ok tables → PrintsHeadwayPlan asks tables answer.status answer.text.items (texts_of answer.puts.items)
-    → PlanReplies asks contents (reply_of answer)
-plan-replies asks contents tables answer is prints =
-    subst (λ read. ReplyTo asks read (reply_of answer)) (sym is) prints
+-- an answer to what the tables mean is the reply
+pub tables-answered : (Answers : AnswerTo) (contents : Contents) (tables : Tables) (answer : Answer) → meaning_of contents ≡ Ok tables → Answers tables answer.status answer.text.items (texts_of answer.puts.items)
+    → ReplyTo Answers (meaning_of contents) (reply_of answer)
+tables-answered Answers contents tables answer is answers =
+    subst (λ read. ReplyTo Answers read (reply_of answer)) (sym is) answers

@@ -1,10 +1,12 @@
 -- The files that a command gets: what each is for, its name, and what it held when it was got.
-use Rattle.std.specs.Prelude.{◌≡◌, ℕ, ◌≤◌, Bool, nat_eq, List, [], ◌∷◌, length, map, Some, string_bytes, if◌then◌else◌}
+use Rattle.std.specs.Prelude.{◌≡◌, ℕ, ◌≤◌, Bool, true, false, nat_eq, List, [], ◌∷◌, length, map, Some, string_bytes, if◌then◌else◌}
 use Rattle.std.specs.List.{AllByRecursion}
 use Rattle.std.specs.FinMap.{get}
 use Rattle.optra_outside.specs.Shelf.{ShelfState}
+use Rattle.optra_tables.specs.declared.Table.{Table}
+use Rattle.optra_tables.specs.declared.Table.TheVariants.{Stations, Tracks, Types, Running, Headways, Bids, Stops}
 use Rattle.optra_top.specs.declared.files.Role.{Role}
-use Rattle.optra_top.specs.declared.files.Role.TheVariants.{Stations, Tracks, Types, Running, Headways, Bids, Stops}
+use Rattle.optra_top.specs.declared.files.Role.TheVariants as roles
 use Rattle.optra_top.specs.declared.files.Asked as asked_file
 use Rattle.optra_top.specs.declared.files.Got as got_file
 
@@ -32,18 +34,21 @@ file_got got = record { file = file_asked got.asked; content = got.content.items
 abbrev pub files_got : List got_file.Got → Contents
 files_got files = map file_got files
 
--- each role has a number of its own
-abbrev pub role_number : Role → ℕ
-role_number Stations = 0
-role_number Tracks = 1
-role_number Types = 2
-role_number Running = 3
-role_number Headways = 4
-role_number Bids = 5
-role_number Stops = 6
+-- each table has a number of its own
+abbrev pub table_number : Table → ℕ
+table_number Stations = 0
+table_number Tracks = 1
+table_number Types = 2
+table_number Running = 3
+table_number Headways = 4
+table_number Bids = 5
+table_number Stops = 6
 
 abbrev pub same_role : Role → Role → Bool
-same_role a b = nat_eq (role_number a) (role_number b)
+same_role (roles.Table a) (roles.Table b) = nat_eq (table_number a) (table_number b)
+same_role (roles.Table a) roles.Certificate = false
+same_role roles.Certificate (roles.Table b) = false
+same_role roles.Certificate roles.Certificate = true
 
 -- the content of the first file in the role; nothing where there is none
 abbrev pub content_of : Contents → Role → List ℕ

@@ -4,7 +4,10 @@ pub mod Files
 pub mod Puts
 pub mod Replies
 pub mod Plans
+pub mod Families
+pub mod TableFiles
 pub mod PlanCommand
+pub mod CheckCommand
 pub mod PlanLaws
 pub mod PlansAsked
 pub mod TablesRead

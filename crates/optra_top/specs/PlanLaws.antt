@@ -3,7 +3,8 @@ use Rattle.std.specs.Prelude.{◌≡◌, ℕ, List, map}
 use Rattle.optra_network.specs.Net.{Net}
 use Rattle.optra_bid.specs.declared.bids.Bid.{Bid}
 use Rattle.optra_tables.specs.Bids.{parts_of}
-use Rattle.optra_top.specs.PlanCommand.{PlanAsked, Tables, PrintsHeadwayPlan}
+use Rattle.optra_top.specs.PlanCommand.{PlanAsked, PrintsHeadwayPlan}
+use Rattle.optra_top.specs.TableFiles.{Tables}
 
 -- the tables of these bids
 abbrev pub tables_of : Net → List Bid → Tables

@@ -9,6 +9,14 @@ optimal_status = 0
 abbrev pub gap_status : ℕ
 gap_status = 1
 
+-- a certificate is valid
+abbrev pub valid_status : ℕ
+valid_status = 0
+
+-- a certificate can't be read, or isn't valid
+abbrev pub denied_status : ℕ
+denied_status = 4
+
 -- the words are no command form
 abbrev pub usage_status : ℕ
 usage_status = 2

@@ -1,8 +1,8 @@
 -- The tables, as they were read.
 use Rattle.std.specs.Prelude.{map}
 use Rattle.optra_tables.specs.Bids.{parts_of}
-use Rattle.optra_top.specs.PlanCommand as meaning
-use Rattle.optra_top.specs.declared.plan_command.Tables.{Tables}
+use Rattle.optra_top.specs.TableFiles as meaning
+use Rattle.optra_top.specs.declared.table_files.Tables.{Tables}
 
 -- the network and the bids that were read
 abbrev pub tables_seen : Tables → meaning.Tables

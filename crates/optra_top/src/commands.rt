@@ -7,10 +7,12 @@ ghost use Rattle.optra_top.specs.Faults.{EndsReply};
 ghost use Rattle.optra_top.specs.Files.{file_asked, files_got};
 ghost use Rattle.optra_top.specs.Replies.{reply_of};
 
+use crate::check_command;
 use crate::faults::Fault;
 use crate::files::{Asked, Got};
 use crate::plan_command;
 use crate::replies::Answer;
+use crate::table_files::next_table_file;
 use optra_outside::Disk;
 use optra_search::Limits;
 use optra_text::Words;
@@ -31,7 +33,16 @@ pub fn next_file(alloc: Global, command: &Words, got: &[Got]) -> Result<Option<A
             bids,
             stops,
             ..
-        } => plan_command::next_plan_file(alloc, net.text(), bids.text(), stops.text(), got),
+        } => next_table_file(alloc, net.text(), bids.text(), stops.text(), got),
+        Words::Check {
+            net,
+            bids,
+            stops,
+            cert,
+        } => {
+            let (net, bids, stops) = (net.text(), bids.text(), stops.text());
+            check_command::next_check_file(alloc, net, bids, stops, cert.text(), got)
+        }
     }
 }
 
@@ -61,5 +72,6 @@ pub fn reply_to<D: Disk>(
             let (steps, budget) = (*steps, *budget);
             plan_command::reply(alloc, files, Limits { steps, budget }, cert)
         }
+        Words::Check { .. } => check_command::reply(alloc, files),
     }
 }

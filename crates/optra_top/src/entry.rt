@@ -20,15 +20,16 @@ use std::alloc::Global;
 ///
 /// | Status | Meaning |
 /// |---|---|
-/// | 0 | the plan is printed, and its bound is its revenue |
+/// | 0 | the plan is printed, and its bound is its revenue; or the certificate is valid |
 /// | 1 | the plan is printed, and its bound is above its revenue |
 /// | 2 | the words are no command form |
 /// | 3 | the tables are refused |
+/// | 4 | the certificate can't be read or isn't valid, and the verdict is printed |
 /// | 5, 6, 9 | a file could not be read, isn't there, or is too long |
 /// | 7 | a file could not be put, or the output failed |
 /// | 8 | no memory |
 ///
-/// From 2 on one line goes to `err`. An `err` that fails changes no status. What is held, printed and put is told only
+/// From 2 on, but for 4, one line goes to `err`. An `err` that fails changes no status. What is held, printed and put is told only
 /// of a shelf, pens and a disk that tell it, as those in memory do.
 pub fn run<S: Shelf, O: Pen, E: Pen, D: Disk>(
     alloc: Global,

@@ -2,23 +2,15 @@
 ghost use Rattle.std.specs.Prelude.{◌≡◌, map};
 ghost use Rattle.optra_top.specs.Files.{content_of, files_got};
 
+use optra_tables::Table;
+
 /// What a file that a command gets is for.
 #[derive(Clone, Copy, Debug, PartialEq, Eq)]
 pub enum Role {
-    /// The stations of the network.
-    Stations,
-    /// Its tracks.
-    Tracks,
-    /// Its train types.
-    Types,
-    /// Its running times.
-    Running,
-    /// Its headways.
-    Headways,
-    /// The bids.
-    Bids,
-    /// The stops of the bids.
-    Stops,
+    /// It is a table.
+    Table(Table),
+    /// It is the text of a certificate.
+    Certificate,
 }
 
 /// A file that a command asks for.

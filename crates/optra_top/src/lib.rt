@@ -1,6 +1,7 @@
 //! The commands of the planner, over any shelf and any pens.
 #![tactic(auto)]
 
+mod check_command;
 mod commands;
 mod entry;
 mod family_repairer;
@@ -12,6 +13,7 @@ mod plan_command;
 mod plans;
 mod replies;
 mod statuses;
+mod table_files;
 
 pub use entry::run;
 pub use laws::{headways_tell_conflicts, one_text};

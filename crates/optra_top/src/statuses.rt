@@ -6,6 +6,12 @@ pub const OPTIMAL: u8 = 0;
 /// A command did its work, and a bound that it printed is above its revenue.
 pub const GAP: u8 = 1;
 
+/// A certificate is valid.
+pub const VALID: u8 = 0;
+
+/// A certificate can't be read, or isn't valid.
+pub const DENIED: u8 = 4;
+
 /// The words are no command form.
 pub const USAGE: u8 = 2;
 

@@ -1,9 +1,9 @@
 -- The first fault of the network's tables, or else of the bids', is that of the tables.
 use Rattle.optra_top.specs.Files.{files_got}
-use Rattle.optra_top.specs.PlanCommand.{meaning_of}
+use Rattle.optra_top.specs.TableFiles.{meaning_of}
 use Rattle.optra_top.specs.TablesRead.{tables_seen}
 use Rattle.optra_top.proofs.RefusalLemmas.{Fails-net, Fails-bids, Gives-kept, meaning-read}
-use Rattle.optra_top.proofs.plan_command.read_tables.Goals as goal
+use Rattle.optra_top.proofs.table_files.read_tables.Goals as goal
 
 pub returns-in_err-net-clause-read : goal.returns-in_err-net-clause-read
 returns-in_err-net-clause-read c =
@@ -13,10 +13,10 @@ returns-in_err-net-clause-read c =
 pub returns-in_err-bids-clause-read : goal.returns-in_err-bids-clause-read
 returns-in_err-bids-clause-read c =
     let contents = files_got c.args.files.now in
-    let fails = rw (c.content_of-bids.ensures, c.content_of-stops.ensures) at c.in_err-bids.ensures.gives in
+    let fails = rw (c.table_content-bids.ensures, c.table_content-stops.ensures) at c.in_err-bids.ensures.gives in
     Gives-kept tables_seen c.from_residual-in_err-bids.result c.in_err-bids.field-0.0 (meaning_of contents) c.from_residual-in_err-bids.ensures.1 (Fails-bids contents c.in_ok-net.net c.in_err-bids.field-0.0 c.in_ok-net.ensures fails)
 
 pub returns-clause-read : goal.returns-clause-read
 returns-clause-read c =
-    let read = rw (c.content_of-bids.ensures, c.content_of-stops.ensures) at c.in_ok-bids.ensures.gives in
+    let read = rw (c.table_content-bids.ensures, c.table_content-stops.ensures) at c.in_ok-bids.ensures.gives in
     meaning-read (files_got c.args.files.now) c.in_ok-net.net _ c.in_ok-net.ensures read

@@ -1,0 +1,144 @@
+//! The check command: the file that it gets after the tables, and what it replies to the contents of its files.
+ghost use Rattle.std.specs.Prelude.{◌≡◌, ◌<◌, [], length, map, option_map, IfOk, IfErr, IfSome};
+ghost use Rattle.optra_bid.specs.Instances.{IsInstance};
+ghost use Rattle.optra_cert.specs.RowTexts.{AreApart};
+ghost use Rattle.optra_checker.specs.Verdicts.{IsVerdict};
+ghost use Rattle.optra_top.specs.CheckCommand.{CheckReplies, IsVerdictOn, fault_number, next_check_file, reason_number, verdict_status};
+ghost use Rattle.optra_top.specs.Faults.{EndsReply};
+ghost use Rattle.optra_top.specs.Files.{file_asked, files_got};
+ghost use Rattle.optra_top.specs.Plans.{TellsConflicts};
+ghost use Rattle.optra_top.specs.Replies.{reply_of};
+
+use crate::faults::Fault;
+use crate::files::{Asked, Got, Role, content_of};
+use crate::laws::headways_tell_conflicts;
+use crate::replies::Answer;
+use crate::statuses;
+use crate::table_files::{TABLES, next_table_file, read_tables};
+use optra_cert::{CertCode, CertError, RowText, headway_kinds_are_apart, read_certificate};
+use optra_checker::{Reason, Verdict, check};
+use optra_network::NoMemory;
+use optra_node::bound_holds;
+use optra_rows::HeadwayRows;
+use optra_text::{VerdictView, verdict_text};
+use optra_walk::Instance;
+use std::alloc::{AllocError, Global};
+
+/// The file that the command gets after these, or `None` once it has got all. The words name the network's folder, the
+/// bids, the stops and the certificate.
+pub fn next_check_file(
+    alloc: Global,
+    net: &str,
+    bids: &str,
+    stops: &str,
+    cert: &str,
+    got: &[Got],
+) -> Result<Option<Asked>, AllocError>
+    ensures next { IfOk result (λ next.
+        option_map file_asked next ≡ next_check_file net.now bids.now stops.now cert.now (files_got got.now)) }
+    ensures few { IfOk result (λ next. IfSome next (λ _. length got.now < 8)) }
+{
+    if got.len() == TABLES {
+        let name = String::from_str(alloc, cert)?;
+        let role = Role::Certificate;
+        return Ok(Some(Asked { role, name }));
+    }
+    next_table_file(alloc, net, bids, stops, got)
+}
+
+/// Reads the tables and the certificate, and checks it. It errs exactly where the tables are refused, or by want of
+/// memory: a certificate that can't be read or isn't valid is answered.
+pub fn reply(alloc: Global, files: &[Got]) -> Result<Answer, Fault>
+    ensures ok { IfOk result (λ answer. CheckReplies (files_got files.now) (reply_of answer)) }
+    ensures fault { IfErr result (λ fault.
+        EndsReply (λ reply. CheckReplies (files_got files.now) reply) fault) }
+{
+    let tables = read_tables(alloc, files)?;
+    let inst = Instance {
+        net: &tables.net,
+        bids: &tables.bids,
+    };
+    headways_tell_conflicts(inst);
+    headway_kinds_are_apart();
+    let bytes = content_of(files, Role::Certificate);
+    let view = verdict_on(alloc, inst, &HeadwayRows::new(), bytes)?;
+    let text = verdict_text(alloc, view)?;
+    let status = status(view);
+    let puts = Vec::new(alloc);
+    Ok(Answer { status, text, puts })
+}
+
+/// The verdict on bytes, by a family of rows.
+fn verdict_on<F: RowText>(
+    alloc: Global,
+    inst: Instance<'_>,
+    rows: &F,
+    bytes: &[u8],
+) -> Result<VerdictView, NoMemory>
+    requires instance { IsInstance inst.net.now inst.bids.now }
+    requires rule { TellsConflicts inst.net.now inst.bids.now (F.KeepsRule rows.now inst.net.now) }
+    requires apart { AreApart (F.texts_of rows.now).kinds }
+    ensures { IfOk result (λ view. let net = inst.entry.net.now in
+        IsVerdictOn (record {
+          cmp = F.Row.cmp;
+          rows = F.rows_of rows.now net;
+          texts = F.texts_of rows.now;
+        }) (F.KeepsRule rows.now net) net inst.entry.bids.now bytes.now view) }
+{
+    let cert = match read_certificate(alloc, inst, rows, bytes) {
+        Ok(cert) => cert,
+        Err(CertError::NoMemory) => return Err(NoMemory),
+        Err(CertError::Fault(fault)) => {
+            return Ok(VerdictView::Unreadable {
+                row: fault.row,
+                code: fault_number(fault.code),
+            });
+        }
+    };
+    bound_holds(inst, rows);
+    match check(alloc, inst, rows, &cert)? {
+        Verdict::Yes { revenue, bound } => Ok(VerdictView::Yes { revenue, bound }),
+        Verdict::No(reason) => Ok(VerdictView::No {
+            reason: reason_number(reason),
+        }),
+    }
+}
+
+/// The number of a reason, as it is printed behind `K`.
+fn reason_number(reason: Reason) -> u8
+    ensures { result ≡ reason_number reason }
+{
+    match reason {
+        Reason::Walk => 1,
+        Reason::Conflict => 2,
+        Reason::Revenue => 3,
+        Reason::Decision => 4,
+        Reason::DeadLeaf => 5,
+        Reason::Price => 6,
+        Reason::Bound => 7,
+    }
+}
+
+/// The number of a fault, as it is printed behind `C`.
+fn fault_number(code: CertCode) -> u8
+    ensures { result ≡ fault_number code }
+{
+    match code {
+        CertCode::Csv => 1,
+        CertCode::Version => 2,
+        CertCode::Record => 3,
+        CertCode::Name => 4,
+        CertCode::Number => 5,
+        CertCode::Order => 6,
+    }
+}
+
+/// The status of a verdict.
+fn status(view: VerdictView) -> u8
+    ensures { result ≡ verdict_status view }
+{
+    match view {
+        VerdictView::Yes { .. } => statuses::VALID,
+        VerdictView::No { .. } | VerdictView::Unreadable { .. } => statuses::DENIED,
+    }
+}

@@ -1,0 +1,127 @@
+//! The tables that a command over a network and its bids gets, and what they mean.
+ghost use Rattle.std.specs.Prelude.{◌≡◌, ◌<◌, ◌++◌, length, option_map, slice_get, string_bytes, IfOk, IfSome};
+ghost use Rattle.optra_bid.specs.Instances.{IsInstance};
+ghost use Rattle.optra_tables.specs.Outcomes.{Gives};
+ghost use Rattle.optra_tables.specs.Networks.{network_of};
+ghost use Rattle.optra_top.specs.Files.{file_asked, files_got};
+ghost use Rattle.optra_top.specs.TableFiles.{all_tables, meaning_of, net_files, next_table_file, table_content, table_file_name};
+ghost use Rattle.optra_top.specs.TablesRead.{tables_seen};
+
+use crate::files::{Asked, Got, Role, content_of};
+use optra_bid::Bid;
+use optra_network::Network;
+use optra_tables::{NetFiles, ReadError, Table, read_bids, read_network};
+use std::alloc::{AllocError, Global};
+
+/// How many tables there are.
+pub const TABLES: usize = 7;
+
+/// The tables, in the order in which they are got.
+const ALL_TABLES: [Table; TABLES] = [
+    Table::Stations,
+    Table::Tracks,
+    Table::Types,
+    Table::Running,
+    Table::Headways,
+    Table::Bids,
+    Table::Stops,
+];
+
+/// The file of the next table after these files, or `None` once all are got. The words name the network's folder, the
+/// bids and the stops.
+pub fn next_table_file(
+    alloc: Global,
+    net: &str,
+    bids: &str,
+    stops: &str,
+    got: &[Got],
+) -> Result<Option<Asked>, AllocError>
+    ensures next { IfOk result (λ next.
+        option_map file_asked next ≡ next_table_file net.now bids.now stops.now (files_got got.now)) }
+    ensures few { IfOk result (λ next. IfSome next (λ _. length got.now < 7)) }
+{
+    let Some(table) = table_at(got.len()) else {
+        return Ok(None);
+    };
+    let name = file_name(alloc, net, bids, stops, table)?;
+    let role = Role::Table(table);
+    Ok(Some(Asked { role, name }))
+}
+
+/// The table at a place.
+fn table_at(place: usize) -> Option<Table>
+    ensures table { result ≡ slice_get all_tables place }
+    ensures few { IfSome result (λ _. place < 7) }
+{
+    ALL_TABLES.get(place).copied()
+}
+
+/// The name of a table's file.
+fn file_name(
+    alloc: Global,
+    net: &str,
+    bids: &str,
+    stops: &str,
+    table: Table,
+) -> Result<String, AllocError>
+    ensures { IfOk result (λ name. string_bytes name ≡ table_file_name net.now bids.now stops.now table) }
+{
+    match table {
+        Table::Stations => joined(alloc, net, "/stations.csv"),
+        Table::Tracks => joined(alloc, net, "/tracks.csv"),
+        Table::Types => joined(alloc, net, "/types.csv"),
+        Table::Running => joined(alloc, net, "/running.csv"),
+        Table::Headways => joined(alloc, net, "/headways.csv"),
+        Table::Bids => joined(alloc, bids, ""),
+        Table::Stops => joined(alloc, stops, ""),
+    }
+}
+
+/// One text behind another.
+fn joined(alloc: Global, front: &str, back: &str) -> Result<String, AllocError>
+    ensures { IfOk result (λ text. string_bytes text ≡ front.now ++ back.now) }
+{
+    let mut text = String::from_str(alloc, front)?;
+    text.push_str(back)?;
+    Ok(text)
+}
+
+/// A network and its bids.
+#[derive(Drop)]
+pub struct Tables {
+    pub net: Network,
+    pub bids: Vec<Bid>,
+}
+
+/// The tables that the files mean. It errs by their first fault, or by want of memory.
+pub fn read_tables(alloc: Global, files: &[Got]) -> Result<Tables, ReadError>
+    ensures read { Gives tables_seen result (meaning_of (files_got files.now)) }
+    ensures instance { IfOk result (λ tables. IsInstance tables.net tables.bids.items) }
+{
+    let net = read_net(alloc, files)?;
+    let bids = table_content(files, Table::Bids);
+    let stops = table_content(files, Table::Stops);
+    let bids = read_bids(alloc, &net, bids, stops)?;
+    Ok(Tables { net, bids })
+}
+
+/// The network that its tables mean.
+fn read_net(alloc: Global, files: &[Got]) -> Result<Network, ReadError>
+    ensures { Gives (λ net. net) result (network_of (net_files (files_got files.now))) }
+{
+    let tables = NetFiles {
+        stations: table_content(files, Table::Stations),
+        tracks: table_content(files, Table::Tracks),
+        types: table_content(files, Table::Types),
+        running: table_content(files, Table::Running),
+        headways: table_content(files, Table::Headways),
+    };
+    read_network(alloc, &tables)
+}
+
+/// The content of a table's file.
+fn table_content(files: &[Got], table: Table) -> &[u8]
+    ensures { result.now ≡ table_content (files_got files.now) table }
+{
+    content_of(files, Role::Table(table))
+}
