@@ -6,6 +6,7 @@ use Rattle.clap.specs.declared.error.kind.ErrorKind.{ErrorKind}
 use Rattle.clap.specs.declared.error.kind.ErrorKind.TheVariants as kind
 use Rattle.optra_records.specs.Numbers.{number_of}
 use Rattle.optra_text.specs.CommandForms.{Word, rows_given, plan_app, check_app}
+use Rattle.optra_text.specs.declared.words.TablePaths.{TablePaths}
 use Rattle.optra_text.specs.declared.words.Words.{Words}
 use Rattle.optra_text.specs.declared.words.Words.TheVariants.{Plan, Check}
 use Rattle.optra_text.specs.declared.words.WordsError.{WordsError}
@@ -56,27 +57,31 @@ steps_of rows = number_or 40 0 1000 (first_of (codes "steps") rows)
 abbrev pub budget_of : List Row → Option ℕ
 budget_of rows = number_or 200 1 10000 (first_of (codes "budget") rows)
 
+-- the network's folder, the bids and the stops, which every command over tables requires
+abbrev pub tables_given : List Row → Option TablePaths
+tables_given rows = do
+  net ← needed_path (first_of (codes "net") rows)
+  bids ← needed_path (first_of (codes "bids") rows)
+  stops ← needed_path (first_of (codes "stops") rows)
+  Some (record { net = net; bids = bids; stops = stops })
+
 -- what the words behind `plan` ask for
 unfoldable pub plan_words : List Word → Option Words
 plan_words words = do
   rows ← rows_given plan_app words
-  net ← needed_path (first_of (codes "net") rows)
-  bids ← needed_path (first_of (codes "bids") rows)
-  stops ← needed_path (first_of (codes "stops") rows)
+  tables ← tables_given rows
   steps ← steps_of rows
   budget ← budget_of rows
   cert ← optional_path (first_of (codes "cert") rows)
-  Some (Plan net bids stops steps budget cert)
+  Some (Plan tables.net tables.bids tables.stops steps budget cert)
 
 -- what the words behind `check` ask for
 unfoldable pub check_words : List Word → Option Words
 check_words words = do
   rows ← rows_given check_app words
-  net ← needed_path (first_of (codes "net") rows)
-  bids ← needed_path (first_of (codes "bids") rows)
-  stops ← needed_path (first_of (codes "stops") rows)
+  tables ← tables_given rows
   cert ← needed_path (first_of (codes "cert") rows)
-  Some (Check net bids stops cert)
+  Some (Check tables.net tables.bids tables.stops cert)
 
 -- What the words ask for, where they are a command form: the first is the command, and the others are its options.
 abbrev pub words_of : List Word → Option Words

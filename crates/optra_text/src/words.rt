@@ -2,7 +2,7 @@
 ghost use Rattle.std.specs.Prelude.{◌≡◌, ◌≤◌, map, string_bytes, option_map, IfSome, IfOk};
 ghost use Rattle.clap.specs.Words.{app_of, first_of, found_of, rows_of};
 ghost use Rattle.optra_text.specs.CommandForms.{IsSimple, rows_given};
-ghost use Rattle.optra_text.specs.Words.{HasBudget, IsRefusal, Reads, check_words, is_path, needed_path, number_or, number_within, optional_path, plan_words, words_of};
+ghost use Rattle.optra_text.specs.Words.{HasBudget, IsRefusal, Reads, check_words, is_path, needed_path, number_or, number_within, optional_path, plan_words, tables_given, words_of};
 ghost use Rattle.optra_text.specs.declared.words.WordsError.TheVariants.{NoMemory};
 
 use crate::command_forms::{check_command, plan_command};
@@ -97,9 +97,7 @@ fn read_plan(alloc: Global, words: &[String]) -> Result<Words, WordsError>
     ensures budget { IfOk result HasBudget }
 {
     let matches = matches_of(plan_command(alloc)?, words)?;
-    let net = path_of(alloc, given(&matches, "net"))?;
-    let bids = path_of(alloc, given(&matches, "bids"))?;
-    let stops = path_of(alloc, given(&matches, "stops"))?;
+    let TablePaths { net, bids, stops } = tables_given(alloc, &matches)?;
     let steps = number_or(DEFAULT_STEPS, 0, MOST_STEPS, given(&matches, "steps"))?;
     let budget = number_or(DEFAULT_BUDGET, 1, MOST_BUDGET, given(&matches, "budget"))?;
     let cert = path_or_none(alloc, given(&matches, "cert"))?;
@@ -120,9 +118,7 @@ fn read_check(alloc: Global, words: &[String]) -> Result<Words, WordsError>
     ensures budget { IfOk result HasBudget }
 {
     let matches = matches_of(check_command(alloc)?, words)?;
-    let net = path_of(alloc, given(&matches, "net"))?;
-    let bids = path_of(alloc, given(&matches, "bids"))?;
-    let stops = path_of(alloc, given(&matches, "stops"))?;
+    let TablePaths { net, bids, stops } = tables_given(alloc, &matches)?;
     let cert = path_of(alloc, given(&matches, "cert"))?;
     Ok(Words::Check {
         net,
@@ -130,6 +126,24 @@ fn read_check(alloc: Global, words: &[String]) -> Result<Words, WordsError>
         stops,
         cert,
     })
+}
+
+/// The paths of the tables, which every command over tables requires.
+#[derive(Drop)]
+struct TablePaths {
+    net: PathText,
+    bids: PathText,
+    stops: PathText,
+}
+
+/// The network's folder, the bids and the stops.
+fn tables_given(alloc: Global, matches: &ArgMatches<'_>) -> Result<TablePaths, WordsError>
+    ensures { Reads (λ tables. tables) result (tables_given (rows_of (found_of matches.now))) }
+{
+    let net = path_of(alloc, given(matches, "net"))?;
+    let bids = path_of(alloc, given(matches, "bids"))?;
+    let stops = path_of(alloc, given(matches, "stops"))?;
+    Ok(TablePaths { net, bids, stops })
 }
 
 /// What `clap` finds in the words of a command.

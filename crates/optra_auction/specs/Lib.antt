@@ -1,0 +1,2 @@
+-- The auction machine: what stands, which actions are refused, and what a round leaves.
+pub mod Machine
