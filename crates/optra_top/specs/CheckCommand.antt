@@ -8,7 +8,7 @@ use Rattle.optra_cert.specs.Faults.{IsFirstFault}
 use Rattle.optra_cert.specs.declared.CertCode.{CertCode}
 use Rattle.optra_cert.specs.declared.CertCode.TheVariants as faults
 use Rattle.optra_cert.specs.declared.CertFault.{CertFault}
-use Rattle.optra_checker.specs.Verdicts.{FailsFirst}
+use Rattle.optra_checker.specs.Verdicts.{IsFirstReason}
 use Rattle.optra_checker.specs.declared.Reason.{Reason}
 use Rattle.optra_checker.specs.declared.Reason.TheVariants as reasons
 use Rattle.optra_node.specs.Certificates.{IsValid}
@@ -78,7 +78,7 @@ pub record IsDenied {R : Type 0} (family : FamilyOf R) (Keeps : List Entry → T
   pub cert : Cert R
   pub text : IsTextOf family.cmp family.texts net (length bids) bytes cert
   pub reason : Reason
-  pub fails : FailsFirst net family.rows Keeps bids cert reason
+  pub fails : IsFirstReason net family.rows Keeps bids cert reason
   pub number_is : number ≡ reason_number reason
 
 -- The bytes are no certificate's text, and this is their first fault.
