@@ -8,4 +8,5 @@ mod CompletionLemmas
 mod PlanLemmas
 mod BidLemmas
 mod TextLemmas
+mod VerdictLemmas
 pub mod AmountLemmas

@@ -9,6 +9,7 @@ pub mod TableFiles
 pub mod PlanCommand
 pub mod CheckCommand
 pub mod PlanLaws
+pub mod CheckLaws
 pub mod PlansAsked
 pub mod TablesRead
 pub mod Commands

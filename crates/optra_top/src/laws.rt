@@ -1,8 +1,10 @@
-//! Laws of the printed plan, each as the contract of a call that does nothing else.
+//! Laws of the printed plan and of the verdict on it, each as the contract of a call that does nothing else.
 ghost use Rattle.optra_rows.specs.Headways.{KeepsHeadwayRule};
+ghost use Rattle.optra_top.specs.CheckLaws.{ConfirmsPlan};
 ghost use Rattle.optra_top.specs.PlanLaws.{OneText};
 ghost use Rattle.optra_top.specs.Plans.{TellsConflicts};
 
+use optra_cert::{headway_kinds_are_apart, text_has_no_fault, text_tells_cert};
 use optra_rows::HeadwayRows;
 use optra_search::plan_laws;
 use optra_walk::Instance;
@@ -20,4 +22,14 @@ pub fn one_text(inst: Instance<'_>)
     ensures { OneText inst.entry.net.now inst.entry.bids.now }
 {
     plan_laws(inst, &HeadwayRows::new());
+}
+
+/// A law, and no work: what the plan command puts as its certificate, the check command answers Yes of, with the printed
+/// revenue and bound.
+pub fn check_confirms_plan(inst: Instance<'_>)
+    ensures { ConfirmsPlan inst.entry.net.now inst.entry.bids.now }
+{
+    headway_kinds_are_apart();
+    text_tells_cert(inst, &HeadwayRows::new());
+    text_has_no_fault(inst, &HeadwayRows::new());
 }

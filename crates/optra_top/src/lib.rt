@@ -16,4 +16,4 @@ mod statuses;
 mod table_files;
 
 pub use entry::run;
-pub use laws::{headways_tell_conflicts, one_text};
+pub use laws::{check_confirms_plan, headways_tell_conflicts, one_text};

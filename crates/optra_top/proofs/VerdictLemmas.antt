@@ -1,0 +1,62 @@
+-- The verdict on bytes; and that what a plan puts is confirmed.
+use Rattle.std.proofs.Common.{◌≡◌, ◌≤◌, ℕ, ℤ, List, [], ◌∷◌, length, refl, sym, ap, ◌∙◌, subst, arith}
+use Rattle.optra_network.specs.Net.{Net}
+use Rattle.optra_bid.specs.declared.bids.Bid.{Bid}
+use Rattle.optra_cert.specs.CertLaws.{IsTextOf, TextTellsCert, TextHasNoFault}
+use Rattle.optra_cert.specs.CertTexts.{cert_text}
+use Rattle.optra_cert.specs.Certs.{Cert}
+use Rattle.optra_cert.specs.Headways.{headway_texts}
+use Rattle.optra_checker.specs.Verdicts.{IsFirstReason}
+use Rattle.optra_checker.specs.declared.Reason.{Reason}
+use Rattle.optra_checker.specs.declared.Reason.TheVariants.{Walk, Conflict, Revenue, Decision, DeadLeaf, Price, Bound}
+use Rattle.optra_node.specs.Certificates.{IsValid}
+use Rattle.optra_rows.specs.Headways.{headway_rows, KeepsHeadwayRule}
+use Rattle.optra_rows.specs.TouchedLemmas.{row_cmp}
+use Rattle.optra_rows.specs.declared.HRow.{HRow}
+use Rattle.optra_text.specs.VerdictTexts.{verdict_text_of}
+use Rattle.optra_text.specs.declared.verdicts.VerdictView.{VerdictView}
+use Rattle.optra_text.specs.declared.verdicts.VerdictView.TheVariants.{Yes, No, Unreadable}
+use Rattle.optra_walk.specs.Families.{Rows, Entry}
+use Rattle.optra_top.specs.CheckCommand.{IsVerdictOn, verdict_status}
+use Rattle.optra_top.specs.CheckLaws.{ConfirmsPlan}
+use Rattle.optra_top.specs.Families.{headway_family}
+use Rattle.optra_top.specs.PlanCommand.{PlanAsked, PrintsHeadwayPlan, certificate_of, certificate_puts}
+use Rattle.optra_top.specs.PlanLaws.{tables_of}
+use Rattle.optra_top.specs.Statuses.{valid_status}
+use Rattle.optra_top.proofs.BidLemmas.{bids-from_parts}
+
+-- a valid certificate has no reason against it
+pub valid-no_reason : {R : Type 0} (net : Net) (rows : Rows R) (Keeps : List Entry → Type 0) (bids : List Bid) (cert : Cert R) (reason : Reason)
+    → IsValid net rows Keeps bids cert.revenue cert.bound cert.choice cert.tree → IsFirstReason net rows Keeps bids cert reason → ⊥
+valid-no_reason net rows Keeps bids cert Walk valid fails = fails valid.walks
+valid-no_reason net rows Keeps bids cert Conflict valid fails = fails.1 valid.rule
+valid-no_reason net rows Keeps bids cert Revenue valid fails = fails.2 valid.revenue_is
+valid-no_reason net rows Keeps bids cert Decision valid fails = fails.3 valid.splits
+valid-no_reason net rows Keeps bids cert DeadLeaf valid fails = fails.4 valid.dead
+valid-no_reason net rows Keeps bids cert Price valid fails = fails.5 valid.prices
+valid-no_reason net rows Keeps bids cert Bound valid fails = fails.6 valid.bound_is
+
+module _ (net : Net) (bids : List Bid) (tells : TextTellsCert row_cmp headway_texts net (length bids)) (faultless : TextHasNoFault row_cmp headway_texts net (length bids)) where
+  abbrev pub ValidHere : Cert HRow → Type 0
+  ValidHere cert = IsValid net (headway_rows net) (KeepsHeadwayRule net) bids cert.revenue cert.bound cert.choice cert.tree
+
+  -- the verdict on the text of a valid certificate is Yes, with its numbers
+  verdict-yes : (bytes : List ℕ) (cert : Cert HRow) (verdict : VerdictView) → IsTextOf row_cmp headway_texts net (length bids) bytes cert → ValidHere cert
+      → IsVerdictOn (headway_family net) (KeepsHeadwayRule net) net bids bytes verdict → verdict ≡ Yes cert.revenue cert.bound
+  verdict-yes bytes cert (Yes revenue bound) text valid found =
+      let same : found.cert ≡ cert = tells bytes found.cert cert found.text text in
+      let r = found.revenue_is ∙ ap (λ (c : Cert HRow). c.revenue) same in
+      let b = found.bound_is ∙ ap (λ (c : Cert HRow). c.bound) same in
+      λ i. Yes (r i) (b i)
+  verdict-yes bytes cert (No number) text valid found =
+      let same : cert ≡ found.cert = tells bytes cert found.cert text found.text in
+      absurd (valid-no_reason net (headway_rows net) (KeepsHeadwayRule net) bids found.cert found.reason (subst ValidHere same valid) found.fails)
+  verdict-yes bytes cert (Unreadable row number) text valid found = absurd (faultless bytes cert found.fault text found.first)
+
+  -- what a plan puts is the text of its certificate
+  put-text : (asks : PlanAsked) (name bytes : List ℕ) (status : ℕ) (text : List ℕ) (p : PrintsHeadwayPlan asks (tables_of net bids) status text ((name, bytes) ∷ []))
+      → bytes ≡ cert_text headway_texts net headway_texts.version (certificate_of p.plan)
+  put-text asks name bytes status text p = ?
+
+  pub confirms : ConfirmsPlan net bids
+  confirms asks name bytes status status' text text' puts p v = ?
