@@ -1,10 +1,10 @@
 -- The verdict on bytes; and that what a plan puts is confirmed.
-use Rattle.std.proofs.Common.{◌≡◌, ◌≤◌, ℕ, ℤ, List, [], ◌∷◌, length, refl, sym, ap, ◌∙◌, subst, arith}
+use Rattle.std.proofs.Common.{◌≡◌, ◌≤◌, ℕ, ℤ, List, [], ◌∷◌, length, Option, None, Some, refl, sym, ap, ◌∙◌, subst, arith}
 use Rattle.optra_network.specs.Net.{Net}
 use Rattle.optra_bid.specs.declared.bids.Bid.{Bid}
 use Rattle.optra_cert.specs.CertLaws.{IsTextOf, TextTellsCert, TextHasNoFault}
 use Rattle.optra_cert.specs.CertTexts.{cert_text}
-use Rattle.optra_cert.specs.Certs.{Cert}
+use Rattle.optra_cert.specs.Certs.{Cert, IsWritable}
 use Rattle.optra_cert.specs.Headways.{headway_texts}
 use Rattle.optra_checker.specs.Verdicts.{IsFirstReason}
 use Rattle.optra_checker.specs.declared.Reason.{Reason}
@@ -53,10 +53,30 @@ module _ (net : Net) (bids : List Bid) (tells : TextTellsCert row_cmp headway_te
       absurd (valid-no_reason net (headway_rows net) (KeepsHeadwayRule net) bids found.cert found.reason (subst ValidHere same valid) found.fails)
   verdict-yes bytes cert (Unreadable row number) text valid found = absurd (faultless bytes cert found.fault text found.first)
 
-  -- what a plan puts is the text of its certificate
-  put-text : (asks : PlanAsked) (name bytes : List ℕ) (status : ℕ) (text : List ℕ) (p : PrintsHeadwayPlan asks (tables_of net bids) status text ((name, bytes) ∷ []))
-      → bytes ≡ cert_text headway_texts net headway_texts.version (certificate_of p.plan)
-  put-text asks name bytes status text p = ?
+  text_put : List (List ℕ × List ℕ) → List ℕ
+  text_put [] = []
+  text_put (put ∷ puts) = put.1
 
+  put-text : (path : Option (List ℕ)) (name bytes : List ℕ) (cert : Cert HRow) → (name, bytes) ∷ [] ≡ certificate_puts headway_texts net path cert → bytes ≡ cert_text headway_texts net headway_texts.version cert
+  put-text None name bytes cert e = absurd (cc e)
+  put-text (Some path) name bytes cert e = ap text_put e
+
+  -- the verdict on what a plan puts is Yes
   pub confirms : ConfirmsPlan net bids
-  confirms asks name bytes status status' text text' puts p v = ?
+  confirms asks name bytes status status' text text' puts p v =
+      let cert = certificate_of p.plan in
+      let planned : p.bids ≡ bids = bids-from_parts p.bids bids p.are_those in
+      let checked : v.bids ≡ bids = bids-from_parts v.bids bids v.are_those in
+      let is_text : IsTextOf row_cmp headway_texts net (length bids) bytes cert = record {
+        version = headway_texts.version;
+        least = omega arith;
+        most = omega arith;
+        writable = subst (λ (b : List Bid). IsWritable row_cmp headway_texts net (length b) headway_texts.version cert) planned p.writable;
+        text = put-text asks.cert name bytes cert p.put;
+      } in
+      let valid : ValidHere cert = subst (λ (b : List Bid). IsValid net (headway_rows net) (KeepsHeadwayRule net) b cert.revenue cert.bound cert.choice cert.tree) planned p.is_plan.certified.valid in
+      let found = subst (λ (b : List Bid). IsVerdictOn (headway_family net) (KeepsHeadwayRule net) net b bytes v.verdict) checked v.finds in
+      let yes = verdict-yes bytes cert v.verdict is_text valid found in (
+        v.ends ∙ ap verdict_status yes,
+        v.printed ∙ ap verdict_text_of yes,
+      )
