@@ -5,3 +5,4 @@ pub mod BothReads
 pub mod Examples
 pub mod WritableLemmas
 pub mod ApartLemmas
+pub mod LegLemmas

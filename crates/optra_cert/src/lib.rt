@@ -8,6 +8,7 @@ use std::marker::Model;
 
 mod cell;
 mod columns;
+mod fields;
 mod headways;
 mod joining;
 mod laws;
