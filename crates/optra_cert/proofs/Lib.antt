@@ -6,3 +6,5 @@ pub mod Examples
 pub mod WritableLemmas
 pub mod ApartLemmas
 pub mod LegLemmas
+pub mod CellLemmas
+pub mod TreeLemmas
