@@ -8,3 +8,4 @@ pub mod ApartLemmas
 pub mod LegLemmas
 pub mod CellLemmas
 pub mod TreeLemmas
+pub mod RunLemmas

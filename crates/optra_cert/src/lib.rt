@@ -4,6 +4,7 @@
 use optra_network::Cents;
 use optra_node::Item;
 use optra_walk::Choice;
+use std::alloc::{AllocError, AllocFailed};
 use std::marker::Model;
 
 mod cell;
@@ -16,6 +17,7 @@ mod laws;
 mod read_tree;
 mod read_walks;
 mod reading;
+mod record_reader;
 mod refusals;
 mod row_text;
 mod rows_told;
@@ -23,6 +25,7 @@ mod writing;
 
 pub use cell::Cell;
 pub use laws::{headway_kinds_are_apart, valid_is_writable};
+pub use record_reader::read_certificate;
 pub use row_text::{RowRead, RowText};
 pub use writing::write_certificate;
 
@@ -82,4 +85,26 @@ pub enum CertError {
     Fault(CertFault),
     /// Memory couldn't be had.
     NoMemory,
+}
+
+impl From<AllocError> for CertError {
+    ghost use Rattle.std.specs.Prelude.{◌≡◌};
+    ghost use Rattle.optra_cert.specs.declared.CertError.TheVariants.{NoMemory};
+
+    ghost from_gives = { λ _ e. e ≡ NoMemory };
+
+    fn from(_e: AllocError) -> CertError {
+        CertError::NoMemory
+    }
+}
+
+impl<T: Drop> From<AllocFailed<T>> for CertError {
+    ghost use Rattle.std.specs.Prelude.{◌≡◌};
+    ghost use Rattle.optra_cert.specs.declared.CertError.TheVariants.{NoMemory};
+
+    ghost from_gives = { λ _ e. e ≡ NoMemory };
+
+    fn from(_e: AllocFailed<T>) -> CertError {
+        CertError::NoMemory
+    }
 }

@@ -60,10 +60,7 @@ pub fn row_told<F: RowText>(
     ensures { Gives (λ told. told) result (row_or_fault (read_row (F.texts_of frame.now.rows.now) frame.now.inst.net.now frame.now.version (take n (drop 1 (fields_of row.now))))) }
 {
     put_fields(alloc, cells, row, n)?;
-    match frame
-        .rows
-        .read(frame.inst.net, frame.version, &cells[..n])
-    {
+    match frame.rows.read(frame.inst.net, frame.version, &cells[..n]) {
         RowRead::Row(told) => Ok(told),
         RowRead::Kind => Err(Refusal::Fault(CertCode::Record)),
         RowRead::Name => Err(Refusal::Fault(CertCode::Name)),
