@@ -1,8 +1,8 @@
 -- Reading records one after the other, as a loop does.
-use Rattle.std.proofs.Common.{◌≡◌, ℕ, ◌+◌, ◌*◌, ◌<◌, ◌≤◌, Bool, true, false, cond, List, [], ◌∷◌, ◌++◌, length, drop, Option, Some, None, nat_le, refl, sym, ap, ◌∙◌, arith, subst, bytes_eq, not, ◌&&◌}
-use Rattle.std.specs.Prelude.{Result, Ok, Err, codes, ◌==◌, slice_set, if◌then◌else◌}
+use Rattle.std.proofs.Common.{◌≡◌, ℕ, ◌+◌, ◌*◌, ◌≤◌, Bool, true, false, cond, List, [], ◌∷◌, ◌++◌, length, drop, Some, nat_le, refl, sym, ap, arith, subst, bytes_eq, not, ◌&&◌}
+use Rattle.std.specs.Prelude.{Result, Ok, Err, codes, ◌==◌, slice_set}
 use Rattle.optra_node.specs.Nodes.{legs_at}
-use Rattle.std.specs.List.{list_all, flat_map}
+use Rattle.std.specs.List.{list_all}
 use Rattle.std.specs.Str.{is_utf8}
 use Rattle.std.specs.declared.cmp.Ordering.{Ordering}
 use Rattle.std.proofs.lemmas.Bool.{and_parts}
@@ -19,7 +19,7 @@ use Rattle.optra_cert.specs.Certs.{Cert}
 use Rattle.optra_cert.specs.Forms.{field_at}
 use Rattle.optra_cert.specs.Outcomes.{◌>>=◌, StopsAt}
 use Rattle.optra_cert.specs.RowTexts.{RowTexts}
-use Rattle.optra_cert.specs.Steps.{State, TreeSoFar, WalksSoFar, amount_told, body_step, bound_step, cert_of, end_step, fault, in_row, is_whole, leg_added, leg_told, read_rows, revenue_step, step, step_at, tree_step}
+use Rattle.optra_cert.specs.Steps.{State, WalksSoFar, amount_told, body_step, bound_step, cert_of, end_step, fault, in_row, is_whole, leg_added, leg_told, read_rows, revenue_step, step, step_at, tree_step}
 use Rattle.optra_cert.specs.declared.CertCode.{CertCode}
 use Rattle.optra_cert.specs.declared.CertCode.TheVariants as code
 use Rattle.optra_cert.specs.declared.CertError.{CertError}

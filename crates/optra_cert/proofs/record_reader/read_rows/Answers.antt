@@ -1,6 +1,6 @@
 -- Each record goes on, or is the first fault.
-use Rattle.std.proofs.Common.{ℕ, ◌≡◌, None, ◌∷◌, ◌+◌, length, refl, sym, ap, ◌∙◌, arith}
-use Rattle.std.specs.Prelude.{Ok, replicate}
+use Rattle.std.proofs.Common.{◌≡◌, None, ◌∷◌, length, sym, ap, ◌∙◌, arith}
+use Rattle.std.specs.Prelude.{Ok}
 use Rattle.std.proofs.lemmas.List.{length-replicate}
 use Rattle.std.proofs.lemmas.Result.{err_from_is_err_and}
 use Rattle.csv.specs.Records.{fields_of}

@@ -1,6 +1,5 @@
 -- A canonical text has no byte-order mark, and at most half as many records as bytes.
-use Rattle.std.proofs.Common.{◌≡◌, true, length, sym, ap, ◌∙◌, arith}
-use Rattle.optra_records.specs.Canonical.{is_canonical}
+use Rattle.std.proofs.Common.{length, sym, ap, ◌∙◌, arith}
 use Rattle.optra_cert.proofs.RunLemmas.{canonical_few, canonical_no_mark}
 use Rattle.optra_cert.proofs.record_reader.read_text.Goals as goal
 

@@ -1,5 +1,5 @@
 -- The last field stands alone.
-use Rattle.std.proofs.Common.{◌-◌, sym, ◌∙◌, ap, ◌∷◌, [], List, ℕ, arith, subst, refl}
+use Rattle.std.proofs.Common.{◌-◌, ◌∙◌, ap, ◌∷◌, [], List, ℕ, arith, subst, refl}
 use Rattle.csv.specs.Records.{fields_of}
 use Rattle.optra_cert.specs.Forms.{field_at}
 use Rattle.optra_cert.specs.Outcomes.{Gives}

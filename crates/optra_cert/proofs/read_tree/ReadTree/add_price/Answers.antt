@@ -1,6 +1,6 @@
 -- A price of a row that is above is added.
-use Rattle.std.proofs.Common.{◌≡◌, ◌-◌, ◌++◌, ◌∷◌, [], sym, ap, ◌∙◌, FitsSigned, w64, to_z-of_z, rules}
-use Rattle.optra_cert.specs.Steps.{TreeSoFar, filled}
+use Rattle.std.proofs.Common.{sym, ap, ◌∙◌, FitsSigned, w64, to_z-of_z, rules}
+use Rattle.optra_cert.specs.Steps.{filled}
 use Rattle.optra_cert.proofs.TreeLemmas.{price_goes}
 use Rattle.optra_cert.proofs.read_tree.ReadTree.add_price.Goals as goal
 
