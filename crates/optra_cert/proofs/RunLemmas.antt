@@ -19,7 +19,7 @@ use Rattle.optra_cert.specs.Certs.{Cert}
 use Rattle.optra_cert.specs.Forms.{field_at}
 use Rattle.optra_cert.specs.Outcomes.{◌>>=◌, StopsAt}
 use Rattle.optra_cert.specs.RowTexts.{RowTexts}
-use Rattle.optra_cert.specs.Steps.{State, WalksSoFar, amount_told, body_step, bound_step, cert_of, end_step, fault, in_row, is_whole, leg_added, leg_told, read_rows, revenue_step, step, step_at, tree_step}
+use Rattle.optra_cert.specs.Steps.{State, WalksSoFar, amount_told, body_step, bound_step, cert_of, end_step, fault, in_row, is_whole, leg_added, leg_told, read_rows, revenue_step, started, step, step_at, tree_step}
 use Rattle.optra_cert.specs.declared.CertCode.{CertCode}
 use Rattle.optra_cert.specs.declared.CertCode.TheVariants as code
 use Rattle.optra_cert.specs.declared.CertError.{CertError}
@@ -101,26 +101,30 @@ module _ {R : Type 0} (cmp : R → R → Ordering) (texts : RowTexts R) (net : N
 
   -- ---- the records in turn
 
+  -- what all records behind the first give
+  abbrev whole : List Record → Result (Cert R) CertFault
+  whole all = read_rows cmp texts net bids version (started bids) 2 all
+
   -- a record that is taken leaves the others to be read
-  pub rows_go : (before after : List Record) (fields : Record) (s next : State R) (row : ℕ) (whole : Result (Cert R) CertFault) → before ≡ fields ∷ after
+  pub rows_go : (before after : List Record) (fields : Record) (s next : State R) (row : ℕ) (all : List Record) → before ≡ fields ∷ after
       → in_row row (step cmp texts net bids version s fields) ≡ Ok next
-      → read_rows cmp texts net bids version s row before ≡ whole → read_rows cmp texts net bids version next (row + 1) after ≡ whole
+      → read_rows cmp texts net bids version s row before ≡ whole all → read_rows cmp texts net bids version next (row + 1) after ≡ whole all
   unfolding read_rows
-  rows_go before after fields s next row whole b e g = rw (b, e) at g
+  rows_go before after fields s next row all b e g = rw (b, e) at g
 
   -- a fault of a record is the first fault
-  pub rows_stop : (before after : List Record) (fields : Record) (s : State R) (row : ℕ) (whole : Result (Cert R) CertFault) (error : CertError) → before ≡ fields ∷ after
+  pub rows_stop : (before after : List Record) (fields : Record) (s : State R) (row : ℕ) (all : List Record) (error : CertError) → before ≡ fields ∷ after
       → StopsAt error (in_row row (step cmp texts net bids version s fields))
-      → read_rows cmp texts net bids version s row before ≡ whole → StopsAt error whole
+      → read_rows cmp texts net bids version s row before ≡ whole all → StopsAt error (whole all)
   unfolding read_rows
-  rows_stop before after fields s row whole errors.NoMemory b e g = tt
-  rows_stop before after fields s row whole (errors.Fault f) b e g = sym (rw (b, e) at g)
+  rows_stop before after fields s row all errors.NoMemory b e g = tt
+  rows_stop before after fields s row all (errors.Fault f) b e g = sym (rw (b, e) at g)
 
   -- without a record the tree is whole or not
-  pub rows_end : (before : List Record) (s : State R) (row : ℕ) (whole : Result (Cert R) CertFault) → before ≡ []
-      → read_rows cmp texts net bids version s row before ≡ whole → whole ≡ end_step cmp texts net bids version s row
+  pub rows_end : (before : List Record) (s : State R) (row : ℕ) (all : List Record) → before ≡ []
+      → read_rows cmp texts net bids version s row before ≡ whole all → whole all ≡ end_step cmp texts net bids version s row
   unfolding read_rows
-  rows_end before s row whole b g = sym (rw b at g)
+  rows_end before s row all b g = sym (rw b at g)
 
   pub ends_whole : (s : State R) (row : ℕ) → is_whole s.tree ≡ true → end_step cmp texts net bids version s row ≡ Ok (cert_of s)
   ends_whole s row e = rw e refl

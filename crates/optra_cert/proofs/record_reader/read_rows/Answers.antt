@@ -29,7 +29,7 @@ rows-preserved g c =
       each = step_stays g.F.Row.Ord.cmp (g.F.RowText.texts_of frame.rows.now) frame.inst.net.now bids frame.version c.rows.reading c.take_row.new.reading fields c.rows.number c.in_ok-take_row.ensures ∙ c.rows.invariant.each;
       room = omega (arith, ap length read, c.rows.invariant.room);
       rest =
-          rows_go g.F.Row.Ord.cmp (g.F.RowText.texts_of frame.rows.now) frame.inst.net.now bids frame.version c.rows.records c.next.new.self fields c.rows.reading c.take_row.new.reading c.rows.number _
+          rows_go g.F.Row.Ord.cmp (g.F.RowText.texts_of frame.rows.now) frame.inst.net.now bids frame.version c.rows.records c.next.new.self fields c.rows.reading c.take_row.new.reading c.rows.number c.args.records.now
           read c.in_ok-take_row.ensures c.rows.invariant.rest;
     }
 
@@ -41,7 +41,7 @@ returns-in_err-take_row g c =
     let read : c.rows.records ≡ fields ∷ c.next.new.self = rw c.if-branch.true at c.in_ok-next.ensures.read in
     let p = err_from_is_err_and c.from_residual-in_err-take_row.result c.from_residual-in_err-take_row.ensures.1 in
     rw (p.1, p.2) (
-    rows_stop g.F.Row.Ord.cmp (g.F.RowText.texts_of frame.rows.now) frame.inst.net.now bids frame.version c.rows.records c.next.new.self fields c.rows.reading c.rows.number _ c.in_err-take_row.field-0.0
+    rows_stop g.F.Row.Ord.cmp (g.F.RowText.texts_of frame.rows.now) frame.inst.net.now bids frame.version c.rows.records c.next.new.self fields c.rows.reading c.rows.number c.args.records.now c.in_err-take_row.field-0.0
     read c.in_err-take_row.ensures c.rows.invariant.rest
     )
 
@@ -50,7 +50,7 @@ returns-then-not-is_whole g c =
     let frame = c.args.frame.now in
     let bids = length frame.inst.bids.now in
     rw c.fault.ensures (
-    rows_end g.F.Row.Ord.cmp (g.F.RowText.texts_of frame.rows.now) frame.inst.net.now bids frame.version c.rows.records c.rows.reading c.rows.number _
+    rows_end g.F.Row.Ord.cmp (g.F.RowText.texts_of frame.rows.now) frame.inst.net.now bids frame.version c.rows.records c.rows.reading c.rows.number c.args.records.now
     (rw c.if-branch.false at c.in_ok-next.ensures.read) c.rows.invariant.rest
     ∙ ends_open g.F.Row.Ord.cmp (g.F.RowText.texts_of frame.rows.now) frame.inst.net.now bids frame.version c.rows.reading c.rows.number (sym c.is_whole.ensures ∙ c.if-not-is_whole.true)
     )
@@ -59,7 +59,7 @@ pub returns : goal.returns
 returns g c =
     let frame = c.args.frame.now in
     let bids = length frame.inst.bids.now in
-    rows_end g.F.Row.Ord.cmp (g.F.RowText.texts_of frame.rows.now) frame.inst.net.now bids frame.version c.rows.records c.rows.reading c.rows.number _
+    rows_end g.F.Row.Ord.cmp (g.F.RowText.texts_of frame.rows.now) frame.inst.net.now bids frame.version c.rows.records c.rows.reading c.rows.number c.args.records.now
     (rw c.if-branch.false at c.in_ok-next.ensures.read) c.rows.invariant.rest
     ∙ ends_whole g.F.Row.Ord.cmp (g.F.RowText.texts_of frame.rows.now) frame.inst.net.now bids frame.version c.rows.reading c.rows.number (sym c.is_whole.ensures ∙ c.if-not-is_whole.false)
     ∙ ap (λ (cert : Cert _). Ok cert) (sym c.into_certificate.ensures)
