@@ -5,3 +5,7 @@ pub mod BothReads
 pub mod Examples
 pub mod WritableLemmas
 pub mod ApartLemmas
+pub mod LegLemmas
+pub mod CellLemmas
+pub mod TreeLemmas
+pub mod RunLemmas
