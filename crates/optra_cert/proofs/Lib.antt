@@ -5,3 +5,6 @@ pub mod BothReads
 pub mod Examples
 pub mod WritableLemmas
 pub mod ApartLemmas
+pub mod ColumnLemmas
+pub mod RowLemmas
+pub mod RecordLemmas
