@@ -8,3 +8,4 @@ pub mod ApartLemmas
 pub mod ColumnLemmas
 pub mod RowLemmas
 pub mod RecordLemmas
+pub mod TellLemmas
