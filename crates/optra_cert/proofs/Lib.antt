@@ -9,3 +9,4 @@ pub mod ColumnLemmas
 pub mod RowLemmas
 pub mod RecordLemmas
 pub mod TellLemmas
+pub mod LegLemmas
