@@ -1,4 +1,4 @@
--- The certificate's text: rows, the parts that are written, and the records.
+-- The certificate's text: rows, the parts that are written, the records, and how they are read.
 pub mod Columns
 pub mod RowTexts
 pub mod ListLemmas
@@ -9,3 +9,8 @@ pub mod BothLemmas
 pub mod Certs
 pub mod CertTexts
 pub mod Writables
+pub mod Outcomes
+pub mod Forms
+pub mod Steps
+pub mod Faults
+pub mod CertLaws

@@ -11,6 +11,8 @@ mod columns;
 mod headways;
 mod joining;
 mod laws;
+mod reading;
+mod refusals;
 mod row_text;
 mod writing;
 
@@ -56,4 +58,23 @@ pub enum CertCode {
     Number,
     /// C6: a record isn't in order, or the tree ends too early or too late.
     Order,
+}
+
+/// The first fault of bytes that are no certificate's text.
+#[derive(Clone, Copy, Debug, PartialEq, Eq)]
+pub struct CertFault {
+    /// What is wrong.
+    pub code: CertCode,
+    /// The place of the record from 1, and 0 for the bytes as a whole. Where the records end too early it is the place
+    /// behind the last one.
+    pub row: u64,
+}
+
+/// Why no certificate was read.
+#[derive(Clone, Copy, Debug, PartialEq, Eq)]
+pub enum CertError {
+    /// The bytes are no certificate's text, and this is their first fault.
+    Fault(CertFault),
+    /// Memory couldn't be had.
+    NoMemory,
 }
