@@ -13,19 +13,22 @@ use Rattle.optra_walk.specs.declared.Action.TheVariants.{Pass, Halt, Wait, Finis
 use Rattle.optra_walk.specs.declared.Leg.{Leg}
 use Rattle.optra_walk.specs.Legs.{dwell_of}
 use Rattle.optra_node.specs.Nodes.{IsFormedLeg}
+use Rattle.optra_records.specs.Numbers.{plain_number_of}
 use Rattle.optra_records.specs.Reading.{Field, Record}
-use Rattle.optra_cert.specs.Columns.{Column, a_track, a_number, a_word, FitsIn, IsSoundColumn, record_values, shown}
+use Rattle.optra_records.proofs.PlainNumbers.{plain_number_back, plain_number_text}
+use Rattle.std.proofs.lemmas.Bool.{le-leb}
+use Rattle.optra_cert.specs.Columns.{in_range}
 use Rattle.optra_cert.specs.RowTexts.{RowTexts, AreApart, AreTexts, IsRowOf, read_row, row_fields}
 use Rattle.optra_cert.specs.Certs.{IsAmount, IsListed}
 use Rattle.optra_cert.specs.CertTexts.{leg_record, price_record, from_word, action_word}
 use Rattle.optra_cert.specs.Forms.{any_number, bid_columns, but_last, field_at, last_alone, leg_columns, most_dwell, from_words, action_words}
 use Rattle.optra_cert.specs.Outcomes.{◌>>=◌, row_or_fault}
-use Rattle.optra_cert.specs.Steps.{value_at, action_of, leg_of, count_told, amount_told, bid_told, leg_told, price_told}
+use Rattle.optra_cert.specs.Steps.{or_fault, number_told, count_told, amount_told, bid_told, price_told}
 use Rattle.optra_cert.specs.declared.CertCode.{CertCode}
 use Rattle.optra_cert.specs.declared.CertCode.TheVariants as codes
 use Rattle.optra_cert.specs.declared.row_text.RowRead.{RowRead}
 use Rattle.optra_cert.specs.declared.row_text.RowRead.TheVariants as read
-use Rattle.optra_cert.proofs.ColumnLemmas.{record_shown, record_told}
+use Rattle.optra_cert.proofs.ColumnLemmas.{in_range_some}
 use Rattle.optra_cert.proofs.RowLemmas.{row_back, row_told}
 
 -- what goes on with a value gave one
@@ -39,76 +42,66 @@ row_read read.Kind row e = absurd (cc e)
 row_read read.Name row e = absurd (cc e)
 row_read read.Number row e = absurd (cc e)
 
--- ---- the words of a leg
-
-words_differ : (a b : Field) → length a ≢ length b → a ≢ b
-words_differ a b other same = other (ap length same)
-
 -- ---- one number alone
 
-one_sound : (column : Column) → IsSoundColumn column → All IsSoundColumn (column ∷ [])
-one_sound column sound = All-cons IsSoundColumn column [] sound (All-nil IsSoundColumn)
+in_range_told : (low high : ℕ) (field : Field) (n : ℕ) → high < 10 ^ 18 → in_range low high (plain_number_of field) ≡ Some n → IsFromTo low high n × (decimal n ∷ [] ≡ field ∷ [])
+in_range_told low high field n few e =
+    let h = in_range_some low high (plain_number_of field) n e in
+    let most = h.1.1 in
+    (h.1, ap (λ (f : Field). f ∷ []) (plain_number_text field n h.0 (omega (arith, few, most))))
 
--- the value that a number column tells alone
-alone : (net : Net) (low high : ℕ) (fields : Record) (values : List ℕ) → AllZip (FitsIn net) (a_number low high ∷ []) values → shown net (a_number low high ∷ []) values ≡ fields
-    → IsFromTo low high (value_at values 0) × (decimal (value_at values 0) ∷ [] ≡ fields)
-alone net low high fields [] fits shows = absurd fits
-alone net low high fields (n ∷ []) fits shows = (fits.0, shows)
-alone net low high fields (n ∷ m ∷ values) fits shows = absurd fits.1
+or_fault_some : (o : Option ℕ) (n : ℕ) → or_fault codes.Number o ≡ Ok n → o ≡ Some n
+or_fault_some None n e = absurd (cc e)
+or_fault_some (Some m) n e = let same : m ≡ n = cc e in ap Some same
 
-module _ (net : Net) (built : IsBuilt net) where
-  number_alone : (low high : ℕ) (fields : Record) (values : List ℕ) → high < 10 ^ 18 → record_values net (a_number low high ∷ []) fields ≡ Ok values
-      → IsFromTo low high (value_at values 0) × (decimal (value_at values 0) ∷ [] ≡ fields)
-  number_alone low high fields values few e =
-      let h = record_told net built (a_number low high ∷ []) fields values (one_sound (a_number low high) few) e in
-      alone net low high fields values h.0 h.1
+-- the number that is told alone is that of the field
+pub number_is : (low high : ℕ) (fields : Record) (n : ℕ) → high < 10 ^ 18 → number_told low high fields ≡ Ok n → IsFromTo low high n × (decimal n ∷ [] ≡ fields)
+number_is low high [] n few e = absurd (cc e)
+number_is low high (field ∷ []) n few e = in_range_told low high field n few (or_fault_some (in_range low high (plain_number_of field)) n e)
+number_is low high (field ∷ next ∷ rest) n few e = absurd (cc e)
 
-  number_alone_back : (low high n : ℕ) → high < 10 ^ 18 → low ≤ n → n ≤ high → record_values net (a_number low high ∷ []) (decimal n ∷ []) ≡ Ok (n ∷ [])
-  number_alone_back low high n few least most = record_shown net built (a_number low high ∷ []) (n ∷ []) (one_sound (a_number low high) few) ((least, most), tt)
+pub number_back : (low high n : ℕ) → high < 10 ^ 18 → low ≤ n → n ≤ high → number_told low high (decimal n ∷ []) ≡ Ok n
+number_back low high n few least most = rw (plain_number_back n (omega (arith, few, most)), le-leb low n least, le-leb n high most) refl
 
-  pub count_is : (fields : Record) (n : ℕ) → count_told net fields ≡ Ok n → (n < 10 ^ 18) × (decimal n ∷ [] ≡ fields)
-  unfolding count_told
-  count_is fields n e =
-      let h = bind_ok (record_values net any_number fields) (λ values. Ok (value_at values 0)) n e in
-      let same : value_at h.0 0 ≡ n = cc h.2 in
-      let told = number_alone 0 (10 ^ 18 - 1) fields h.0 (lit< tt) h.1 in
-      let most = told.0.1 in
-      subst (λ (k : ℕ). (k < 10 ^ 18) × (decimal k ∷ [] ≡ fields)) same (omega (arith, most), told.1)
+pub count_is : (fields : Record) (n : ℕ) → count_told fields ≡ Ok n → (n < 10 ^ 18) × (decimal n ∷ [] ≡ fields)
+count_is fields n e =
+    let told = number_is 0 (10 ^ 18 - 1) fields n (lit< tt) e in
+    let most = told.0.1 in
+    (omega (arith, most), told.1)
 
-  pub count_back : (n : ℕ) → n < 10 ^ 18 → count_told net (decimal n ∷ []) ≡ Ok n
-  unfolding count_told
-  count_back n few = rw (number_alone_back 0 (10 ^ 18 - 1) n (lit< tt) (omega arith) (omega (arith, few))) refl
+pub count_back : (n : ℕ) → n < 10 ^ 18 → count_told (decimal n ∷ []) ≡ Ok n
+count_back n few = number_back 0 (10 ^ 18 - 1) n (lit< tt) (omega arith) (omega (arith, few))
 
-  pub amount_is : (fields : Record) (amount : ℤ) → amount_told net fields ≡ Ok amount → IsAmount amount × (signed_decimal amount ∷ [] ≡ fields)
-  unfolding amount_told
-  amount_is fields amount e =
-      let h = bind_ok (count_told net fields) (λ n. Ok (pos n)) amount e in
-      let same : pos h.0 ≡ amount = cc h.2 in
-      let told = count_is fields h.0 h.1 in
-      let few = told.0 in
-      subst (λ (a : ℤ). IsAmount a × (signed_decimal a ∷ [] ≡ fields)) same ((omega (arith, ints), omega (arith, ints, few)), told.1)
+pub amount_is : (fields : Record) (amount : ℤ) → amount_told fields ≡ Ok amount → IsAmount amount × (signed_decimal amount ∷ [] ≡ fields)
+unfolding amount_told
+amount_is fields amount e =
+    let h = bind_ok (count_told fields) (λ n. Ok (pos n)) amount e in
+    let same : pos h.0 ≡ amount = cc h.2 in
+    let told = count_is fields h.0 h.1 in
+    let few = told.0 in
+    subst (λ (a : ℤ). IsAmount a × (signed_decimal a ∷ [] ≡ fields)) same ((omega (arith, ints), omega (arith, ints, few)), told.1)
 
-  pub amount_back : (amount : ℤ) → IsAmount amount → amount_told net (signed_decimal amount ∷ []) ≡ Ok amount
-  unfolding amount_told
-  amount_back (pos n) is = let few = is.1 in rw (count_back n (omega (arith, ints, few))) refl
-  amount_back (negsuc n) is = let least = is.0 in absurd (omega (arith, ints, least))
+pub amount_back : (amount : ℤ) → IsAmount amount → amount_told (signed_decimal amount ∷ []) ≡ Ok amount
+unfolding amount_told
+amount_back (pos n) is = let few = is.1 in rw (count_back n (omega (arith, ints, few))) refl
+amount_back (negsuc n) is = let least = is.0 in absurd (omega (arith, ints, least))
 
-  pub bid_is : (bids : ℕ) (fields : Record) (bid : ℕ) → bids < 10 ^ 18 → bid_told net bids fields ≡ Ok bid → (bid < bids) × (decimal (bid + 1) ∷ [] ≡ fields)
-  unfolding bid_told
-  bid_is bids fields bid few e =
-      let h = bind_ok (record_values net (bid_columns bids) fields) (λ values. Ok (value_at values 0 - 1)) bid e in
-      let same : value_at h.0 0 - 1 ≡ bid = cc h.2 in
-      let told = number_alone 1 bids fields h.0 few h.1 in
-      let least = told.0.0 in
-      let most = told.0.1 in
-      let next : value_at h.0 0 ≡ bid + 1 = omega (arith, same, least) in
-      (omega (arith, next, most), subst (λ (k : ℕ). decimal k ∷ [] ≡ fields) next told.1)
+pub bid_is : (bids : ℕ) (fields : Record) (bid : ℕ) → bids < 10 ^ 18 → bid_told bids fields ≡ Ok bid → (bid < bids) × (decimal (bid + 1) ∷ [] ≡ fields)
+unfolding bid_told
+bid_is bids fields bid few e =
+    let h = bind_ok (number_told 1 bids fields) (λ n. Ok (n - 1)) bid e in
+    let same : h.0 - 1 ≡ bid = cc h.2 in
+    let told = number_is 1 bids fields h.0 few h.1 in
+    let least = told.0.0 in
+    let most = told.0.1 in
+    let next : h.0 ≡ bid + 1 = omega (arith, same, least) in
+    (omega (arith, next, most), subst (λ (k : ℕ). decimal k ∷ [] ≡ fields) next told.1)
 
-  pub bid_back : (bids bid : ℕ) → bids < 10 ^ 18 → bid < bids → bid_told net bids (decimal (bid + 1) ∷ []) ≡ Ok bid
-  unfolding bid_told
-  bid_back bids bid few within =
-      let before : bid + 1 - 1 ≡ bid = omega arith in
-      rw (number_alone_back 1 bids (bid + 1) few (omega arith) (omega (arith, within))) (ap Ok before)
+pub bid_back : (bids bid : ℕ) → bids < 10 ^ 18 → bid < bids → bid_told bids (decimal (bid + 1) ∷ []) ≡ Ok bid
+unfolding bid_told
+bid_back bids bid few within =
+    let before : bid + 1 - 1 ≡ bid = omega arith in
+    rw (number_back 1 bids (bid + 1) few (omega arith) (omega (arith, within))) (ap Ok before)
 
 -- ---- a row and its price
 
@@ -127,11 +120,11 @@ module _ {R : Type 0} (texts : RowTexts R) (apart : AreApart texts.kinds) (are :
       → IsListed texts net version entry × (row_fields texts net entry.0 ++ signed_decimal entry.1 ∷ [] ≡ fields)
   unfolding price_told
   price_is fields entry e =
-      let first = bind_ok (row_or_fault (read_row texts net version (but_last fields))) (λ row. amount_told net (last_alone fields) >>= λ amount. Ok (row, amount)) entry e in
-      let second = bind_ok (amount_told net (last_alone fields)) (λ amount. Ok (first.0, amount)) entry first.2 in
+      let first = bind_ok (row_or_fault (read_row texts net version (but_last fields))) (λ row. amount_told (last_alone fields) >>= λ amount. Ok (row, amount)) entry e in
+      let second = bind_ok (amount_told (last_alone fields)) (λ amount. Ok (first.0, amount)) entry first.2 in
       let same : (first.0, second.0) ≡ entry = cc second.2 in
       let row = row_told texts apart are net built version (but_last fields) first.0 (row_read (read_row texts net version (but_last fields)) first.0 first.1) in
-      let amount = amount_is net built (last_alone fields) second.0 second.1 in
+      let amount = amount_is (last_alone fields) second.0 second.1 in
       subst (λ (e : R × ℤ). IsListed texts net version e × (row_fields texts net e.0 ++ signed_decimal e.1 ∷ [] ≡ fields)) same
       ((row.0, amount.0), ap (λ (t : Record). t ++ signed_decimal second.0 ∷ []) row.1 ∙ ap (λ (t : Record). but_last fields ++ t) amount.1 ∙ parts_are fields)
 
@@ -141,4 +134,4 @@ module _ {R : Type 0} (texts : RowTexts R) (apart : AreApart texts.kinds) (are :
   pub price_back : (entry : R × ℤ) → IsListed texts net version entry → price_told texts net version (row_fields texts net entry.0 ++ signed_decimal entry.1 ∷ []) ≡ Ok entry
   unfolding price_told
   price_back entry is =
-      rw (price_row_back entry is, last_alone_is (row_fields texts net entry.0) (signed_decimal entry.1), amount_back net built entry.1 is.1) refl
+      rw (price_row_back entry is, last_alone_is (row_fields texts net entry.0) (signed_decimal entry.1), amount_back entry.1 is.1) refl

@@ -1,5 +1,5 @@
 -- How a certificate is read, record by record: what was read so far, and what each record makes of it.
-use Rattle.std.specs.Prelude.{ℕ, ◌+◌, ◌-◌, ◌^◌, ◌&&◌, ◌||◌, ◌==◌, Bool, true, false, List, [], ◌∷◌, ◌++◌, length, take, drop, nat_le, Option, None, Some, Result, Ok, Err, unwrap_or, slice_get, slice_set, replicate, bytes_eq, codes, if◌then◌else◌}
+use Rattle.std.specs.Prelude.{ℕ, ◌+◌, ◌-◌, ◌^◌, ◌&&◌, ◌==◌, Bool, true, false, List, [], ◌∷◌, ◌++◌, length, drop, nat_le, Option, None, Some, Result, Ok, Err, unwrap_or, slice_get, slice_set, replicate, bytes_eq, codes, if◌then◌else◌}
 use Rattle.std.specs.Prelude.{ℤ, pos}
 use Rattle.std.specs.Option.{option_map_or}
 use Rattle.std.specs.declared.cmp.Ordering.{Ordering}
@@ -14,10 +14,11 @@ use Rattle.optra_node.specs.declared.Item.TheVariants.{Split, NoWalk, Forced, Pr
 use Rattle.optra_node.specs.Duals.{PriceList}
 use Rattle.optra_node.specs.Nodes.{legs_at}
 use Rattle.optra_records.specs.Canonical.{is_canonical}
+use Rattle.optra_records.specs.Numbers.{plain_number_of}
 use Rattle.optra_records.specs.Reading.{Field, Record}
 use Rattle.optra_cert.specs.Certs.{Cert}
-use Rattle.optra_cert.specs.Columns.{record_values}
-use Rattle.optra_cert.specs.Forms.{any_number, bid_columns, but_last, field_at, last_alone, leg_columns, version_of}
+use Rattle.optra_cert.specs.Columns.{in_range, record_values}
+use Rattle.optra_cert.specs.Forms.{but_last, field_at, last_alone, leg_columns, version_of}
 use Rattle.optra_cert.specs.Outcomes.{◌>>=◌, row_or_fault}
 use Rattle.optra_cert.specs.RowTexts.{RowTexts, read_row}
 use Rattle.optra_cert.specs.declared.CertCode.{CertCode}
@@ -47,16 +48,26 @@ leg_of values =
        action = action_of (value_at values 4) (value_at values 5);
      })
 
--- the number that is told alone
-unfoldable pub count_told : Net → Record → Result ℕ CertCode
-count_told net fields = record_values net any_number fields >>= λ values. Ok (value_at values 0)
+-- a value that is there, or a fault
+abbrev pub or_fault : {A : Type 0} → CertCode → Option A → Result A CertCode
+or_fault c (Some x) = Ok x
+or_fault c None = Err c
 
-unfoldable pub amount_told : Net → Record → Result ℤ CertCode
-amount_told net fields = count_told net fields >>= λ n. Ok (pos n)
+-- the number from one to another that is told alone
+abbrev pub number_told : ℕ → ℕ → Record → Result ℕ CertCode
+number_told low high [] = Err code.Record
+number_told low high (field ∷ []) = or_fault code.Number (in_range low high (plain_number_of field))
+number_told low high (field ∷ next ∷ rest) = Err code.Record
+
+abbrev pub count_told : Record → Result ℕ CertCode
+count_told fields = number_told 0 (10 ^ 18 - 1) fields
+
+unfoldable pub amount_told : Record → Result ℤ CertCode
+amount_told fields = count_told fields >>= λ n. Ok (pos n)
 
 -- the position of a bid, which is told by its number from 1
-unfoldable pub bid_told : Net → ℕ → Record → Result ℕ CertCode
-bid_told net bids fields = record_values net (bid_columns bids) fields >>= λ values. Ok (value_at values 0 - 1)
+unfoldable pub bid_told : ℕ → Record → Result ℕ CertCode
+bid_told bids fields = number_told 1 bids fields >>= λ n. Ok (n - 1)
 
 unfoldable pub leg_told : Net → ℕ → Record → Result (ℕ × Leg) CertCode
 leg_told net bids fields = record_values net (leg_columns bids fields) fields >>= λ values. Ok (leg_of values)
@@ -64,7 +75,7 @@ leg_told net bids fields = record_values net (leg_columns bids fields) fields >>
 -- a row and its price
 unfoldable pub price_told : {R : Type 0} → RowTexts R → Net → ℕ → Record → Result (R × ℤ) CertCode
 price_told texts net version fields =
-    row_or_fault (read_row texts net version (but_last fields)) >>= λ row. amount_told net (last_alone fields) >>= λ amount. Ok (row, amount)
+    row_or_fault (read_row texts net version (but_last fields)) >>= λ row. amount_told (last_alone fields) >>= λ amount. Ok (row, amount)
 
 -- ---- what was read so far
 
@@ -156,9 +167,9 @@ module _ {R : Type 0} (cmp : R → R → Ordering) (texts : RowTexts R) (net : N
   unfoldable pub item_step : TreeSoFar R → Field → Record → Result (TreeSoFar R) CertCode
   item_step tree word fields =
       if bytes_eq word (codes "split") then (leg_told net bids fields >>= λ told. Ok (split_added tree told.0 told.1)) else (
-      if bytes_eq word (codes "nowalk") then (bid_told net bids fields >>= λ bid. Ok (leaf_added tree (NoWalk bid))) else (
+      if bytes_eq word (codes "nowalk") then (bid_told bids fields >>= λ bid. Ok (leaf_added tree (NoWalk bid))) else (
       if bytes_eq word (codes "forced") then (row_or_fault (read_row texts net version fields) >>= λ row. Ok (leaf_added tree (Forced row))) else (
-      if bytes_eq word (codes "priced") then (count_told net fields >>= λ count. Ok (count_added tree count)) else
+      if bytes_eq word (codes "priced") then (count_told fields >>= λ count. Ok (count_added tree count)) else
       Err code.Record)))
 
   -- a record of the tree
@@ -178,11 +189,11 @@ module _ {R : Type 0} (cmp : R → R → Ordering) (texts : RowTexts R) (net : N
 
   unfoldable pub revenue_step : State R → Field → Record → Result (State R) CertCode
   revenue_step s word fields =
-      if bytes_eq word (codes "revenue") then (amount_told net fields >>= λ amount. Ok (record s { place = place.Bound; revenue = amount })) else Err code.Record
+      if bytes_eq word (codes "revenue") then (amount_told fields >>= λ amount. Ok (record s { place = place.Bound; revenue = amount })) else Err code.Record
 
   unfoldable pub bound_step : State R → Field → Record → Result (State R) CertCode
   bound_step s word fields =
-      if bytes_eq word (codes "bound") then (amount_told net fields >>= λ amount. Ok (record s { place = place.Legs; bound = amount })) else Err code.Record
+      if bytes_eq word (codes "bound") then (amount_told fields >>= λ amount. Ok (record s { place = place.Legs; bound = amount })) else Err code.Record
 
   abbrev pub step_at : Place → State R → Field → Record → Result (State R) CertCode
   step_at place.Revenue s word fields = revenue_step s word fields
