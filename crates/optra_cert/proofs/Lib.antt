@@ -10,3 +10,4 @@ pub mod RowLemmas
 pub mod RecordLemmas
 pub mod TellLemmas
 pub mod LegLemmas
+pub mod WalkSteps
