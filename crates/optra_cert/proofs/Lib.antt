@@ -11,3 +11,4 @@ pub mod RecordLemmas
 pub mod TellLemmas
 pub mod LegLemmas
 pub mod WalkSteps
+pub mod TreeSteps
