@@ -12,3 +12,4 @@ pub mod TellLemmas
 pub mod LegLemmas
 pub mod WalkSteps
 pub mod TreeSteps
+pub mod StateSteps
