@@ -148,3 +148,136 @@ module _ {R : Type 0} (cmp : R → R → Ordering) (trans : (x y z : R) → cmp 
           let some = eqb-false tree.due 0 q in
           price_grows tree so_far (tree.due - 1) (omega (arith, some)) word fields next (same_word word (codes "price") r) e
       by false p false q false r e = absurd (cc e)
+
+  -- a record without fields is none of the tree
+  no_empty : (tree : TreeSoFar R) (fields : Record) (next : TreeSoFar R) → tree_step cmp texts net bids version tree [] fields ≡ Ok next → ⊥
+  unfolding tree_step item_step
+  no_empty tree fields next e = by (is_whole tree) (tree.due == 0) e
+    where
+      by : (a b : Bool) → ◌≡◌ {A = Result (TreeSoFar R) CertCode} (cond a (Err code.Order) (cond b (Err code.Record) (Err code.Record))) (Ok next) → ⊥
+      by true b e = cc e
+      by false true e = cc e
+      by false false e = cc e
+
+  grows_by : (tree : TreeSoFar R) (fields : Record) (next : TreeSoFar R) → SoFar tree → tree_step cmp texts net bids version tree (field_at fields 0) (drop 1 fields) ≡ Ok next
+      → SoFar next × (text_of next ≡ text_of tree ++ fields ∷ [])
+  grows_by tree [] next so_far e = absurd (no_empty tree [] next e)
+  grows_by tree (word ∷ fields) next so_far e = tree_grows tree word fields next so_far e
+
+  -- ---- the records so far
+
+  abbrev first_record : Record
+  first_record = codes "optra-certificate" ∷ decimal version ∷ []
+
+  abbrev revenue_record : ℤ → Record
+  revenue_record amount = codes "revenue" ∷ signed_decimal amount ∷ []
+
+  abbrev legs_text : State R → List Record
+  legs_text s = head_records version s.revenue s.bound ++ leg_records net 0 s.walks.choice
+
+  -- the records so far are written of what is known, which is formed
+  abbrev pub IsSoFar : Place → State R → List Record → Type 0
+  IsSoFar place.Revenue s before = (before ≡ first_record ∷ []) × (s.walks ≡ no_walks bids) × (s.tree ≡ no_tree)
+  IsSoFar place.Bound s before = (before ≡ first_record ∷ revenue_record s.revenue ∷ []) × IsAmount s.revenue × (s.walks ≡ no_walks bids) × (s.tree ≡ no_tree)
+  IsSoFar place.Legs s before = (before ≡ legs_text s) × (IsAmount s.revenue × IsAmount s.bound) × AreWalksSoFar net bids s.walks × (s.tree ≡ no_tree)
+  IsSoFar place.Tree s before = (before ≡ legs_text s ++ text_of s.tree) × (IsAmount s.revenue × IsAmount s.bound) × AreWalksSoFar net bids s.walks × SoFar s.tree
+
+  module _ (s : State R) (before : List Record) (fields : Record) (next : State R) where
+    Next : Type 0
+    Next = IsSoFar next.place next (before ++ fields ∷ [])
+
+    abbrev word : Field
+    word = field_at fields 0
+
+    revenue_next : IsSoFar place.Revenue s before → revenue_step cmp texts net bids version s word (drop 1 fields) ≡ Ok next → Next
+    unfolding revenue_step Next
+    revenue_next so_far e = by (bytes_eq word (codes "revenue")) refl e
+      where
+        by : (a : Bool) → bytes_eq word (codes "revenue") ≡ a
+            → cond a (amount_told (drop 1 fields) >>= λ amount. Ok (record s { place = place.Bound; revenue = amount })) (Err code.Record) ≡ Ok next → IsSoFar next.place next (before ++ fields ∷ [])
+        by true p e =
+            let h = bind_ok (amount_told (drop 1 fields)) (λ amount. Ok (record s { place = place.Bound; revenue = amount })) next e in
+            let is : record s { place = place.Bound; revenue = h.0 } ≡ next = cc h.2 in
+            let amount = amount_is (drop 1 fields) h.0 h.1 in
+            let own : fields ≡ revenue_record h.0 = word_first fields _ _ (same_word word (codes "revenue") p) ∙ ap (λ (t : Record). codes "revenue" ∷ t) (sym amount.1) in
+            let text : before ++ fields ∷ [] ≡ first_record ∷ revenue_record h.0 ∷ [] = λ i. so_far.0 i ++ own i ∷ [] in
+            subst (λ (n : State R). IsSoFar n.place n (before ++ fields ∷ [])) is (text, amount.0, so_far.1, so_far.2)
+        by false p e = absurd (cc e)
+
+    bound_next : IsSoFar place.Bound s before → bound_step cmp texts net bids version s word (drop 1 fields) ≡ Ok next → Next
+    unfolding bound_step Next
+    bound_next so_far e = by (bytes_eq word (codes "bound")) refl e
+      where
+        by : (a : Bool) → bytes_eq word (codes "bound") ≡ a
+            → cond a (amount_told (drop 1 fields) >>= λ amount. Ok (record s { place = place.Legs; bound = amount })) (Err code.Record) ≡ Ok next → IsSoFar next.place next (before ++ fields ∷ [])
+        by true p e =
+            let h = bind_ok (amount_told (drop 1 fields)) (λ amount. Ok (record s { place = place.Legs; bound = amount })) next e in
+            let is : record s { place = place.Legs; bound = h.0 } ≡ next = cc h.2 in
+            let amount = amount_is (drop 1 fields) h.0 h.1 in
+            let own : fields ≡ codes "bound" ∷ signed_decimal h.0 ∷ [] = word_first fields _ _ (same_word word (codes "bound") p) ∙ ap (λ (t : Record). codes "bound" ∷ t) (sym amount.1) in
+            let head : before ++ fields ∷ [] ≡ head_records version s.revenue h.0 = λ i. so_far.0 i ++ own i ∷ [] in
+            let no_legs : leg_records net 0 s.walks.choice ≡ [] = ap (λ (w : WalksSoFar). leg_records net 0 w.choice) so_far.2 ∙ no_walks_records net bids in
+            let text : before ++ fields ∷ [] ≡ head_records version s.revenue h.0 ++ leg_records net 0 s.walks.choice =
+            head ∙ sym (append-nil (head_records version s.revenue h.0)) ∙ ap (λ (t : List Record). head_records version s.revenue h.0 ++ t) (sym no_legs) in
+            let walks : AreWalksSoFar net bids s.walks = subst (AreWalksSoFar net bids) (sym so_far.2) (no_walks_so_far net bids) in
+            subst (λ (n : State R). IsSoFar n.place n (before ++ fields ∷ [])) is (text, (so_far.1, amount.0), walks, so_far.3)
+        by false p e = absurd (cc e)
+
+    leg_next : s.place ≡ place.Legs → IsSoFar place.Legs s before → word ≡ codes "leg"
+        → (leg_told net bids (drop 1 fields) >>= λ told. leg_added s.walks told.0 told.1 >>= λ walks. Ok (record s { walks = walks })) ≡ Ok next → Next
+    unfolding Next
+    leg_next at so_far same e =
+        let h = bind_ok (leg_told net bids (drop 1 fields)) (λ told. leg_added s.walks told.0 told.1 >>= λ walks. Ok (record s { walks = walks })) next e in
+        let k = bind_ok (leg_added s.walks h.0.0 h.0.1) (λ walks. Ok (record s { walks = walks })) next h.2 in
+        let is : record s { walks = k.0 } ≡ next = cc k.2 in
+        let leg = leg_is net built bids few (drop 1 fields) h.0 h.1 in
+        let added = added_is net s.walks h.0.0 h.0.1 k.0 k.1 in
+        let walks : AreWalksSoFar net bids k.0 = subst (AreWalksSoFar net bids) (sym added.1) (with_leg_so_far net bids s.walks h.0.0 h.0.1 so_far.2 added.0 leg.0 leg.1) in
+        let own : fields ≡ leg_record net (codes "leg") h.0.0 h.0.1 = word_first fields _ _ same ∙ ap (λ (t : Record). codes "leg" ∷ t) (sym leg.2) in
+        let legs : leg_records net 0 k.0.choice ≡ leg_records net 0 s.walks.choice ++ fields ∷ [] =
+        ap (λ (w : WalksSoFar). leg_records net 0 w.choice) added.1 ∙ with_leg_records net bids s.walks h.0.0 h.0.1 so_far.2 added.0 leg.0 ∙ ap (λ (t : Record). leg_records net 0 s.walks.choice ++ t ∷ []) (sym own) in
+        let head : List Record = head_records version s.revenue s.bound in
+        let text : before ++ fields ∷ [] ≡ head ++ leg_records net 0 k.0.choice =
+        ap (λ (t : List Record). t ++ fields ∷ []) so_far.0 ∙ append_assoc head (leg_records net 0 s.walks.choice) (fields ∷ []) ∙ ap (λ (t : List Record). head ++ t) (sym legs) in
+        let stands : IsSoFar place.Legs (record s { walks = k.0 }) (before ++ fields ∷ []) = (text, so_far.1, walks, so_far.3) in
+        subst (λ (n : State R). IsSoFar n.place n (before ++ fields ∷ [])) is (subst (λ (p : Place). IsSoFar p (record s { walks = k.0 }) (before ++ fields ∷ [])) (sym at) stands)
+
+    tree_next : IsSoFar place.Tree s before → (tree_step cmp texts net bids version s.tree word (drop 1 fields) >>= λ tree. Ok (record s { place = place.Tree; tree = tree })) ≡ Ok next → Next
+    unfolding Next
+    tree_next so_far e =
+        let h = bind_ok (tree_step cmp texts net bids version s.tree word (drop 1 fields)) (λ tree. Ok (record s { place = place.Tree; tree = tree })) next e in
+        let is : record s { place = place.Tree; tree = h.0 } ≡ next = cc h.2 in
+        let grows = grows_by s.tree fields h.0 so_far.3 h.1 in
+        let text : before ++ fields ∷ [] ≡ legs_text s ++ text_of h.0 =
+        ap (λ (t : List Record). t ++ fields ∷ []) so_far.0 ∙ append_assoc (legs_text s) (text_of s.tree) (fields ∷ []) ∙ ap (λ (t : List Record). legs_text s ++ t) (sym grows.1) in
+        subst (λ (n : State R). IsSoFar n.place n (before ++ fields ∷ [])) is (text, so_far.1, so_far.2, grows.0)
+
+    body_next : (legs : Bool) → (legs ≡ true → (s.place ≡ place.Legs) × IsSoFar place.Legs s before) → IsSoFar place.Tree s before → body_step cmp texts net bids version legs s word (drop 1 fields) ≡ Ok next → Next
+    unfolding body_step
+    body_next legs at_legs at_tree e = by (legs && bytes_eq word (codes "leg")) refl e
+      where
+        by : (a : Bool) → (legs && bytes_eq word (codes "leg")) ≡ a
+            → cond a (leg_told net bids (drop 1 fields) >>= λ told. leg_added s.walks told.0 told.1 >>= λ walks. Ok (record s { walks = walks }))
+              (tree_step cmp texts net bids version s.tree word (drop 1 fields) >>= λ tree. Ok (record s { place = place.Tree; tree = tree })) ≡ Ok next → Next
+        by true p e =
+            let parts = and_parts _ _ p in
+            let at = at_legs parts.0 in
+            leg_next at.0 at.1 (same_word word (codes "leg") parts.1) e
+        by false p e = tree_next at_tree e
+
+    -- at the legs nothing of the tree is known, so the tree may begin
+    legs_or_tree : IsSoFar place.Legs s before → IsSoFar place.Tree s before
+    legs_or_tree so_far =
+        let none : text_of s.tree ≡ [] = ap text_of so_far.3 in
+        (so_far.0 ∙ sym (append-nil (legs_text s)) ∙ ap (λ (t : List Record). legs_text s ++ t) (sym none), so_far.1, so_far.2, subst SoFar (sym so_far.3) (no_tree_so_far cmp texts net bids version))
+
+    step_next_at : (p : Place) → s.place ≡ p → IsSoFar p s before → step_at cmp texts net bids version p s word (drop 1 fields) ≡ Ok next → Next
+    step_next_at place.Revenue at so_far e = revenue_next so_far e
+    step_next_at place.Bound at so_far e = bound_next so_far e
+    step_next_at place.Legs at so_far e = body_next true (λ yes. (at, so_far)) (legs_or_tree so_far) e
+    step_next_at place.Tree at so_far e = body_next false (λ no. absurd (false≢true no)) so_far e
+
+    -- a record that is taken is written of what is known then
+    pub step_next : IsSoFar s.place s before → step cmp texts net bids version s fields ≡ Ok next → IsSoFar next.place next (before ++ fields ∷ [])
+    unfolding step Next
+    step_next so_far e = step_next_at s.place refl so_far e
