@@ -13,3 +13,4 @@ pub mod LegLemmas
 pub mod WalkSteps
 pub mod TreeSteps
 pub mod StateSteps
+pub mod ReadLemmas

@@ -118,7 +118,7 @@ module _ {R : Type 0} (cmp : R → R → Ordering) (texts : RowTexts R) (net : N
   leaf_none zero prices e = refl
   leaf_none (suc due) prices e = absurd (omega (arith, e))
 
-  none_open : (tree : TreeSoFar R) → tree.due ≡ 0 → tree_records tree ≡ flat_map (item_records texts net) tree.items
+  pub none_open : (tree : TreeSoFar R) → tree.due ≡ 0 → tree_records tree ≡ flat_map (item_records texts net) tree.items
   none_open tree e =
       let items : List Record = flat_map (item_records texts net) tree.items in
       ap (λ (t : List Record). items ++ t) (leaf_none tree.due tree.prices e) ∙ append-nil items
