@@ -9,7 +9,7 @@ pub mod ColumnLemmas
 pub mod RowLemmas
 pub mod RecordLemmas
 pub mod TellLemmas
-pub mod LegLemmas
+pub mod LegTexts
 pub mod WalkSteps
 pub mod TreeSteps
 pub mod StateSteps

@@ -23,7 +23,7 @@ use Rattle.optra_cert.specs.declared.CertCode.{CertCode}
 use Rattle.optra_cert.specs.declared.CertCode.TheVariants as code
 use Rattle.optra_cert.specs.declared.reading.Place.{Place}
 use Rattle.optra_cert.specs.declared.reading.Place.TheVariants as place
-use Rattle.optra_cert.proofs.LegLemmas.{leg_fields, leg_is}
+use Rattle.optra_cert.proofs.LegTexts.{leg_fields, leg_is}
 use Rattle.optra_cert.proofs.RowLemmas.{row_told}
 use Rattle.optra_cert.proofs.TellLemmas.{amount_is, bid_is, bind_ok, count_is, price_is, row_read}
 use Rattle.optra_cert.proofs.TreeSteps.{IsTreeSoFar, count_added_records, count_added_so_far, item_added, item_added_records, price_added_is, tree_records, with_price, with_price_records, with_price_so_far, no_tree_so_far}
