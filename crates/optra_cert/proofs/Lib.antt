@@ -14,3 +14,4 @@ pub mod WalkSteps
 pub mod TreeSteps
 pub mod StateSteps
 pub mod ReadLemmas
+pub mod LegLemmas

@@ -189,7 +189,7 @@ module _ {R : Type 0} (cmp : R → R → Ordering) (trans : (x y z : R) → cmp 
     abbrev word : Field
     word = field_at fields 0
 
-    revenue_next : IsSoFar place.Revenue s before → revenue_step cmp texts net bids version s word (drop 1 fields) ≡ Ok next → Next
+    revenue_next : IsSoFar place.Revenue s before → revenue_step s word (drop 1 fields) ≡ Ok next → Next
     unfolding revenue_step Next
     revenue_next so_far e = by (bytes_eq word (codes "revenue")) refl e
       where
@@ -204,7 +204,7 @@ module _ {R : Type 0} (cmp : R → R → Ordering) (trans : (x y z : R) → cmp 
             subst (λ (n : State R). IsSoFar n.place n (before ++ fields ∷ [])) is (text, amount.0, so_far.1, so_far.2)
         by false p e = absurd (cc e)
 
-    bound_next : IsSoFar place.Bound s before → bound_step cmp texts net bids version s word (drop 1 fields) ≡ Ok next → Next
+    bound_next : IsSoFar place.Bound s before → bound_step s word (drop 1 fields) ≡ Ok next → Next
     unfolding bound_step Next
     bound_next so_far e = by (bytes_eq word (codes "bound")) refl e
       where

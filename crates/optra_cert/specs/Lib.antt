@@ -12,5 +12,6 @@ pub mod Writables
 pub mod Outcomes
 pub mod Forms
 pub mod Steps
+pub mod LegFields
 pub mod Faults
 pub mod CertLaws

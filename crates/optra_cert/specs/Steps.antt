@@ -162,6 +162,14 @@ abbrev pub in_row : {A : Type 0} → ℕ → Result A CertCode → Result A Cert
 in_row row (Ok x) = Ok x
 in_row row (Err c) = Err (fault c row)
 
+unfoldable pub revenue_step : {R : Type 0} → State R → Field → Record → Result (State R) CertCode
+revenue_step s word fields =
+    if bytes_eq word (codes "revenue") then (amount_told fields >>= λ amount. Ok (record s { place = place.Bound; revenue = amount })) else Err code.Record
+
+unfoldable pub bound_step : {R : Type 0} → State R → Field → Record → Result (State R) CertCode
+bound_step s word fields =
+    if bytes_eq word (codes "bound") then (amount_told fields >>= λ amount. Ok (record s { place = place.Legs; bound = amount })) else Err code.Record
+
 module _ {R : Type 0} (cmp : R → R → Ordering) (texts : RowTexts R) (net : Net) (bids version : ℕ) where
   -- a record where an item begins
   unfoldable pub item_step : TreeSoFar R → Field → Record → Result (TreeSoFar R) CertCode
@@ -186,14 +194,6 @@ module _ {R : Type 0} (cmp : R → R → Ordering) (texts : RowTexts R) (net : N
       if legs && bytes_eq word (codes "leg")
       then (leg_told net bids fields >>= λ told. leg_added s.walks told.0 told.1 >>= λ walks. Ok (record s { walks = walks }))
       else (tree_step s.tree word fields >>= λ tree. Ok (record s { place = place.Tree; tree = tree }))
-
-  unfoldable pub revenue_step : State R → Field → Record → Result (State R) CertCode
-  revenue_step s word fields =
-      if bytes_eq word (codes "revenue") then (amount_told fields >>= λ amount. Ok (record s { place = place.Bound; revenue = amount })) else Err code.Record
-
-  unfoldable pub bound_step : State R → Field → Record → Result (State R) CertCode
-  bound_step s word fields =
-      if bytes_eq word (codes "bound") then (amount_told fields >>= λ amount. Ok (record s { place = place.Legs; bound = amount })) else Err code.Record
 
   abbrev pub step_at : Place → State R → Field → Record → Result (State R) CertCode
   step_at place.Revenue s word fields = revenue_step s word fields

@@ -1,5 +1,6 @@
 //! What the fields of certificates tell.
-ghost use Rattle.std.specs.Prelude.{◌≡◌, option_map};
+ghost use Rattle.std.specs.Prelude.{◌≡◌, IfSome, option_map};
+ghost use Rattle.optra_network.specs.Net.{IsFromTo};
 ghost use Rattle.optra_records.specs.Numbers.{plain_number_of};
 ghost use Rattle.optra_cert.specs.Columns.{a_track, a_type, in_range, told_in};
 
@@ -33,7 +34,8 @@ pub fn type_in(net: &Network, field: &[u8]) -> Option<TypeId>
 
 /// The number that a field writes, where it is from one to another.
 pub fn number_in(field: &[u8], low: u64, high: u64) -> Option<u64>
-    ensures { result ≡ in_range low high (plain_number_of field.now) }
+    ensures value { result ≡ in_range low high (plain_number_of field.now) }
+    ensures range { IfSome result (IsFromTo low high) }
 {
     let n = plain_number(field)?;
     if low <= n && n <= high { Some(n) } else { None }

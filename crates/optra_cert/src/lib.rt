@@ -8,12 +8,17 @@ use std::marker::Model;
 
 mod cell;
 mod columns;
+mod fields;
+mod frame;
 mod headways;
 mod joining;
 mod laws;
+mod read_tree;
+mod read_walks;
 mod reading;
 mod refusals;
 mod row_text;
+mod rows_told;
 mod writing;
 
 pub use cell::Cell;

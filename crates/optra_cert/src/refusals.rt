@@ -1,4 +1,6 @@
 //! Why a record isn't taken.
+ghost use Rattle.optra_cert.specs.Outcomes.{Gives};
+ghost use Rattle.optra_cert.specs.Steps.{or_fault};
 
 use crate::CertCode;
 use std::alloc::{AllocError, AllocFailed};
@@ -31,5 +33,15 @@ impl<T: Drop> From<AllocFailed<T>> for Refusal {
 
     fn from(_e: AllocFailed<T>) -> Refusal {
         Refusal::NoMemory
+    }
+}
+
+/// What a field tells, or the fault of its record.
+pub fn known<T>(code: CertCode, told: Option<T>) -> Result<T, Refusal>
+    ensures { Gives (λ value. value) result (or_fault code told) }
+{
+    match told {
+        Some(value) => Ok(value),
+        None => Err(Refusal::Fault(code)),
     }
 }
