@@ -15,3 +15,5 @@ pub mod TreeSteps
 pub mod StateSteps
 pub mod ReadLemmas
 pub mod LegLemmas
+pub mod FaultWords
+pub mod FaultSteps
