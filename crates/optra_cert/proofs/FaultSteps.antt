@@ -22,6 +22,7 @@ use Rattle.optra_cert.specs.Steps.{State, TreeSoFar, WalksSoFar, amount_told, bi
 use Rattle.optra_cert.specs.Steps.{number_told}
 use Rattle.optra_cert.specs.Steps as steps
 use Rattle.optra_cert.proofs.TreeSteps.{with_price}
+use Rattle.optra_cert.proofs.WalkSteps.{with_leg}
 use Rattle.optra_cert.specs.declared.CertCode.{CertCode}
 use Rattle.optra_cert.specs.declared.CertCode.TheVariants as code
 use Rattle.optra_cert.specs.declared.reading.Place.{Place}
@@ -226,3 +227,121 @@ module _ {R : Type 0} (cmp : R → R → Ordering) (texts : RowTexts R) (apart :
           let some = eqb-false tree.due 0 e in
           let due : tree.due ≡ suc (tree.due - 1) = omega (arith, some) in
           ap (λ (b : Bool). judged false (cond b (codes "price" ∷ []) tree_words) last fields) (lt-ltb 0 tree.due (omega (arith, some))) ∙ price_judged tree last fields (order (tree.due - 1) due)
+
+  -- ---- legs
+
+  leg_added_fault : (walks : WalksSoFar) (bid : ℕ) (leg : Leg) → fault_of (leg_added walks bid leg) ≡ order_fault (nat_le walks.last bid)
+  unfolding leg_added
+  leg_added_fault walks bid leg = by (nat_le walks.last bid)
+    where
+      by : (b : Bool) → fault_of (cond b (Ok (with_leg net walks bid leg)) (Err code.Order)) ≡ order_fault b
+      by true = refl
+      by false = refl
+
+  -- the bid number of a leg that is told
+  pub leg_number : (fields : Record) (told : ℕ × Leg) → leg_told net bids (drop 1 fields) ≡ Ok told → number_at fields 1 ≡ told.0 + 1
+  leg_number fields told e =
+      let is = leg_is net built bids few (drop 1 fields) told e in
+      let within = is.0 in
+      let field : field_at fields 1 ≡ decimal (told.0 + 1) = second_is fields ∙ ap (λ (fs : Record). field_at fs 0) (sym is.2) in
+      ap (λ (f : Field). unwrap_or (plain_number_of f) 0) field ∙ ap (λ (o : Option ℕ). unwrap_or o 0) (plain_number_back (told.0 + 1) (omega (arith, within, few)))
+
+  -- a leg behind the last record is in order as its bid is no less than the last one
+  abbrev pub LegsInOrder : WalksSoFar → Record → Type 0
+  LegsInOrder walks last = (fields : Record) (bid : ℕ) → field_at fields 0 ≡ codes "leg" → number_at fields 1 ≡ bid + 1 → in_order last fields ≡ nat_le walks.last bid
+
+  abbrev legs_go_on : State R → ℕ × Leg → Result (State R) CertCode
+  legs_go_on s told = leg_added s.walks told.0 told.1 >>= λ walks. Ok (record s { walks = walks })
+
+  leg_judged : (s : State R) (last fields : Record) → LegsInOrder s.walks last → field_at fields 0 ≡ codes "leg"
+      → or_then (own_fault (field_at fields 0) (drop 1 fields)) (order_fault (in_order last fields)) ≡ fault_of (leg_told net bids (drop 1 fields) >>= legs_go_on s)
+  leg_judged s last fields order same =
+      ap (λ (w : Field). or_then (own_fault w (drop 1 fields)) (order_fault (in_order last fields))) same
+      ∙ ap (λ (o : Option CertCode). or_then o (order_fault (in_order last fields))) (sym (leg_fault net bids (drop 1 fields)))
+      ∙ fault_then (leg_told net bids (drop 1 fields)) (legs_go_on s) (order_fault (in_order last fields))
+        (λ told e. fault_before (leg_added s.walks told.0 told.1) (λ walks. Ok (record s { walks = walks })) (λ walks. refl) ∙ leg_added_fault s.walks told.0 told.1
+         ∙ ap order_fault (sym (order fields told.0 same (leg_number fields told e))))
+
+  tree_goes_on : (s : State R) (word : Field) (fields : Record)
+      → fault_of (tree_step cmp texts net bids version s.tree word fields >>= λ tree. Ok (record s { place = place.Tree; tree = tree })) ≡ fault_of (tree_step cmp texts net bids version s.tree word fields)
+  tree_goes_on s word fields = fault_before (tree_step cmp texts net bids version s.tree word fields) (λ tree. Ok (record s { place = place.Tree; tree = tree })) (λ tree. refl)
+
+  -- behind the legs
+  legs_judged : (s : State R) (last fields : Record) → LegsInOrder s.walks last → steps.is_whole s.tree ≡ false → s.tree.due ≡ 0
+      → judged false (codes "leg" ∷ tree_words) last fields ≡ fault_of (body_step cmp texts net bids version true s (field_at fields 0) (drop 1 fields))
+  unfolding body_step
+  legs_judged s last fields order open_ none = by (bytes_eq (field_at fields 0) (codes "leg")) refl
+    where
+      no_due : (d : ℕ) → s.tree.due ≡ suc d → PricesInOrder s.tree.prices last
+      no_due d e = absurd (omega (arith, e, none))
+
+      by : (b : Bool) → bytes_eq (field_at fields 0) (codes "leg") ≡ b
+          → cond (not (b || is_one_of tree_words fields)) (Some code.Record) (or_then (own_fault (field_at fields 0) (drop 1 fields)) (order_fault (in_order last fields)))
+            ≡ fault_of (cond b (leg_told net bids (drop 1 fields) >>= legs_go_on s)
+               (tree_step cmp texts net bids version s.tree (field_at fields 0) (drop 1 fields) >>= λ tree. Ok (record s { place = place.Tree; tree = tree })))
+      by true e = leg_judged s last fields order (same_word (field_at fields 0) (codes "leg") e)
+      by false e =
+          (λ i. judged (sym open_ i) (words_in (sym none i)) last fields) ∙ tree_judged s.tree last fields no_due ∙ sym (tree_goes_on s (field_at fields 0) (drop 1 fields))
+
+  -- in the tree
+  in_tree_judged : (s : State R) (last fields : Record) → ((d : ℕ) → s.tree.due ≡ suc d → PricesInOrder s.tree.prices last)
+      → judged (steps.is_whole s.tree) (words_in s.tree.due) last fields ≡ fault_of (body_step cmp texts net bids version false s (field_at fields 0) (drop 1 fields))
+  unfolding body_step
+  in_tree_judged s last fields order = tree_judged s.tree last fields order ∙ sym (tree_goes_on s (field_at fields 0) (drop 1 fields))
+
+  -- ---- what is known of the records before
+
+  abbrev pub AgreesAt : Place → State R → List Record → Type 0
+  AgreesAt place.Revenue s before = (length before ≡ 1) × (s.tree.ways ≡ 1) × (s.tree.due ≡ 0) × (s.walks.last ≡ 0)
+  AgreesAt place.Bound s before = (length before ≡ 2) × (s.tree.ways ≡ 1) × (s.tree.due ≡ 0) × (s.walks.last ≡ 0)
+  AgreesAt place.Legs s before =
+      (3 ≤ length before) × (s.tree.ways ≡ 1) × (s.tree.due ≡ 0) × (is_one_of (codes "bound" ∷ codes "leg" ∷ []) (last_of before) ≡ true) × LegsInOrder s.walks (last_of before)
+  AgreesAt place.Tree s before =
+      (3 ≤ length before) × (is_one_of (codes "bound" ∷ codes "leg" ∷ []) (last_of before) ≡ false) × ((d : ℕ) → s.tree.due ≡ suc d → PricesInOrder s.tree.prices (last_of before))
+
+  -- what was read so far is what the records before tell
+  pub record Agrees (s : State R) (before : List Record) : Type 0 where
+    pub ways : s.tree.ways + count_by (is_one_of leaf_words) before ≡ count_by (is_one_of (codes "split" ∷ [])) before + 1
+    pub due : prices_due before ≡ s.tree.due
+    pub none : s.tree.due ≡ 0 → s.tree.prices ≡ []
+    pub at : AgreesAt s.place s before
+
+  pub whole_same : (s : State R) (before : List Record) → Agrees s before → is_whole before ≡ steps.is_whole s.tree
+  whole_same s before a =
+      λ i. same_zero s.tree.ways (count_by (is_one_of leaf_words) before) (count_by (is_one_of (codes "split" ∷ [])) before) a.ways i && (a.due i == 0)
+
+  not_whole : (tree : TreeSoFar R) → tree.ways ≡ 1 → steps.is_whole tree ≡ false
+  not_whole tree one = ap (λ (n : ℕ). (n == 0) && (tree.due == 0)) one
+
+  -- the words behind at least three records
+  words_later : (before : List Record) (due : ℕ) (b : Bool) → 3 ≤ length before → prices_due before ≡ due → is_one_of (codes "bound" ∷ codes "leg" ∷ []) (last_of before) ≡ b
+      → words_behind before ≡ cond (nat_lt 0 due) (codes "price" ∷ []) (cond b (codes "leg" ∷ tree_words) tree_words)
+  words_later before due b long same last =
+      λ i. cond (ne_eqb (length before) 1 (λ e. absurd (omega (arith, e, long))) i) (codes "revenue" ∷ [])
+       (cond (ne_eqb (length before) 2 (λ e. absurd (omega (arith, e, long))) i) (codes "bound" ∷ [])
+        (cond (nat_lt 0 (same i)) (codes "price" ∷ []) (cond (last i) (codes "leg" ∷ tree_words) tree_words)))
+
+  words_first : (before : List Record) → length before ≡ 1 → words_behind before ≡ codes "revenue" ∷ []
+  words_first before e = rw e refl
+
+  words_second : (before : List Record) → length before ≡ 2 → words_behind before ≡ codes "bound" ∷ []
+  words_second before e = rw e refl
+
+  fault_is_at : (p : Place) (s : State R) (before : List Record) (fields : Record) → Agrees s before → AgreesAt p s before
+      → judged (steps.is_whole s.tree) (words_behind before) (last_of before) fields ≡ fault_of (step_at cmp texts net bids version p s (field_at fields 0) (drop 1 fields))
+  fault_is_at place.Revenue s before fields a at =
+      (λ i. judged (not_whole s.tree at.1 i) (words_first before at.0 i) (last_of before) fields) ∙ revenue_judged s (last_of before) fields
+  fault_is_at place.Bound s before fields a at =
+      (λ i. judged (not_whole s.tree at.1 i) (words_second before at.0 i) (last_of before) fields) ∙ bound_judged s (last_of before) fields
+  fault_is_at place.Legs s before fields a at =
+      let words : words_behind before ≡ codes "leg" ∷ tree_words = words_later before 0 true at.0 (a.due ∙ at.2) at.3 in
+      let open_ = not_whole s.tree at.1 in
+      (λ i. judged (open_ i) (words i) (last_of before) fields) ∙ legs_judged s (last_of before) fields at.4 open_ at.2
+  fault_is_at place.Tree s before fields a at =
+      let words : words_behind before ≡ words_in s.tree.due = words_later before s.tree.due false at.0 a.due at.1 in
+      (λ i. judged (steps.is_whole s.tree) (words i) (last_of before) fields) ∙ in_tree_judged s (last_of before) fields at.2
+
+  -- The fault of a record behind the records before it is that of its step.
+  pub fault_is : (s : State R) (before : List Record) (fields : Record) → Agrees s before → fault_at cmp texts net bids version before fields ≡ fault_of (step cmp texts net bids version s fields)
+  unfolding fault_at step
+  fault_is s before fields a = ap (λ (b : Bool). judged b (words_behind before) (last_of before) fields) (whole_same s before a) ∙ fault_is_at s.place s before fields a a.at
