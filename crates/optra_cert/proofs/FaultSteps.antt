@@ -52,7 +52,7 @@ unfolding leg_told
 leg_fault net bids fields = fault_before (record_values net (leg_columns bids fields) fields) (λ values. Ok (leg_of values)) (λ values. refl)
 
 module _ {R : Type 0} (cmp : R → R → Ordering) (texts : RowTexts R) (apart : AreApart texts.kinds) (are : AreTexts texts) (net : Net) (built : IsBuilt net) (bids : ℕ) (few : bids < 10 ^ 18) (version : ℕ) where
-  abbrev in_order : Record → Record → Bool
+  abbrev pub in_order : Record → Record → Bool
   in_order last fields = is_in_order cmp texts net bids version last fields
 
   abbrev own_fault : Field → Record → Option CertCode
@@ -177,7 +177,7 @@ module _ {R : Type 0} (cmp : R → R → Ordering) (texts : RowTexts R) (apart :
       by true = refl
       by false = refl
 
-  price_row : (fields : Record) (entry : R × ℤ) → price_told texts net version fields ≡ Ok entry → read_row texts net version (but_last fields) ≡ read.Row entry.0
+  pub price_row : (fields : Record) (entry : R × ℤ) → price_told texts net version fields ≡ Ok entry → read_row texts net version (but_last fields) ≡ read.Row entry.0
   unfolding price_told
   price_row fields entry e =
       let first = bind_ok (row_or_fault (read_row texts net version (but_last fields))) (λ row. amount_told (last_alone fields) >>= λ amount. Ok (row, amount)) entry e in

@@ -17,3 +17,4 @@ pub mod ReadLemmas
 pub mod LegLemmas
 pub mod FaultWords
 pub mod FaultSteps
+pub mod AgreeSteps

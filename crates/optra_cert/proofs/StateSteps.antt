@@ -39,7 +39,7 @@ word_first [] byte word e = absurd (cc e)
 word_first (field ∷ fields) byte word e = ap (λ (f : Field). f ∷ fields) e
 
 -- a tree that isn't whole, and of which no price is to come, has an open node
-node_open : {R : Type 0} (tree : TreeSoFar R) → is_whole tree ≡ false → tree.due ≡ 0 → tree.ways ≡ suc (tree.ways - 1)
+pub node_open : {R : Type 0} (tree : TreeSoFar R) → is_whole tree ≡ false → tree.due ≡ 0 → tree.ways ≡ suc (tree.ways - 1)
 node_open tree open_ none = by (tree.ways == 0) refl
   where
     by : (b : Bool) → (tree.ways == 0) ≡ b → tree.ways ≡ suc (tree.ways - 1)

@@ -1,0 +1,218 @@
+-- Behind a record that is taken, what was read so far is still what the records tell.
+use Rattle.std.proofs.Common.{◌≡◌, ◌≢◌, ◌<◌, ◌≤◌, ◌^◌, ◌+◌, ◌-◌, ◌++◌, ◌==◌, ◌&&◌, ℕ, zero, suc, Bool, true, false, List, [], ◌∷◌, length, drop, get_or, Option, Some, None, refl, sym, ap, ◌∙◌, subst, arith, codes, cond, bytes_eq, ℤ}
+use Rattle.std.specs.Prelude.{Result, Ok, Err, count_by, slice_get, unwrap_or, nat_le}
+use Rattle.std.specs.List.{list_any}
+use Rattle.std.specs.Fmt.{decimal}
+use Rattle.std.specs.Option.{option_map_or}
+use Rattle.std.specs.Ordering.{is_lt}
+use Rattle.std.specs.declared.cmp.Ordering.{Ordering}
+use Rattle.std.proofs.lemmas.Bool.{ne_eqb, eq-eqb, eqb-true, eqb-false, le-leb, lt-leb, leb-true, leb-false, and_parts, false≢true}
+use Rattle.std.proofs.lemmas.List.{get_or_push, length_push}
+use Rattle.std.proofs.lemmas.Option.{slice_get-get_or}
+use Rattle.optra_network.specs.Net.{Net, IsBuilt}
+use Rattle.optra_node.specs.declared.Item.{Item}
+use Rattle.optra_node.specs.declared.Item.TheVariants.{Split, NoWalk, Forced, Priced}
+use Rattle.optra_node.specs.Duals.{PriceList}
+use Rattle.optra_records.specs.Numbers.{plain_number_of}
+use Rattle.optra_records.specs.Reading.{Field, Record}
+use Rattle.optra_records.proofs.PlainNumbers.{plain_number_back}
+use Rattle.optra_cert.specs.RowTexts.{RowTexts, AreApart, AreTexts, read_row}
+use Rattle.optra_cert.specs.Faults.{is_below, is_in_order, is_one_of, last_of, leaf_words, number_at, prices_due, row_of_price}
+use Rattle.optra_cert.specs.Forms.{field_at}
+use Rattle.optra_cert.specs.Outcomes.{◌>>=◌, row_or_fault}
+use Rattle.optra_cert.specs.Steps.{State, TreeSoFar, WalksSoFar, amount_told, bid_told, body_step, bound_step, count_added, count_told, filled, is_above, is_whole, item_step, leaf_added, leg_added, leg_told, price_added, price_told, revenue_step, split_added, started, step, step_at, tree_step}
+use Rattle.optra_cert.specs.declared.CertCode.{CertCode}
+use Rattle.optra_cert.specs.declared.CertCode.TheVariants as code
+use Rattle.optra_cert.specs.declared.reading.Place.{Place}
+use Rattle.optra_cert.specs.declared.reading.Place.TheVariants as place
+use Rattle.optra_cert.specs.declared.row_text.RowRead.{RowRead}
+use Rattle.optra_cert.specs.declared.row_text.RowRead.TheVariants as read
+use Rattle.optra_cert.proofs.FaultSteps.{Agrees, AgreesAt, LegsInOrder, PricesInOrder, in_order, leg_number, price_row}
+use Rattle.optra_cert.proofs.FaultWords.{count_push, due_push, has_word, last_push}
+use Rattle.optra_cert.proofs.StateSteps.{node_open, same_word}
+use Rattle.optra_cert.proofs.TellLemmas.{bind_ok, count_is}
+use Rattle.optra_cert.proofs.TreeSteps.{price_added_is}
+use Rattle.optra_cert.proofs.WalkSteps.{added_is}
+
+-- ---- a leaf that is filled
+
+module _ {R : Type 0} (tree : TreeSoFar R) where
+  filled_ways : (filled tree).ways ≡ tree.ways
+  filled_ways = by (tree.due == 0)
+    where
+      by : (b : Bool) → (cond b (record tree { items = tree.items ++ Priced tree.prices ∷ []; prices = [] }) tree).ways ≡ tree.ways
+      by true = refl
+      by false = refl
+
+  filled_due : (filled tree).due ≡ tree.due
+  filled_due = by (tree.due == 0)
+    where
+      by : (b : Bool) → (cond b (record tree { items = tree.items ++ Priced tree.prices ∷ []; prices = [] }) tree).due ≡ tree.due
+      by true = refl
+      by false = refl
+
+  filled_none : tree.due ≡ 0 → (filled tree).prices ≡ []
+  filled_none e = rw e refl
+
+  filled_prices : (left : ℕ) → tree.due ≡ suc left → (filled tree).prices ≡ tree.prices
+  filled_prices left e = rw (ne_eqb tree.due 0 (λ none. absurd (omega (arith, none, e)))) refl
+
+-- the last price is the one that was added
+above_push : {R : Type 0} (cmp : R → R → Ordering) (prices : PriceList R) (entry : R × ℤ) (row : R) → is_above cmp (prices ++ entry ∷ []) row ≡ is_lt (cmp entry.0 row)
+above_push {R} cmp prices entry row =
+    let long = length_push prices entry in
+    let last : ℕ = length (prices ++ entry ∷ []) - 1 in
+    let at : slice_get (prices ++ entry ∷ []) last ≡ Some entry =
+    slice_get-get_or (prices ++ entry ∷ []) last entry (omega (arith, long)) ∙ ap Some (get_or_push prices entry entry last (omega (arith, long))) in
+    ap (λ (o : Option (R × ℤ)). option_map_or (λ e. is_lt (cmp e.0 row)) o true) at
+
+succ_le : (a b : ℕ) → nat_le (a + 1) (b + 1) ≡ nat_le a b
+succ_le a b = by (nat_le a b) refl
+  where
+    by : (t : Bool) → nat_le a b ≡ t → nat_le (a + 1) (b + 1) ≡ t
+    by true e = let le = leb-true a b e in le-leb (a + 1) (b + 1) (omega (arith, le))
+    by false e = let lt = leb-false a b e in lt-leb (a + 1) (b + 1) (omega (arith, lt))
+
+second_field : (fields : Record) (first : Field) (rest : Record) → first ∷ rest ≡ drop 1 fields → field_at fields 1 ≡ first
+second_field [] first rest e = absurd (cc e)
+second_field (word ∷ fields) first rest e = sym (ap (λ (fs : Record). field_at fs 0) e)
+
+count_number : (fields : Record) (count : ℕ) → count_told (drop 1 fields) ≡ Ok count → number_at fields 1 ≡ count
+count_number fields count e =
+    let is = count_is (drop 1 fields) count e in
+    ap (λ (f : Field). unwrap_or (plain_number_of f) 0) (second_field fields (decimal count) [] is.1) ∙ ap (λ (o : Option ℕ). unwrap_or o 0) (plain_number_back count is.0)
+
+module _ {R : Type 0} (cmp : R → R → Ordering) (texts : RowTexts R) (apart : AreApart texts.kinds) (are : AreTexts texts) (net : Net) (built : IsBuilt net) (bids : ℕ) (few : bids < 10 ^ 18) (version : ℕ) where
+  abbrev order : Record → Record → Bool
+  order = in_order cmp texts apart are net built bids few version
+
+  abbrev row_at : Record → RowRead R
+  row_at = row_of_price cmp texts net bids version
+
+  -- behind what is neither a leg nor a price all is in order
+  first_order : (last fields : Record) (word : Field) → field_at last 0 ≡ word → list_any (bytes_eq word) (codes "leg" ∷ []) ≡ false → list_any (bytes_eq word) (codes "price" ∷ []) ≡ false → order last fields ≡ true
+  first_order last fields word same no_leg no_price =
+      λ i. cond (has_word last word (codes "leg" ∷ []) false same no_leg i && is_one_of (codes "leg" ∷ []) fields) (nat_le (number_at last 1) (number_at fields 1))
+       (cond (has_word last word (codes "price" ∷ []) false same no_price i && is_one_of (codes "price" ∷ []) fields) (is_below cmp texts net bids version (row_at last) (row_at fields)) true)
+
+  legs_order : (last fields : Record) → field_at last 0 ≡ codes "leg" → field_at fields 0 ≡ codes "leg" → order last fields ≡ nat_le (number_at last 1) (number_at fields 1)
+  legs_order last fields a b =
+      λ i. cond (has_word last (codes "leg") (codes "leg" ∷ []) true a refl i && has_word fields (codes "leg") (codes "leg" ∷ []) true b refl i) (nat_le (number_at last 1) (number_at fields 1))
+       (cond (is_one_of (codes "price" ∷ []) last && is_one_of (codes "price" ∷ []) fields) (is_below cmp texts net bids version (row_at last) (row_at fields)) true)
+
+  prices_order : (last fields : Record) → field_at last 0 ≡ codes "price" → field_at fields 0 ≡ codes "price" → order last fields ≡ is_below cmp texts net bids version (row_at last) (row_at fields)
+  prices_order last fields a b =
+      λ i. cond (has_word last (codes "price") (codes "leg" ∷ []) false a refl i && is_one_of (codes "leg" ∷ []) fields) (nat_le (number_at last 1) (number_at fields 1))
+       (cond (has_word last (codes "price") (codes "price" ∷ []) true a refl i && has_word fields (codes "price") (codes "price" ∷ []) true b refl i) (is_below cmp texts net bids version (row_at last) (row_at fields)) true)
+
+  abbrev Prices : PriceList R → Record → Type 0
+  Prices = PricesInOrder cmp texts apart are net built bids few version
+
+  -- what a record of the tree does to what is known of the records
+  record TreeGoes (tree : TreeSoFar R) (fields : Record) (next : TreeSoFar R) : Type 0 where
+    ways : next.ways + cond (is_one_of leaf_words fields) 1 0 ≡ tree.ways + cond (is_one_of (codes "split" ∷ []) fields) 1 0
+    due : next.due ≡ cond (is_one_of (codes "priced" ∷ []) fields) (number_at fields 1) (tree.due - 1)
+    none : next.due ≡ 0 → next.prices ≡ []
+    word : is_one_of (codes "bound" ∷ codes "leg" ∷ []) fields ≡ false
+    prices : (d : ℕ) → next.due ≡ suc d → Prices next.prices fields
+
+  module _ (tree : TreeSoFar R) (none : tree.due ≡ 0 → tree.prices ≡ []) (fields : Record) (next : TreeSoFar R) where
+    split_goes : tree.due ≡ 0 → field_at fields 0 ≡ codes "split" → (leg_told net bids (drop 1 fields) >>= λ told. Ok (split_added tree told.0 told.1)) ≡ Ok next → TreeGoes tree fields next
+    split_goes closed same e =
+        let h = bind_ok (leg_told net bids (drop 1 fields)) (λ told. Ok (split_added tree told.0 told.1)) next e in
+        let is : split_added tree h.0.0 h.0.1 ≡ next = cc h.2 in
+        subst (TreeGoes tree fields) is (record {
+          ways = rw (has_word fields (codes "split") leaf_words false same refl, has_word fields (codes "split") (codes "split" ∷ []) true same refl) (omega arith);
+          due = rw (has_word fields (codes "split") (codes "priced" ∷ []) false same refl) (omega (arith, closed));
+          none = none;
+          word = has_word fields (codes "split") (codes "bound" ∷ codes "leg" ∷ []) false same refl;
+          prices = λ d due. absurd (omega (arith, due, closed));
+        })
+
+    -- a leaf without prices
+    leaf_goes : tree.due ≡ 0 → (w : ℕ) → tree.ways ≡ suc w → (word : Field) → field_at fields 0 ≡ word → list_any (bytes_eq word) leaf_words ≡ true → list_any (bytes_eq word) (codes "split" ∷ []) ≡ false
+        → list_any (bytes_eq word) (codes "priced" ∷ []) ≡ false → list_any (bytes_eq word) (codes "bound" ∷ codes "leg" ∷ []) ≡ false → (item : Item R) → TreeGoes tree fields (leaf_added tree item)
+    leaf_goes closed w open_ word same leaf split priced other item = record {
+      ways = rw (has_word fields word leaf_words true same leaf, has_word fields word (codes "split" ∷ []) false same split) (omega (arith, open_));
+      due = rw (has_word fields word (codes "priced" ∷ []) false same priced) (omega (arith, closed));
+      none = none;
+      word = has_word fields word (codes "bound" ∷ codes "leg" ∷ []) false same other;
+      prices = λ d due. absurd (omega (arith, due, closed));
+    }
+
+    nowalk_goes : tree.due ≡ 0 → (w : ℕ) → tree.ways ≡ suc w → field_at fields 0 ≡ codes "nowalk" → (bid_told bids (drop 1 fields) >>= λ bid. Ok (leaf_added tree (NoWalk bid))) ≡ Ok next → TreeGoes tree fields next
+    nowalk_goes closed w open_ same e =
+        let h = bind_ok (bid_told bids (drop 1 fields)) (λ bid. Ok (leaf_added tree (NoWalk bid))) next e in
+        let is : leaf_added tree (NoWalk h.0) ≡ next = cc h.2 in
+        subst (TreeGoes tree fields) is (leaf_goes closed w open_ (codes "nowalk") same refl refl refl refl (NoWalk h.0))
+
+    forced_goes : tree.due ≡ 0 → (w : ℕ) → tree.ways ≡ suc w → field_at fields 0 ≡ codes "forced" → (row_or_fault (read_row texts net version (drop 1 fields)) >>= λ row. Ok (leaf_added tree (Forced row))) ≡ Ok next → TreeGoes tree fields next
+    forced_goes closed w open_ same e =
+        let h = bind_ok (row_or_fault (read_row texts net version (drop 1 fields))) (λ row. Ok (leaf_added tree (Forced row))) next e in
+        let is : leaf_added tree (Forced h.0) ≡ next = cc h.2 in
+        subst (TreeGoes tree fields) is (leaf_goes closed w open_ (codes "forced") same refl refl refl refl (Forced h.0))
+
+    priced_goes : tree.due ≡ 0 → (w : ℕ) → tree.ways ≡ suc w → field_at fields 0 ≡ codes "priced" → (count_told (drop 1 fields) >>= λ count. Ok (count_added tree count)) ≡ Ok next → TreeGoes tree fields next
+    priced_goes closed w open_ same e =
+        let h = bind_ok (count_told (drop 1 fields)) (λ count. Ok (count_added tree count)) next e in
+        let is : count_added tree h.0 ≡ next = cc h.2 in
+        let leaf : TreeSoFar R = record tree { ways = tree.ways - 1; due = h.0 } in
+        let same_ways = filled_ways leaf in
+        let same_due = filled_due leaf in
+        let number = count_number fields h.0 h.1 in
+        subst (TreeGoes tree fields) is (record {
+          ways = rw (has_word fields (codes "priced") leaf_words true same refl, has_word fields (codes "priced") (codes "split" ∷ []) false same refl, same_ways) (omega (arith, open_));
+          due = rw (has_word fields (codes "priced") (codes "priced" ∷ []) true same refl) (same_due ∙ sym number);
+          none = λ zero_. filled_none leaf (sym same_due ∙ zero_);
+          word = has_word fields (codes "priced") (codes "bound" ∷ codes "leg" ∷ []) false same refl;
+          prices = λ d due. subst (λ (ps : PriceList R). Prices ps fields) (sym (filled_prices leaf d (sym same_due ∙ due) ∙ none closed)) (λ more row word is. first_order fields more (codes "priced") same refl refl);
+        })
+
+    price_goes : field_at fields 0 ≡ codes "price" → (price_told texts net version (drop 1 fields) >>= price_added cmp tree) ≡ Ok next → TreeGoes tree fields next
+    price_goes same e =
+        let h = bind_ok (price_told texts net version (drop 1 fields)) (price_added cmp tree) next e in
+        let added = price_added_is cmp texts net bids version tree h.0 next h.2 in
+        let leaf : TreeSoFar R = record tree { due = tree.due - 1; prices = tree.prices ++ h.0 ∷ [] } in
+        let same_ways = filled_ways leaf in
+        let same_due = filled_due leaf in
+        let own : row_at fields ≡ read.Row h.0.0 = price_row cmp texts apart are net built bids few version (drop 1 fields) h.0 h.1 in
+        subst (TreeGoes tree fields) (sym added.1) (record {
+          ways = rw (has_word fields (codes "price") leaf_words false same refl, has_word fields (codes "price") (codes "split" ∷ []) false same refl, same_ways) refl;
+          due = rw (has_word fields (codes "price") (codes "priced" ∷ []) false same refl) same_due;
+          none = λ zero_. filled_none leaf (sym same_due ∙ zero_);
+          word = has_word fields (codes "price") (codes "bound" ∷ codes "leg" ∷ []) false same refl;
+          prices = λ d due. subst (λ (ps : PriceList R). Prices ps fields) (sym (filled_prices leaf d (sym same_due ∙ due)))
+            (λ more row word is. prices_order fields more same word ∙ (λ i. is_below cmp texts net bids version (own i) (is i)) ∙ sym (above_push cmp tree.prices h.0 row));
+        })
+
+    item_goes : tree.due ≡ 0 → (w : ℕ) → tree.ways ≡ suc w → item_step cmp texts net bids version tree (field_at fields 0) (drop 1 fields) ≡ Ok next → TreeGoes tree fields next
+    unfolding item_step
+    item_goes closed w open_ e =
+        by (bytes_eq (field_at fields 0) (codes "split")) refl (bytes_eq (field_at fields 0) (codes "nowalk")) refl (bytes_eq (field_at fields 0) (codes "forced")) refl (bytes_eq (field_at fields 0) (codes "priced")) refl e
+      where
+        by : (a : Bool) → bytes_eq (field_at fields 0) (codes "split") ≡ a → (b : Bool) → bytes_eq (field_at fields 0) (codes "nowalk") ≡ b → (c : Bool) → bytes_eq (field_at fields 0) (codes "forced") ≡ c
+            → (d : Bool) → bytes_eq (field_at fields 0) (codes "priced") ≡ d
+            → cond a (leg_told net bids (drop 1 fields) >>= λ told. Ok (split_added tree told.0 told.1))
+              (cond b (bid_told bids (drop 1 fields) >>= λ bid. Ok (leaf_added tree (NoWalk bid)))
+               (cond c (row_or_fault (read_row texts net version (drop 1 fields)) >>= λ row. Ok (leaf_added tree (Forced row)))
+                (cond d (count_told (drop 1 fields) >>= λ count. Ok (count_added tree count)) (Err code.Record)))) ≡ Ok next
+            → TreeGoes tree fields next
+        by true p b q c r d s e = split_goes closed (same_word (field_at fields 0) (codes "split") p) e
+        by false p true q c r d s e = nowalk_goes closed w open_ (same_word (field_at fields 0) (codes "nowalk") q) e
+        by false p false q true r d s e = forced_goes closed w open_ (same_word (field_at fields 0) (codes "forced") r) e
+        by false p false q false r true s e = priced_goes closed w open_ (same_word (field_at fields 0) (codes "priced") s) e
+        by false p false q false r false s e = absurd (cc e)
+
+    tree_goes : tree_step cmp texts net bids version tree (field_at fields 0) (drop 1 fields) ≡ Ok next → TreeGoes tree fields next
+    unfolding tree_step
+    tree_goes e = by (is_whole tree) refl (tree.due == 0) refl (bytes_eq (field_at fields 0) (codes "price")) refl e
+      where
+        by : (a : Bool) → is_whole tree ≡ a → (b : Bool) → (tree.due == 0) ≡ b → (c : Bool) → bytes_eq (field_at fields 0) (codes "price") ≡ c
+            → cond a (Err code.Order) (cond b (item_step cmp texts net bids version tree (field_at fields 0) (drop 1 fields)) (cond c (price_told texts net version (drop 1 fields) >>= price_added cmp tree) (Err code.Record))) ≡ Ok next
+            → TreeGoes tree fields next
+        by true p b q c r e = absurd (cc e)
+        by false p true q c r e =
+            let closed = eqb-true tree.due 0 q in
+            item_goes closed (tree.ways - 1) (node_open tree p closed) e
+        by false p false q true r e = price_goes (same_word (field_at fields 0) (codes "price") r) e
+        by false p false q false r e = absurd (cc e)
