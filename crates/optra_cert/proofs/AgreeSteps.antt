@@ -216,3 +216,147 @@ module _ {R : Type 0} (cmp : R → R → Ordering) (texts : RowTexts R) (apart :
             item_goes closed (tree.ways - 1) (node_open tree p closed) e
         by false p false q true r e = price_goes (same_word (field_at fields 0) (codes "price") r) e
         by false p false q false r e = absurd (cc e)
+
+  abbrev Agree : State R → List Record → Type 0
+  Agree = Agrees cmp texts apart are net built bids few version
+
+  abbrev AgreeAt : Place → State R → List Record → Type 0
+  AgreeAt = AgreesAt cmp texts apart are net built bids few version
+
+  abbrev Legs : WalksSoFar → Record → Type 0
+  Legs = LegsInOrder cmp texts apart are net built bids few version
+
+  -- one record more: what it does to the counts
+  agree_more : (s next : State R) (before : List Record) (fields : Record) → Agree s before
+      → next.tree.ways + cond (is_one_of leaf_words fields) 1 0 ≡ s.tree.ways + cond (is_one_of (codes "split" ∷ []) fields) 1 0
+      → next.tree.due ≡ cond (is_one_of (codes "priced" ∷ []) fields) (number_at fields 1) (s.tree.due - 1)
+      → (next.tree.due ≡ 0 → next.tree.prices ≡ []) → AgreeAt next.place next (before ++ fields ∷ []) → Agree next (before ++ fields ∷ [])
+  agree_more s next before fields a ways due none at =
+      let leaves = count_push leaf_words before fields in
+      let splits = count_push (codes "split" ∷ []) before fields in
+      let old = a.ways in
+      record {
+        ways = rw (leaves, splits) (omega (arith, ways, old));
+        due = due_push before fields ∙ ap (λ (n : ℕ). cond (is_one_of (codes "priced" ∷ []) fields) (number_at fields 1) (n - 1)) a.due ∙ sym due;
+        none = none;
+        at = at;
+      }
+
+  -- one record of another kind
+  other_more : (s next : State R) (before : List Record) (fields : Record) (word : Field) → Agree s before → next.tree ≡ s.tree → s.tree.due ≡ 0 → field_at fields 0 ≡ word → list_any (bytes_eq word) leaf_words ≡ false
+      → list_any (bytes_eq word) (codes "split" ∷ []) ≡ false → list_any (bytes_eq word) (codes "priced" ∷ []) ≡ false → AgreeAt next.place next (before ++ fields ∷ []) → Agree next (before ++ fields ∷ [])
+  other_more s next before fields word a tree closed same leaf split priced at =
+      let ways : next.tree.ways ≡ s.tree.ways = ap (λ (t : TreeSoFar R). t.ways) tree in
+      let due : next.tree.due ≡ s.tree.due = ap (λ (t : TreeSoFar R). t.due) tree in
+      agree_more s next before fields a
+      (rw (has_word fields word leaf_words false same leaf, has_word fields word (codes "split" ∷ []) false same split) (omega (arith, ways)))
+      (rw (has_word fields word (codes "priced" ∷ []) false same priced) (omega (arith, due, closed)))
+      (λ e. ap (λ (t : TreeSoFar R). t.prices) tree ∙ a.none (sym due ∙ e))
+      at
+
+  abbrev last_after : List Record → Record → Record
+  last_after before fields = last_of (before ++ fields ∷ [])
+
+  module _ (s : State R) (before : List Record) (fields : Record) (next : State R) (a : Agree s before) where
+    Next : Type 0
+    Next = Agree next (before ++ fields ∷ [])
+
+    long : length (before ++ fields ∷ []) ≡ length before + 1
+    long = length_push before fields
+
+    revenue_agrees : AgreeAt place.Revenue s before → revenue_step s (field_at fields 0) (drop 1 fields) ≡ Ok next → Next
+    unfolding revenue_step Next
+    revenue_agrees at e = by (bytes_eq (field_at fields 0) (codes "revenue")) refl e
+      where
+        by : (b : Bool) → bytes_eq (field_at fields 0) (codes "revenue") ≡ b
+            → cond b (amount_told (drop 1 fields) >>= λ amount. Ok (record s { place = place.Bound; revenue = amount })) (Err code.Record) ≡ Ok next → Agree next (before ++ fields ∷ [])
+        by true p e =
+            let h = bind_ok (amount_told (drop 1 fields)) (λ amount. Ok (record s { place = place.Bound; revenue = amount })) next e in
+            let is : record s { place = place.Bound; revenue = h.0 } ≡ next = cc h.2 in
+            let one = at.0 in
+            subst (λ (n : State R). Agree n (before ++ fields ∷ [])) is
+            (other_more s (record s { place = place.Bound; revenue = h.0 }) before fields (codes "revenue") a refl at.2 (same_word (field_at fields 0) (codes "revenue") p) refl refl refl
+             (omega (arith, one, long), at.1, at.2, at.3))
+        by false p e = absurd (cc e)
+
+    bound_agrees : AgreeAt place.Bound s before → bound_step s (field_at fields 0) (drop 1 fields) ≡ Ok next → Next
+    unfolding bound_step Next
+    bound_agrees at e = by (bytes_eq (field_at fields 0) (codes "bound")) refl e
+      where
+        by : (b : Bool) → bytes_eq (field_at fields 0) (codes "bound") ≡ b
+            → cond b (amount_told (drop 1 fields) >>= λ amount. Ok (record s { place = place.Legs; bound = amount })) (Err code.Record) ≡ Ok next → Agree next (before ++ fields ∷ [])
+        by true p e =
+            let h = bind_ok (amount_told (drop 1 fields)) (λ amount. Ok (record s { place = place.Legs; bound = amount })) next e in
+            let is : record s { place = place.Legs; bound = h.0 } ≡ next = cc h.2 in
+            let two = at.0 in
+            let start = at.3 in
+            let same = same_word (field_at fields 0) (codes "bound") p in
+            let own = last_push before fields in
+            let last : is_one_of (codes "bound" ∷ codes "leg" ∷ []) (last_after before fields) ≡ true = ap (is_one_of (codes "bound" ∷ codes "leg" ∷ [])) own ∙ has_word fields (codes "bound") (codes "bound" ∷ codes "leg" ∷ []) true same refl in
+            let legs : Legs s.walks (last_after before fields) =
+            subst (Legs s.walks) (sym own) (λ more bid word number. first_order fields more (codes "bound") same refl refl ∙ sym (le-leb s.walks.last bid (omega (arith, start)))) in
+            subst (λ (n : State R). Agree n (before ++ fields ∷ [])) is
+            (other_more s (record s { place = place.Legs; bound = h.0 }) before fields (codes "bound") a refl at.2 same refl refl refl
+             (omega (arith, two, long), at.1, at.2, last, legs))
+        by false p e = absurd (cc e)
+
+    leg_agrees : s.place ≡ place.Legs → AgreeAt place.Legs s before → field_at fields 0 ≡ codes "leg"
+        → (leg_told net bids (drop 1 fields) >>= λ told. leg_added s.walks told.0 told.1 >>= λ walks. Ok (record s { walks = walks })) ≡ Ok next → Next
+    unfolding Next
+    leg_agrees place_is at same e =
+        let h = bind_ok (leg_told net bids (drop 1 fields)) (λ told. leg_added s.walks told.0 told.1 >>= λ walks. Ok (record s { walks = walks })) next e in
+        let k = bind_ok (leg_added s.walks h.0.0 h.0.1) (λ walks. Ok (record s { walks = walks })) next h.2 in
+        let is : record s { walks = k.0 } ≡ next = cc k.2 in
+        let added = added_is net s.walks h.0.0 h.0.1 k.0 k.1 in
+        let last_bid : k.0.last ≡ h.0.0 = ap (λ (w : WalksSoFar). w.last) added.1 in
+        let number = leg_number cmp texts apart are net built bids few version fields h.0 h.1 in
+        let three = at.0 in
+        let own = last_push before fields in
+        let last : is_one_of (codes "bound" ∷ codes "leg" ∷ []) (last_after before fields) ≡ true = ap (is_one_of (codes "bound" ∷ codes "leg" ∷ [])) own ∙ has_word fields (codes "leg") (codes "bound" ∷ codes "leg" ∷ []) true same refl in
+        let legs : Legs k.0 (last_after before fields) =
+        subst (Legs k.0) (sym own)
+        (λ more bid word told. legs_order fields more same word ∙ (λ i. nat_le (number i) (told i)) ∙ succ_le h.0.0 bid ∙ ap (λ (n : ℕ). nat_le n bid) (sym last_bid)) in
+        let stands : AgreeAt place.Legs (record s { walks = k.0 }) (before ++ fields ∷ []) = (omega (arith, three, long), at.1, at.2, last, legs) in
+        subst (λ (n : State R). Agree n (before ++ fields ∷ [])) is
+        (other_more s (record s { walks = k.0 }) before fields (codes "leg") a refl at.2 same refl refl refl
+         (subst (λ (p : Place). AgreeAt p (record s { walks = k.0 }) (before ++ fields ∷ [])) (sym place_is) stands))
+
+    tree_agrees : 3 ≤ length before → (tree_step cmp texts net bids version s.tree (field_at fields 0) (drop 1 fields) >>= λ tree. Ok (record s { place = place.Tree; tree = tree })) ≡ Ok next → Next
+    unfolding Next
+    tree_agrees three e =
+        let h = bind_ok (tree_step cmp texts net bids version s.tree (field_at fields 0) (drop 1 fields)) (λ tree. Ok (record s { place = place.Tree; tree = tree })) next e in
+        let is : record s { place = place.Tree; tree = h.0 } ≡ next = cc h.2 in
+        let goes = tree_goes s.tree a.none fields h.0 h.1 in
+        let own = last_push before fields in
+        let last : is_one_of (codes "bound" ∷ codes "leg" ∷ []) (last_after before fields) ≡ false = ap (is_one_of (codes "bound" ∷ codes "leg" ∷ [])) own ∙ goes.word in
+        let prices : (d : ℕ) → h.0.due ≡ suc d → Prices h.0.prices (last_after before fields) = λ d due. subst (Prices h.0.prices) (sym own) (goes.prices d due) in
+        subst (λ (n : State R). Agree n (before ++ fields ∷ [])) is
+        (agree_more s (record s { place = place.Tree; tree = h.0 }) before fields a goes.ways goes.due goes.none (omega (arith, three, long), last, prices))
+
+    body_agrees : (legs : Bool) → (legs ≡ true → (s.place ≡ place.Legs) × AgreeAt place.Legs s before) → 3 ≤ length before → body_step cmp texts net bids version legs s (field_at fields 0) (drop 1 fields) ≡ Ok next → Next
+    unfolding body_step
+    body_agrees legs at_legs three e = by (legs && bytes_eq (field_at fields 0) (codes "leg")) refl e
+      where
+        by : (b : Bool) → (legs && bytes_eq (field_at fields 0) (codes "leg")) ≡ b
+            → cond b (leg_told net bids (drop 1 fields) >>= λ told. leg_added s.walks told.0 told.1 >>= λ walks. Ok (record s { walks = walks }))
+              (tree_step cmp texts net bids version s.tree (field_at fields 0) (drop 1 fields) >>= λ tree. Ok (record s { place = place.Tree; tree = tree })) ≡ Ok next → Next
+        by true p e =
+            let parts = and_parts _ _ p in
+            let at = at_legs parts.0 in
+            leg_agrees at.0 at.1 (same_word (field_at fields 0) (codes "leg") parts.1) e
+        by false p e = tree_agrees three e
+
+    agrees_at : (p : Place) → s.place ≡ p → AgreeAt p s before → step_at cmp texts net bids version p s (field_at fields 0) (drop 1 fields) ≡ Ok next → Next
+    agrees_at place.Revenue place_is at e = revenue_agrees at e
+    agrees_at place.Bound place_is at e = bound_agrees at e
+    agrees_at place.Legs place_is at e = body_agrees true (λ yes. (place_is, at)) at.0 e
+    agrees_at place.Tree place_is at e = body_agrees false (λ no. absurd (false≢true no)) at.0 e
+
+    -- Behind a record that is taken, what was read so far is still what the records tell.
+    pub agrees_next : step cmp texts net bids version s fields ≡ Ok next → Agree next (before ++ fields ∷ [])
+    unfolding step Next
+    agrees_next e = agrees_at s.place refl a.at e
+
+  -- so it is behind the first record
+  pub agrees_started : Agree (started bids) ((codes "optra-certificate" ∷ decimal version ∷ []) ∷ [])
+  agrees_started = record { ways = refl; due = refl; none = λ e. refl; at = (refl, refl, refl, refl) }
