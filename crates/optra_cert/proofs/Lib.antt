@@ -18,3 +18,4 @@ pub mod LegLemmas
 pub mod FaultWords
 pub mod FaultSteps
 pub mod AgreeSteps
+pub mod FirstFaults
