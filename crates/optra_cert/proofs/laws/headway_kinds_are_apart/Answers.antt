@@ -1,4 +1,3 @@
-use Rattle.optra_cert.proofs.FirstFaults as scratch
 use Rattle.optra_cert.proofs.ApartLemmas.{headways_apart}
 use Rattle.optra_cert.proofs.laws.headway_kinds_are_apart.Goals as goal
 
