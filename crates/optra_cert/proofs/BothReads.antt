@@ -1,7 +1,6 @@
 -- What the two families of both are asked, and what they answer.
 use Rattle.std.proofs.Common.{◌≡◌, ℕ, sym, ap, ◌∙◌}
 use Rattle.optra_network.specs.Net.{Net}
-use Rattle.optra_rows.specs.declared.joining.Either.{Either}
 use Rattle.optra_records.specs.Reading.{Record}
 use Rattle.optra_cert.specs.RowTexts.{RowTexts, AreApart, AreTexts, read_row}
 use Rattle.optra_cert.specs.Boths.{both_texts, lesser, read_either}

@@ -1,21 +1,16 @@
 -- A leg is told by seven fields: its words, and then the others from left to right.
-use Rattle.std.proofs.Common.{◌≡◌, ◌≢◌, ℕ, Bool, true, false, ◌&&◌, ◌||◌, ◌==◌, cond, List, [], ◌∷◌, length, drop, Option, Some, None, is_some, refl, sym, ap, ◌∙◌, subst, bytes_eq, arith}
-use Rattle.std.specs.Prelude.{Result, Ok, Err, codes, position, if◌then◌else◌}
-use Rattle.std.specs.Option.{option_map}
+use Rattle.std.proofs.Common.{◌≡◌, ◌≢◌, ℕ, Bool, true, false, ◌&&◌, ◌||◌, ◌==◌, cond, List, [], ◌∷◌, length, drop, Option, Some, None, refl, sym, subst, bytes_eq, arith}
+use Rattle.std.specs.Prelude.{Err, codes, position, if◌then◌else◌}
 use Rattle.std.proofs.lemmas.Slice.Eq.{bytes_eq-Decides}
 use Rattle.optra_network.specs.Net.{Net}
 use Rattle.optra_network.specs.Names.{place_of}
 use Rattle.optra_walk.specs.declared.Action.{Action}
-use Rattle.optra_walk.specs.declared.Action.TheVariants as Action
-use Rattle.optra_walk.specs.declared.Leg.{Leg}
 use Rattle.optra_records.specs.Numbers.{plain_number_of}
 use Rattle.optra_records.specs.Reading.{Field, Record}
-use Rattle.optra_cert.specs.Columns.{Column, a_station, a_track, a_type, a_number, a_word, has_form, in_range, record_values}
+use Rattle.optra_cert.specs.Columns.{Column, a_station, a_track, a_type, a_number, a_word, has_form, in_range}
 use Rattle.optra_cert.specs.Forms.{action_words, from_words, leg_columns, most_dwell}
 use Rattle.optra_cert.specs.LegFields.{dwell_up_to, leg_by_fields, with_dwell}
-use Rattle.optra_cert.specs.Outcomes.{◌>>=◌}
-use Rattle.optra_cert.specs.Steps.{action_of, leg_of, leg_told}
-use Rattle.optra_cert.specs.declared.CertCode.{CertCode}
+use Rattle.optra_cert.specs.Steps.{action_of, leg_told}
 use Rattle.optra_cert.specs.declared.CertCode.TheVariants as code
 
 false_right : (a : Bool) → (a && false) ≡ false

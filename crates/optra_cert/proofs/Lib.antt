@@ -19,3 +19,6 @@ pub mod FaultWords
 pub mod FaultSteps
 pub mod AgreeSteps
 pub mod FirstFaults
+pub mod CellLemmas
+pub mod TreeLemmas
+pub mod RunLemmas

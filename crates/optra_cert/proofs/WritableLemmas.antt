@@ -5,7 +5,7 @@ use Rattle.std.specs.declared.cmp.Ordering.{Ordering}
 use Rattle.std.proofs.lemmas.List.Elements.{All-nil, All-cons, All-head, All-tail, All-contains}
 use Rattle.std.proofs.lemmas.Int.{ints}
 use Rattle.std.proofs.lemmas.List.{get_or-map, length-map}
-use Rattle.optra_network.specs.Net.{Net, IsProper}
+use Rattle.optra_network.specs.Net.{Net}
 use Rattle.optra_bid.specs.declared.bids.Bid.{Bid}
 use Rattle.optra_walk.specs.Families.{Rows, Entry}
 use Rattle.optra_node.specs.declared.Decision.{Decision}
@@ -13,7 +13,7 @@ use Rattle.optra_node.specs.declared.Item.{Item}
 use Rattle.optra_node.specs.declared.Item.TheVariants.{Split, NoWalk, Forced, Priced}
 use Rattle.optra_node.specs.Certificates.{AreAscending, EndsDead, HasPrices, IsFormed, IsFormedItem, IsValid}
 use Rattle.optra_node.specs.Duals.{PriceList, IsPrice, ArePrices}
-use Rattle.optra_node.specs.Trees.{children, placed, root, places}
+use Rattle.optra_node.specs.Trees.{children, placed, root}
 use Rattle.optra_cert.specs.RowTexts.{RowTexts, AreTexts, FitsRow, IsRowOf}
 use Rattle.optra_cert.specs.Certs.{Cert, IsListed, IsWritable, IsWritableItem}
 use Rattle.optra_cert.specs.Writables.{AreFew}

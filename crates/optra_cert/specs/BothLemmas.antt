@@ -1,8 +1,8 @@
 -- The laws of the texts of the rows of two families.
-use Rattle.std.proofs.Common.{◌≡◌, ◌≢◌, ◌⊎◌, inl, inr, ℕ, ◌≤◌, ◌<◌, ◌∷◌, ◌++◌, ◌&&◌, [], List, length, nat_le, Option, Some, None, IsSome, true, false, Bool, refl, sym, ap, ◌∙◌, arith, bytes_eq, subst}
-use Rattle.std.specs.Prelude.{cond, find, All, Contains, Result, Ok, Err}
-use Rattle.std.specs.Option.{option_map, option_or}
-use Rattle.std.proofs.lemmas.List.Elements.{All-append, All-weaker, All-head, All-tail, All-contains, Contains-append_left, Contains-append_right, Contains-append_cases}
+use Rattle.std.proofs.Common.{◌≡◌, ◌≢◌, inl, inr, ℕ, ◌≤◌, ◌<◌, ◌∷◌, ◌++◌, ◌&&◌, [], List, length, nat_le, Option, Some, None, IsSome, true, false, Bool, refl, sym, ap, ◌∙◌, arith, bytes_eq, subst}
+use Rattle.std.specs.Prelude.{cond, All, Contains, Result, Ok, Err}
+use Rattle.std.specs.Option.{option_or}
+use Rattle.std.proofs.lemmas.List.Elements.{All-append, All-weaker, All-head, All-tail, Contains-append_left, Contains-append_right, Contains-append_cases}
 use Rattle.std.proofs.lemmas.List.Folds.{find-append}
 use Rattle.std.proofs.lemmas.Slice.Eq.{bytes_eq-Decides}
 use Rattle.std.proofs.lemmas.Bool.{leb-true, le-leb, and_parts}
@@ -13,13 +13,12 @@ use Rattle.optra_rows.specs.declared.joining.Either.{Either}
 use Rattle.optra_rows.specs.declared.joining.Either.TheVariants.{First, Second}
 use Rattle.optra_rows.specs.Eithers.{both_rows}
 use Rattle.optra_records.specs.Reading.{Field, Record}
-use Rattle.optra_cert.specs.Columns.{Column, IsSoundColumn, record_values, values_of, has_form, told_in, told_before, before_others}
+use Rattle.optra_cert.specs.Columns.{Column, IsSoundColumn, record_values, values_of, has_form, told_in, told_before}
 use Rattle.optra_cert.specs.RowTexts.{RowKind, RowTexts, AreApart, AreTexts, FitsRow, kind_named, made_row, read_by, read_row, row_of_values}
 use Rattle.optra_cert.specs.Boths.{both_texts, first_or, greater, lesser, read_either, second_read}
 use Rattle.optra_cert.specs.ListLemmas.{pairs_first, pairs_second, pairs_across, found_in}
 use Rattle.optra_cert.specs.declared.CertCode.{CertCode}
 use Rattle.optra_cert.specs.declared.CertCode.TheVariants as codes
-use Rattle.optra_cert.specs.declared.row_text.RowRead.{RowRead}
 use Rattle.optra_cert.specs.declared.row_text.RowRead.TheVariants as read
 
 -- a value is told for each column

@@ -1,5 +1,5 @@
 -- The forms of the records of a certificate.
-use Rattle.std.specs.Prelude.{ℕ, ◌-◌, ◌^◌, ◌||◌, List, [], ◌∷◌, length, take, drop, Option, None, Some, unwrap_or, slice_get, bytes_eq, codes, if◌then◌else◌}
+use Rattle.std.specs.Prelude.{ℕ, ◌-◌, ◌^◌, ◌||◌, List, [], ◌∷◌, length, take, drop, Option, None, unwrap_or, slice_get, bytes_eq, codes, if◌then◌else◌}
 use Rattle.optra_records.specs.Numbers.{plain_number_of}
 use Rattle.optra_records.specs.Reading.{Field, Record}
 use Rattle.optra_cert.specs.Columns.{Column, a_track, a_number, a_word, in_range}

@@ -1,5 +1,5 @@
 -- A leg, told field by field.
-use Rattle.std.specs.Prelude.{ℕ, ◌-◌, ◌==◌, Bool, List, Option, Result, Ok}
+use Rattle.std.specs.Prelude.{ℕ, ◌-◌, ◌==◌, Bool, Option, Result, Ok}
 use Rattle.std.specs.Option.{option_map}
 use Rattle.optra_network.specs.Net.{Net}
 use Rattle.optra_network.specs.Names.{place_of}

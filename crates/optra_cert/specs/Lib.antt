@@ -13,5 +13,6 @@ pub mod Outcomes
 pub mod Forms
 pub mod Steps
 pub mod LegFields
+pub mod Frames
 pub mod Faults
 pub mod CertLaws

@@ -39,14 +39,15 @@ action_of word dwell = if word == 0 then Pass else (if word == 1 then Halt dwell
 
 -- the position of the bid, and the leg
 abbrev pub leg_of : List ℕ → ℕ × Leg
-leg_of values =
-    (value_at values 0 - 1,
-     record {
-       track = record { 0 = value_at values 1 };
-       depart = value_at values 2;
-       from_halt = value_at values 3 == 0;
-       action = action_of (value_at values 4) (value_at values 5);
-     })
+leg_of values = (
+  value_at values 0 - 1,
+  record {
+    track = record { 0 = value_at values 1 };
+    depart = value_at values 2;
+    from_halt = value_at values 3 == 0;
+    action = action_of (value_at values 4) (value_at values 5);
+  },
+)
 
 -- a value that is there, or a fault
 abbrev pub or_fault : {A : Type 0} → CertCode → Option A → Result A CertCode

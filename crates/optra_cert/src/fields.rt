@@ -15,7 +15,7 @@ use optra_network::{Cents, Network};
 use optra_walk::{Action, Leg};
 
 /// The greatest count or amount.
-const MOST_AMOUNT: u64 = 999_999_999_999_999_999;
+pub const MOST_AMOUNT: u64 = 999_999_999_999_999_999;
 
 /// The last minute of a departure.
 const LAST_DEPARTURE: u64 = 2879;
@@ -107,7 +107,7 @@ fn leg_by_fields(net: &Network, bids: usize, row: &ByteRecord) -> Result<(u32, L
 }
 
 /// The number from one to another in a field.
-fn number_or(field: &[u8], low: u64, high: u64) -> Result<u64, Refusal>
+pub fn number_or(field: &[u8], low: u64, high: u64) -> Result<u64, Refusal>
     ensures gives { Gives (λ n. n) result (number_or low high field.now) }
     ensures range { IfOk result (IsFromTo low high) }
 {

@@ -4,7 +4,9 @@
 use optra_network::Cents;
 use optra_node::Item;
 use optra_walk::Choice;
+use std::alloc::{AllocError, AllocFailed};
 use std::marker::Model;
+use thiserror::Error;
 
 mod cell;
 mod columns;
@@ -16,6 +18,7 @@ mod laws;
 mod read_tree;
 mod read_walks;
 mod reading;
+mod record_reader;
 mod refusals;
 mod row_text;
 mod rows_told;
@@ -23,6 +26,7 @@ mod writing;
 
 pub use cell::Cell;
 pub use laws::{headway_kinds_are_apart, valid_is_writable};
+pub use record_reader::read_certificate;
 pub use row_text::{RowRead, RowText};
 pub use writing::write_certificate;
 
@@ -49,24 +53,31 @@ impl<R> Model for Certificate<R> {
 }
 
 /// What can be wrong with bytes that are no certificate's text, in the order of the tests.
-#[derive(Clone, Copy, Debug, PartialEq, Eq)]
+#[derive(Clone, Copy, Debug, PartialEq, Eq, Error)]
 pub enum CertCode {
     /// C1: the bytes aren't records as they are printed.
+    #[error("the bytes aren't records as they are written")]
     Csv,
     /// C2: the first record isn't that of a version which is served.
+    #[error("the first record isn't that of a version which is served")]
     Version,
     /// C3: a record may not stand there, or hasn't the form of its kind.
+    #[error("the record may not stand there, or hasn't its form")]
     Record,
     /// C4: a name isn't in the network.
+    #[error("a name isn't in the network")]
     Name,
     /// C5: a number isn't written as one, or isn't in its range.
+    #[error("a number isn't written as one, or is out of range")]
     Number,
     /// C6: a record isn't in order, or the tree ends too early or too late.
+    #[error("the record isn't in order, or the tree ends too early or too late")]
     Order,
 }
 
 /// The first fault of bytes that are no certificate's text.
-#[derive(Clone, Copy, Debug, PartialEq, Eq)]
+#[derive(Clone, Copy, Debug, PartialEq, Eq, Error)]
+#[error("row {row}: {code}")]
 pub struct CertFault {
     /// What is wrong.
     pub code: CertCode,
@@ -76,10 +87,34 @@ pub struct CertFault {
 }
 
 /// Why no certificate was read.
-#[derive(Clone, Copy, Debug, PartialEq, Eq)]
+#[derive(Clone, Copy, Debug, PartialEq, Eq, Error)]
 pub enum CertError {
     /// The bytes are no certificate's text, and this is their first fault.
+    #[error(transparent)]
     Fault(CertFault),
     /// Memory couldn't be had.
+    #[error("out of memory")]
     NoMemory,
+}
+
+impl From<AllocError> for CertError {
+    ghost use Rattle.std.specs.Prelude.{◌≡◌};
+    ghost use Rattle.optra_cert.specs.declared.CertError.TheVariants.{NoMemory};
+
+    ghost from_gives = { λ _ e. e ≡ NoMemory };
+
+    fn from(_e: AllocError) -> CertError {
+        CertError::NoMemory
+    }
+}
+
+impl<T: Drop> From<AllocFailed<T>> for CertError {
+    ghost use Rattle.std.specs.Prelude.{◌≡◌};
+    ghost use Rattle.optra_cert.specs.declared.CertError.TheVariants.{NoMemory};
+
+    ghost from_gives = { λ _ e. e ≡ NoMemory };
+
+    fn from(_e: AllocFailed<T>) -> CertError {
+        CertError::NoMemory
+    }
 }

@@ -1,6 +1,5 @@
 //! The tree of a certificate, as it is read.
-ghost use Rattle.std.specs.Prelude.{◌≡◌, ◌<◌, ◌==◌, OnOk};
-ghost use Rattle.optra_node.specs.Trees.{arity};
+ghost use Rattle.std.specs.Prelude.{◌≡◌, ◌<◌, ◌-◌, ◌==◌, ◌++◌, ◌∷◌, [], OnOk};
 ghost use Rattle.optra_cert.specs.Outcomes.{Gives};
 ghost use Rattle.optra_cert.specs.Steps.{count_added, filled, is_above, is_whole, leaf_added, no_tree, price_added, split_added};
 
@@ -99,9 +98,18 @@ impl<R: Copy + Ord> ReadTree<R> {
         if !self.is_above(row) {
             return Err(Refusal::Fault(CertCode::Order));
         }
+        self.push_price(row, price)?;
+        self.fill(alloc)?;
+        Ok(())
+    }
+
+    /// Adds a price, of which one less is to come.
+    fn push_price(&mut self, row: R, price: i64) -> Result<(), NoMemory>
+        requires { 0 < self.old.due }
+        ensures { OnOk result (self.new ≡ record self.old { due = self.old.due - 1; prices = self.old.prices ++ (row, price) ∷ [] }) }
+    {
         self.prices.push((row, price))?;
         self.due -= 1;
-        self.fill(alloc)?;
         Ok(())
     }
 
