@@ -22,3 +22,4 @@ pub mod FirstFaults
 pub mod CellLemmas
 pub mod TreeLemmas
 pub mod RunLemmas
+pub mod BackSteps
