@@ -150,7 +150,7 @@ module _ {R : Type 0} (cmp : R → R → Ordering) (texts : RowTexts R) (net : N
   filled_none : (tree : TreeSoFar R) → tree.due ≡ 0 → filled tree ≡ record tree { items = tree.items ++ Priced tree.prices ∷ []; prices = [] }
   filled_none tree e = rw e refl
 
-  filled_open : (tree : TreeSoFar R) (left : ℕ) → tree.due ≡ suc left → filled tree ≡ tree
+  pub filled_open : (tree : TreeSoFar R) (left : ℕ) → tree.due ≡ suc left → filled tree ≡ tree
   filled_open tree left e = rw (ne_eqb tree.due 0 (λ none. absurd (omega (arith, none, e)))) refl
 
   -- what a tree keeps at an end of a leaf
