@@ -19,6 +19,7 @@ use Rattle.optra_node.specs.Certificates.{AreAscending, IsFormedItem, IsFormedWa
 use Rattle.optra_node.specs.Duals.{PriceList}
 use Rattle.optra_node.specs.Nodes.{IsFormedLeg, legs_at}
 use Rattle.optra_node.specs.Trees.{arity, open_count}
+use Rattle.optra_node.proofs.PlaceLemmas.{count_by_tree}
 use Rattle.optra_records.specs.Reading.{Field, Record}
 use Rattle.optra_cert.specs.RowTexts.{RowTexts, AreApart, AreTexts, read_row, row_fields}
 use Rattle.optra_cert.specs.Certs.{Cert, IsAmount, IsListed, IsWritable, IsWritableItem}
@@ -309,3 +310,21 @@ module _ {R : Type 0} (cmp : R → R → Ordering) (texts : RowTexts R) (apart :
       subst (λ (rows : List Record). ReadsTo s rows (cert_with s (done ++ item ∷ todo))) (sym (flat_map-cons (item_records texts net) item todo))
       (item_read item s done m (flat_map (item_records texts net) todo) (cert_with s (done ++ item ∷ todo)) at tree (All-head (IsFormedItem cmp net bids) item todo formed) (All-head (IsWritableItem texts net version) item todo writable)
        (subst (λ (items : List (Item R)). ReadsTo (in_tree s next) (flat_map (item_records texts net) todo) (cert_with s items)) (append_assoc done (item ∷ []) todo) later))
+
+  -- ---- the whole
+
+  -- The records behind the first of a certificate that is writable are read as it.
+  pub cert_read : (cert : Cert R) → IsWritable cmp texts net bids version cert → ReadsTo (started bids) (drop 1 (cert_records texts net version cert)) cert
+  cert_read cert writable =
+      let items : List Record = flat_map (item_records texts net) cert.tree in
+      let legs : List Record = leg_records net 0 cert.choice in
+      let entries = writable.formed.entries in
+      let second : State R = record (started bids) { place = place.Bound; revenue = cert.revenue } in
+      let third : State R = record second { place = place.Legs; bound = cert.bound } in
+      let bids_are : replicate bids None ≡ [] ++ replicate (length cert.choice) None = ap (λ (n : ℕ). replicate n None) (sym entries) in
+      one_read (started bids) second (codes "revenue" ∷ signed_decimal cert.revenue ∷ []) ((codes "bound" ∷ signed_decimal cert.bound ∷ []) ∷ (legs ++ items)) cert
+      (revenue_taken (started bids) cert.revenue refl writable.revenue)
+      (one_read second third (codes "bound" ∷ signed_decimal cert.bound ∷ []) (legs ++ items) cert
+       (bound_taken second cert.bound refl writable.bound)
+       (walks_read cert.choice [] third items cert refl (omega (arith, entries)) bids_are (omega arith) writable.formed.walks
+        (λ last. items_read cert.tree [] (record third { walks = walks_of cert.choice last }) 1 (inl refl) refl (count_by_tree cert.tree writable.formed.whole) writable.formed.items writable.items)))
