@@ -2,6 +2,7 @@
 use Rattle.std.proofs.Common.{◌≡◌, ◌≢◌, inl, inr, ℕ, ◌≤◌, ◌<◌, ◌∷◌, ◌++◌, ◌&&◌, [], List, length, nat_le, Option, Some, None, IsSome, true, false, Bool, refl, sym, ap, ◌∙◌, arith, bytes_eq, subst}
 use Rattle.std.specs.Prelude.{cond, All, Contains, Result, Ok, Err}
 use Rattle.std.specs.Option.{option_or}
+use Rattle.std.specs.Str.{is_utf8}
 use Rattle.std.proofs.lemmas.List.Elements.{All-append, All-weaker, All-head, All-tail, Contains-append_left, Contains-append_right, Contains-append_cases}
 use Rattle.std.proofs.lemmas.List.Folds.{find-append}
 use Rattle.std.proofs.lemmas.Slice.Eq.{bytes_eq-Decides}
@@ -13,7 +14,7 @@ use Rattle.optra_rows.specs.declared.joining.Either.{Either}
 use Rattle.optra_rows.specs.declared.joining.Either.TheVariants.{First, Second}
 use Rattle.optra_rows.specs.Eithers.{both_rows}
 use Rattle.optra_records.specs.Reading.{Field, Record}
-use Rattle.optra_cert.specs.Columns.{Column, IsSoundColumn, record_values, values_of, has_form, told_in, told_before}
+use Rattle.optra_cert.specs.Columns.{Column, IsSoundColumn, IsTextColumn, record_values, values_of, has_form, told_in, told_before}
 use Rattle.optra_cert.specs.RowTexts.{RowKind, RowTexts, AreApart, AreTexts, FitsRow, kind_named, made_row, read_by, read_row, row_of_values}
 use Rattle.optra_cert.specs.Boths.{both_texts, first_or, greater, lesser, read_either, second_read}
 use Rattle.optra_cert.specs.ListLemmas.{pairs_first, pairs_second, pairs_across, found_in}
@@ -200,6 +201,7 @@ module _ {P Q : Type 0} (p : RowTexts P) (q : RowTexts Q) (apart : AreApart (bot
       kinds = kinds;
       versions = versions;
       columns = All-append (λ (kind : RowKind). All IsSoundColumn kind.columns) p.kinds q.kinds tp.columns tq.columns;
+      words = All-append (λ (kind : RowKind). (is_utf8 kind.word ≡ true) × All IsTextColumn kind.columns) p.kinds q.kinds tp.words tq.words;
       makes = makes;
       tells = tells;
       each = each;

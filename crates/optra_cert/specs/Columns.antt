@@ -1,6 +1,7 @@
 -- The fields of certificates: what each tells, its text, and its fault.
-use Rattle.std.specs.Prelude.{ℕ, ◌<◌, ◌^◌, ◌&&◌, Bool, true, false, List, [], ◌∷◌, length, nat_le, ⊤, Option, None, Some, Result, Ok, Err, is_some, unwrap_or, slice_get, if◌then◌else◌}
+use Rattle.std.specs.Prelude.{◌≡◌, ℕ, ◌<◌, ◌^◌, ◌&&◌, Bool, true, false, All, List, [], ◌∷◌, length, nat_le, ⊤, Option, None, Some, Result, Ok, Err, is_some, unwrap_or, slice_get, if◌then◌else◌}
 use Rattle.std.specs.Fmt.{decimal}
+use Rattle.std.specs.Str.{is_utf8}
 use Rattle.optra_network.specs.Net.{Net, IsFromTo}
 use Rattle.optra_network.specs.Names.{AllDiffer, place_of}
 use Rattle.optra_records.specs.Numbers.{plain_number_of}
@@ -60,6 +61,14 @@ IsSoundColumn a_track = ⊤
 IsSoundColumn a_type = ⊤
 IsSoundColumn (a_number low high) = high < 10 ^ 18
 IsSoundColumn (a_word words) = AllDiffer words
+
+-- the words of a column are UTF-8
+abbrev pub IsTextColumn : Column → Type 0
+IsTextColumn a_station = ⊤
+IsTextColumn a_track = ⊤
+IsTextColumn a_type = ⊤
+IsTextColumn (a_number low high) = ⊤
+IsTextColumn (a_word words) = All (λ word. is_utf8 word ≡ true) words
 
 -- the fault of a field that tells nothing
 abbrev pub fault_in : Column → CertCode

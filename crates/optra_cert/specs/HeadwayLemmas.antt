@@ -2,6 +2,7 @@
 use Rattle.std.proofs.Common.{◌≡◌, ◌⊎◌, inl, inr, ℕ, ◌≤◌, ◌<◌, ◌∷◌, [], List, length, Option, Some, None, IsSome, IfSome, true, false, Bool, refl, sym, ◌∙◌, subst, arith, codes, bytes_eq, lit≤, lit<}
 use Rattle.std.specs.Prelude.{cond, All}
 use Rattle.std.specs.List.{AllByRecursion}
+use Rattle.std.specs.Str.{is_utf8}
 use Rattle.std.proofs.lemmas.List.Elements.{All-nil, All-cons}
 use Rattle.std.proofs.lemmas.Slice.Eq.{bytes_eq-Decides}
 use Rattle.std.proofs.lemmas.Bool.{leb-true, ltb-true, and_parts}
@@ -17,8 +18,9 @@ use Rattle.optra_rows.specs.declared.HRow.TheVariants.{Window, Pair}
 use Rattle.optra_rows.specs.Headways.{is_row_of}
 use Rattle.optra_records.specs.Reading.{Field}
 use Rattle.optra_cert.specs.Headways.{headway_texts, window_kind, pair_kind, told_row, made_row_of, window_of, pair_of}
-use Rattle.optra_cert.specs.Columns.{Column, a_track, a_type, a_number, IsSoundColumn}
-use Rattle.optra_cert.specs.RowTexts.{RowKind, AreTexts, FitsRow, TellsKinds, HasVersions, HasSoundColumns, MakesTold, TellsMade, MakesEach}
+use Rattle.optra_cert.specs.Columns.{Column, a_track, a_type, a_number, IsSoundColumn, IsTextColumn}
+use Rattle.optra_cert.specs.TextLemmas.{word_text}
+use Rattle.optra_cert.specs.RowTexts.{RowKind, AreTexts, FitsRow, TellsKinds, HasVersions, HasSoundColumns, HasTextWords, MakesTold, TellsMade, MakesEach}
 
 kinds_told : TellsKinds headway_texts
 kinds_told (Window track minute) = (0, omega arith, refl)
@@ -40,6 +42,17 @@ columns =
     all_of : (columns : List Column) → AllByRecursion IsSoundColumn columns → All IsSoundColumn columns
     all_of [] h = All-nil IsSoundColumn
     all_of (column ∷ columns) h = All-cons IsSoundColumn column columns h.0 (all_of columns h.1)
+
+words : HasTextWords headway_texts
+words =
+    let P : RowKind → Type 0 = λ kind. (is_utf8 kind.word ≡ true) × All IsTextColumn kind.columns in
+    let window = all_of (a_track ∷ a_number 0 2998 ∷ []) (tt, (tt, tt)) in
+    let pair = all_of (a_track ∷ a_type ∷ a_number 0 2998 ∷ a_type ∷ a_number 0 2998 ∷ []) (tt, (tt, (tt, (tt, (tt, tt))))) in
+    All-cons P window_kind (pair_kind ∷ []) (word_text (codes "window") refl, window) (All-cons P pair_kind [] (word_text (codes "pair") refl, pair) (All-nil P))
+  where
+    all_of : (columns : List Column) → AllByRecursion IsTextColumn columns → All IsTextColumn columns
+    all_of [] h = All-nil IsTextColumn
+    all_of (column ∷ columns) h = All-cons IsTextColumn column columns h.0 (all_of columns h.1)
 
 makes : MakesTold headway_texts
 makes (Window track minute) = refl
@@ -105,7 +118,7 @@ each kind values in_ = by (in_from (window_kind ∷ pair_kind ∷ []) kind in_)
     by (inr (inr n)) long = absurd n
 
 pub headway_texts_are : AreTexts headway_texts
-headway_texts_are = record { kinds = kinds_told; versions = versions; columns = columns; makes = makes; tells = tells; each = each }
+headway_texts_are = record { kinds = kinds_told; versions = versions; columns = columns; words = words; makes = makes; tells = tells; each = each }
 
 -- a type that may use a track is there, and so is the track
 there : (net : Net) (track : TrackId) (kind : TypeId) → IsProper net → MayUse net track kind → IsTrack net track × IsKind net kind

@@ -2,6 +2,7 @@
 pub mod Columns
 pub mod RowTexts
 pub mod ListLemmas
+pub mod TextLemmas
 pub mod Headways
 pub mod HeadwayLemmas
 pub mod Boths

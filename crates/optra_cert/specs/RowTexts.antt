@@ -1,9 +1,10 @@
 -- The texts of a family's rows: the kinds of rows, what a row tells, and what its fields are read as.
-use Rattle.std.specs.Prelude.{◌≡◌, ◌≢◌, ℕ, ◌≤◌, ◌&&◌, List, [], ◌∷◌, length, nat_le, find, All, Contains, Option, None, Some, IsSome, Result, Ok, Err, bytes_eq}
+use Rattle.std.specs.Prelude.{◌≡◌, ◌≢◌, ℕ, ◌≤◌, ◌&&◌, List, [], ◌∷◌, length, nat_le, true, find, All, Contains, Option, None, Some, IsSome, Result, Ok, Err, bytes_eq}
 use Rattle.std.specs.List.{AllPairs, AllZip}
+use Rattle.std.specs.Str.{is_utf8}
 use Rattle.optra_network.specs.Net.{Net}
 use Rattle.optra_records.specs.Reading.{Field, Record}
-use Rattle.optra_cert.specs.Columns.{Column, shown, record_values, FitsIn, IsKnownIn, IsSoundColumn}
+use Rattle.optra_cert.specs.Columns.{Column, shown, record_values, FitsIn, IsKnownIn, IsSoundColumn, IsTextColumn}
 use Rattle.optra_cert.specs.declared.CertCode.{CertCode}
 use Rattle.optra_cert.specs.declared.CertCode.TheVariants as codes
 use Rattle.optra_cert.specs.declared.row_text.RowRead.{RowRead}
@@ -81,6 +82,10 @@ HasVersions texts = All (λ kind. (1 ≤ kind.version) × (kind.version ≤ text
 abbrev pub HasSoundColumns : {R : Type 0} → RowTexts R → Type 0
 HasSoundColumns texts = All (λ kind. All IsSoundColumn kind.columns) texts.kinds
 
+-- the words of kinds and of their columns are UTF-8
+abbrev pub HasTextWords : {R : Type 0} → RowTexts R → Type 0
+HasTextWords texts = All (λ kind. (is_utf8 kind.word ≡ true) × All IsTextColumn kind.columns) texts.kinds
+
 -- what a row tells makes the row
 abbrev pub MakesTold : {R : Type 0} → RowTexts R → Type 0
 MakesTold {R} texts = (row : R) → texts.made (texts.told row).0.word (texts.told row).1 ≡ Some row
@@ -99,6 +104,7 @@ pub record AreTexts {R : Type 0} (texts : RowTexts R) : Type 0 where
   pub kinds : TellsKinds texts
   pub versions : HasVersions texts
   pub columns : HasSoundColumns texts
+  pub words : HasTextWords texts
   pub makes : MakesTold texts
   pub tells : TellsMade texts
   pub each : MakesEach texts

@@ -48,8 +48,8 @@ pub trait RowText: RowFamily {
         requires most { version ≤ (texts_of self.now).version }
         ensures { result ≡ read_row (texts_of self.now) net.now version cells.now };
 
-    /// What a row tells makes the row, a row tells what it was made of, and each field tells in one way. So a row is read
-    /// of its fields, and fields that are read as a row are those of the row.
+    /// What a row tells makes the row, a row tells what it was made of, each field tells in one way, and words are UTF-8.
+    /// So a row is read of its fields, and fields that are read as a row are those of the row.
     ghost are_texts: { (f : Self) → AreApart (texts_of f).kinds → AreTexts (texts_of f) };
 
     /// Each row of the family has its names in the network and its numbers in their ranges.
