@@ -7,7 +7,6 @@ pub mod WritableLemmas
 pub mod ApartLemmas
 pub mod ColumnLemmas
 pub mod RowLemmas
-pub mod RecordLemmas
 pub mod TellLemmas
 pub mod LegTexts
 pub mod WalkSteps

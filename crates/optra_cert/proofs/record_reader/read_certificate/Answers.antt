@@ -1,5 +1,5 @@
 -- What is read is the certificate of the text, and what isn't has a first fault.
-use Rattle.std.proofs.Common.{◌≡◌, ◌<◌, ◌^◌, length, sym, subst, arith}
+use Rattle.std.proofs.Common.{◌≡◌, ◌<◌, ◌^◌, length, arith}
 use Rattle.std.specs.Prelude.{Result, Ok, Err, IfErr, IfOk}
 use Rattle.optra_cert.specs.CertLaws.{IsAnswer, IsTextOf}
 use Rattle.optra_cert.specs.Outcomes.{Reads}
