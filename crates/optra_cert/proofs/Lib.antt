@@ -23,3 +23,4 @@ pub mod TreeLemmas
 pub mod RunLemmas
 pub mod BackSteps
 pub mod TextBack
+pub mod OneFault

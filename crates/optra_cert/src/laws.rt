@@ -1,6 +1,6 @@
 //! The laws that lead from a valid certificate to its text, and back.
 ghost use Rattle.std.specs.Prelude.{◌≡◌, ◌≤◌, length};
-ghost use Rattle.optra_cert.specs.CertLaws.{TextHasNoFault, TextTellsCert};
+ghost use Rattle.optra_cert.specs.CertLaws.{OneFirstFault, TextHasNoFault, TextTellsCert};
 ghost use Rattle.optra_cert.specs.Headways.{headway_texts};
 ghost use Rattle.optra_cert.specs.RowTexts.{AreApart};
 ghost use Rattle.optra_cert.specs.Writables.{ValidIsWritable};
@@ -36,6 +36,14 @@ pub fn text_has_no_fault<F: RowText>(inst: Instance<'_>, rows: &F)
 {
     let _ = inst.net.track_count();
     let _ = rows.version();
+}
+
+/// Bytes have at most one first fault.
+pub fn first_fault_is_one<F: RowText>(inst: Instance<'_>, rows: &F)
+    ensures { OneFirstFault F.Row.cmp (F.texts_of rows.entry.now) inst.entry.net.now (length inst.entry.bids.now) }
+{
+    let _ = inst;
+    let _ = rows;
 }
 
 /// A law, and no work: the kinds of headway rows have different words.
