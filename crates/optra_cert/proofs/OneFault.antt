@@ -1,5 +1,5 @@
 -- Bytes have at most one first fault.
-use Rattle.std.proofs.Common.{◌≡◌, ◌<◌, ◌≤◌, ◌+◌, ◌⊎◌, inl, inr, ℕ, Bool, true, false, List, length, take, Option, Some, None, sym, ap, ◌∙◌, subst}
+use Rattle.std.proofs.Common.{◌≡◌, ◌<◌, ◌+◌, ◌⊎◌, inl, inr, ℕ, Bool, true, false, List, take, Option, Some, None, sym, ap, ◌∙◌}
 use Rattle.std.specs.Prelude.{slice_get, MatchBool}
 use Rattle.std.specs.declared.cmp.Ordering.{Ordering}
 use Rattle.std.proofs.lemmas.Bool.{cases_order}
@@ -10,7 +10,7 @@ use Rattle.optra_records.specs.Canonical.{is_canonical}
 use Rattle.optra_records.specs.Reading.{Record}
 use Rattle.optra_cert.specs.RowTexts.{RowTexts}
 use Rattle.optra_cert.specs.CertLaws.{OneFirstFault}
-use Rattle.optra_cert.specs.Faults.{EndsEarly, IsFaultBehind, IsFaultOfRecord, IsFaultOfRecords, IsFirstFault, fault_at}
+use Rattle.optra_cert.specs.Faults.{EndsEarly, IsFaultBehind, IsFaultOfRecord, IsFaultOfRecords, fault_at}
 use Rattle.optra_cert.specs.Forms.{version_of}
 use Rattle.optra_cert.specs.declared.CertCode.{CertCode}
 use Rattle.optra_cert.specs.declared.CertCode.TheVariants as code
