@@ -1,27 +1,26 @@
 -- Behind a record that is taken, what was read so far is still what the records tell.
-use Rattle.std.proofs.Common.{◌≡◌, ◌≢◌, ◌<◌, ◌≤◌, ◌^◌, ◌+◌, ◌-◌, ◌++◌, ◌==◌, ◌&&◌, ℕ, zero, suc, Bool, true, false, List, [], ◌∷◌, length, drop, get_or, Option, Some, None, refl, sym, ap, ◌∙◌, subst, arith, codes, cond, bytes_eq, ℤ}
-use Rattle.std.specs.Prelude.{Result, Ok, Err, count_by, slice_get, unwrap_or, nat_le}
+use Rattle.std.proofs.Common.{◌≡◌, ◌<◌, ◌≤◌, ◌^◌, ◌+◌, ◌-◌, ◌++◌, ◌==◌, ◌&&◌, ℕ, suc, Bool, true, false, List, [], ◌∷◌, length, drop, Option, Some, refl, sym, ap, ◌∙◌, subst, arith, codes, cond, bytes_eq, ℤ}
+use Rattle.std.specs.Prelude.{Ok, Err, slice_get, unwrap_or, nat_le}
 use Rattle.std.specs.List.{list_any}
 use Rattle.std.specs.Fmt.{decimal}
 use Rattle.std.specs.Option.{option_map_or}
 use Rattle.std.specs.Ordering.{is_lt}
 use Rattle.std.specs.declared.cmp.Ordering.{Ordering}
-use Rattle.std.proofs.lemmas.Bool.{ne_eqb, eq-eqb, eqb-true, eqb-false, le-leb, lt-leb, leb-true, leb-false, and_parts, false≢true}
+use Rattle.std.proofs.lemmas.Bool.{ne_eqb, eqb-true, le-leb, lt-leb, leb-true, leb-false, and_parts, false≢true}
 use Rattle.std.proofs.lemmas.List.{get_or_push, length_push}
 use Rattle.std.proofs.lemmas.Option.{slice_get-get_or}
 use Rattle.optra_network.specs.Net.{Net, IsBuilt}
 use Rattle.optra_node.specs.declared.Item.{Item}
-use Rattle.optra_node.specs.declared.Item.TheVariants.{Split, NoWalk, Forced, Priced}
+use Rattle.optra_node.specs.declared.Item.TheVariants.{NoWalk, Forced, Priced}
 use Rattle.optra_node.specs.Duals.{PriceList}
 use Rattle.optra_records.specs.Numbers.{plain_number_of}
 use Rattle.optra_records.specs.Reading.{Field, Record}
 use Rattle.optra_records.proofs.PlainNumbers.{plain_number_back}
 use Rattle.optra_cert.specs.RowTexts.{RowTexts, AreApart, AreTexts, read_row}
-use Rattle.optra_cert.specs.Faults.{is_below, is_in_order, is_one_of, last_of, leaf_words, number_at, prices_due, row_of_price}
+use Rattle.optra_cert.specs.Faults.{is_below, is_one_of, last_of, leaf_words, number_at, row_of_price}
 use Rattle.optra_cert.specs.Forms.{field_at}
 use Rattle.optra_cert.specs.Outcomes.{◌>>=◌, row_or_fault}
 use Rattle.optra_cert.specs.Steps.{State, TreeSoFar, WalksSoFar, amount_told, bid_told, body_step, bound_step, count_added, count_told, filled, is_above, is_whole, item_step, leaf_added, leg_added, leg_told, price_added, price_told, revenue_step, split_added, started, step, step_at, tree_step}
-use Rattle.optra_cert.specs.declared.CertCode.{CertCode}
 use Rattle.optra_cert.specs.declared.CertCode.TheVariants as code
 use Rattle.optra_cert.specs.declared.reading.Place.{Place}
 use Rattle.optra_cert.specs.declared.reading.Place.TheVariants as place
@@ -93,17 +92,17 @@ module _ {R : Type 0} (cmp : R → R → Ordering) (texts : RowTexts R) (apart :
   first_order : (last fields : Record) (word : Field) → field_at last 0 ≡ word → list_any (bytes_eq word) (codes "leg" ∷ []) ≡ false → list_any (bytes_eq word) (codes "price" ∷ []) ≡ false → order last fields ≡ true
   first_order last fields word same no_leg no_price =
       λ i. cond (has_word last word (codes "leg" ∷ []) false same no_leg i && is_one_of (codes "leg" ∷ []) fields) (nat_le (number_at last 1) (number_at fields 1))
-       (cond (has_word last word (codes "price" ∷ []) false same no_price i && is_one_of (codes "price" ∷ []) fields) (is_below cmp texts net bids version (row_at last) (row_at fields)) true)
+      (cond (has_word last word (codes "price" ∷ []) false same no_price i && is_one_of (codes "price" ∷ []) fields) (is_below cmp texts net bids version (row_at last) (row_at fields)) true)
 
   legs_order : (last fields : Record) → field_at last 0 ≡ codes "leg" → field_at fields 0 ≡ codes "leg" → order last fields ≡ nat_le (number_at last 1) (number_at fields 1)
   legs_order last fields a b =
       λ i. cond (has_word last (codes "leg") (codes "leg" ∷ []) true a refl i && has_word fields (codes "leg") (codes "leg" ∷ []) true b refl i) (nat_le (number_at last 1) (number_at fields 1))
-       (cond (is_one_of (codes "price" ∷ []) last && is_one_of (codes "price" ∷ []) fields) (is_below cmp texts net bids version (row_at last) (row_at fields)) true)
+      (cond (is_one_of (codes "price" ∷ []) last && is_one_of (codes "price" ∷ []) fields) (is_below cmp texts net bids version (row_at last) (row_at fields)) true)
 
   prices_order : (last fields : Record) → field_at last 0 ≡ codes "price" → field_at fields 0 ≡ codes "price" → order last fields ≡ is_below cmp texts net bids version (row_at last) (row_at fields)
   prices_order last fields a b =
       λ i. cond (has_word last (codes "price") (codes "leg" ∷ []) false a refl i && is_one_of (codes "leg" ∷ []) fields) (nat_le (number_at last 1) (number_at fields 1))
-       (cond (has_word last (codes "price") (codes "price" ∷ []) true a refl i && has_word fields (codes "price") (codes "price" ∷ []) true b refl i) (is_below cmp texts net bids version (row_at last) (row_at fields)) true)
+      (cond (has_word last (codes "price") (codes "price" ∷ []) true a refl i && has_word fields (codes "price") (codes "price" ∷ []) true b refl i) (is_below cmp texts net bids version (row_at last) (row_at fields)) true)
 
   abbrev Prices : PriceList R → Record → Type 0
   Prices = PricesInOrder cmp texts apart are net built bids few version
@@ -182,7 +181,7 @@ module _ {R : Type 0} (cmp : R → R → Ordering) (texts : RowTexts R) (apart :
           none = λ zero_. filled_none leaf (sym same_due ∙ zero_);
           word = has_word fields (codes "price") (codes "bound" ∷ codes "leg" ∷ []) false same refl;
           prices = λ d due. subst (λ (ps : PriceList R). Prices ps fields) (sym (filled_prices leaf d (sym same_due ∙ due)))
-            (λ more row word is. prices_order fields more same word ∙ (λ i. is_below cmp texts net bids version (own i) (is i)) ∙ sym (above_push cmp tree.prices h.0 row));
+              (λ more row word is. prices_order fields more same word ∙ (λ i. is_below cmp texts net bids version (own i) (is i)) ∙ sym (above_push cmp tree.prices h.0 row));
         })
 
     item_goes : tree.due ≡ 0 → (w : ℕ) → tree.ways ≡ suc w → item_step cmp texts net bids version tree (field_at fields 0) (drop 1 fields) ≡ Ok next → TreeGoes tree fields next
@@ -193,9 +192,9 @@ module _ {R : Type 0} (cmp : R → R → Ordering) (texts : RowTexts R) (apart :
         by : (a : Bool) → bytes_eq (field_at fields 0) (codes "split") ≡ a → (b : Bool) → bytes_eq (field_at fields 0) (codes "nowalk") ≡ b → (c : Bool) → bytes_eq (field_at fields 0) (codes "forced") ≡ c
             → (d : Bool) → bytes_eq (field_at fields 0) (codes "priced") ≡ d
             → cond a (leg_told net bids (drop 1 fields) >>= λ told. Ok (split_added tree told.0 told.1))
-              (cond b (bid_told bids (drop 1 fields) >>= λ bid. Ok (leaf_added tree (NoWalk bid)))
-               (cond c (row_or_fault (read_row texts net version (drop 1 fields)) >>= λ row. Ok (leaf_added tree (Forced row)))
-                (cond d (count_told (drop 1 fields) >>= λ count. Ok (count_added tree count)) (Err code.Record)))) ≡ Ok next
+            (cond b (bid_told bids (drop 1 fields) >>= λ bid. Ok (leaf_added tree (NoWalk bid)))
+            (cond c (row_or_fault (read_row texts net version (drop 1 fields)) >>= λ row. Ok (leaf_added tree (Forced row)))
+            (cond d (count_told (drop 1 fields) >>= λ count. Ok (count_added tree count)) (Err code.Record)))) ≡ Ok next
             → TreeGoes tree fields next
         by true p b q c r d s e = split_goes closed (same_word (field_at fields 0) (codes "split") p) e
         by false p true q c r d s e = nowalk_goes closed w open_ (same_word (field_at fields 0) (codes "nowalk") q) e
@@ -276,7 +275,7 @@ module _ {R : Type 0} (cmp : R → R → Ordering) (texts : RowTexts R) (apart :
             let one = at.0 in
             subst (λ (n : State R). Agree n (before ++ fields ∷ [])) is
             (other_more s (record s { place = place.Bound; revenue = h.0 }) before fields (codes "revenue") a refl at.2 (same_word (field_at fields 0) (codes "revenue") p) refl refl refl
-             (omega (arith, one, long), at.1, at.2, at.3))
+            (omega (arith, one, long), at.1, at.2, at.3))
         by false p e = absurd (cc e)
 
     bound_agrees : AgreeAt place.Bound s before → bound_step s (field_at fields 0) (drop 1 fields) ≡ Ok next → Next
@@ -297,7 +296,7 @@ module _ {R : Type 0} (cmp : R → R → Ordering) (texts : RowTexts R) (apart :
             subst (Legs s.walks) (sym own) (λ more bid word number. first_order fields more (codes "bound") same refl refl ∙ sym (le-leb s.walks.last bid (omega (arith, start)))) in
             subst (λ (n : State R). Agree n (before ++ fields ∷ [])) is
             (other_more s (record s { place = place.Legs; bound = h.0 }) before fields (codes "bound") a refl at.2 same refl refl refl
-             (omega (arith, two, long), at.1, at.2, last, legs))
+            (omega (arith, two, long), at.1, at.2, last, legs))
         by false p e = absurd (cc e)
 
     leg_agrees : s.place ≡ place.Legs → AgreeAt place.Legs s before → field_at fields 0 ≡ codes "leg"
@@ -319,7 +318,7 @@ module _ {R : Type 0} (cmp : R → R → Ordering) (texts : RowTexts R) (apart :
         let stands : AgreeAt place.Legs (record s { walks = k.0 }) (before ++ fields ∷ []) = (omega (arith, three, long), at.1, at.2, last, legs) in
         subst (λ (n : State R). Agree n (before ++ fields ∷ [])) is
         (other_more s (record s { walks = k.0 }) before fields (codes "leg") a refl at.2 same refl refl refl
-         (subst (λ (p : Place). AgreeAt p (record s { walks = k.0 }) (before ++ fields ∷ [])) (sym place_is) stands))
+        (subst (λ (p : Place). AgreeAt p (record s { walks = k.0 }) (before ++ fields ∷ [])) (sym place_is) stands))
 
     tree_agrees : 3 ≤ length before → (tree_step cmp texts net bids version s.tree (field_at fields 0) (drop 1 fields) >>= λ tree. Ok (record s { place = place.Tree; tree = tree })) ≡ Ok next → Next
     unfolding Next
@@ -339,7 +338,7 @@ module _ {R : Type 0} (cmp : R → R → Ordering) (texts : RowTexts R) (apart :
       where
         by : (b : Bool) → (legs && bytes_eq (field_at fields 0) (codes "leg")) ≡ b
             → cond b (leg_told net bids (drop 1 fields) >>= λ told. leg_added s.walks told.0 told.1 >>= λ walks. Ok (record s { walks = walks }))
-              (tree_step cmp texts net bids version s.tree (field_at fields 0) (drop 1 fields) >>= λ tree. Ok (record s { place = place.Tree; tree = tree })) ≡ Ok next → Next
+            (tree_step cmp texts net bids version s.tree (field_at fields 0) (drop 1 fields) >>= λ tree. Ok (record s { place = place.Tree; tree = tree })) ≡ Ok next → Next
         by true p e =
             let parts = and_parts _ _ p in
             let at = at_legs parts.0 in

@@ -1,6 +1,6 @@
 -- The records that are written of a certificate are read back, part by part.
-use Rattle.std.proofs.Common.{◌≡◌, ◌≢◌, ◌<◌, ◌≤◌, ◌^◌, ◌+◌, ◌-◌, ◌++◌, ◌==◌, ◌&&◌, ◌⊎◌, inl, inr, ℕ, zero, suc, Bool, true, false, List, [], ◌∷◌, length, drop, get_or, map, flat_map, replicate, Option, Some, None, refl, sym, ap, ◌∙◌, subst, arith, codes, append_assoc, cond, bytes_eq, ℤ, pos, set}
-use Rattle.std.specs.Prelude.{All, IfSome, Result, Ok, Err, slice_get, slice_set, unwrap_or, nat_le}
+use Rattle.std.proofs.Common.{◌≡◌, ◌<◌, ◌≤◌, ◌^◌, ◌+◌, ◌-◌, ◌++◌, ◌==◌, ◌&&◌, ◌⊎◌, inl, inr, ℕ, zero, suc, Bool, true, false, List, [], ◌∷◌, length, drop, get_or, map, flat_map, replicate, Option, Some, None, refl, sym, ap, ◌∙◌, subst, arith, codes, append_assoc, cond, bytes_eq, ℤ}
+use Rattle.std.specs.Prelude.{All, IfSome, Result, Ok, Err, slice_get, slice_set, unwrap_or}
 use Rattle.std.specs.Option.{option_map_or}
 use Rattle.std.specs.Fmt.{decimal, signed_decimal}
 use Rattle.std.specs.Ordering.{is_lt}
@@ -21,15 +21,13 @@ use Rattle.optra_node.specs.Nodes.{IsFormedLeg, legs_at}
 use Rattle.optra_node.specs.Trees.{arity, open_count}
 use Rattle.optra_node.proofs.PlaceLemmas.{count_by_tree}
 use Rattle.optra_records.specs.Reading.{Field, Record}
-use Rattle.optra_cert.specs.RowTexts.{RowTexts, AreApart, AreTexts, read_row, row_fields}
+use Rattle.optra_cert.specs.RowTexts.{RowTexts, AreApart, AreTexts, row_fields}
 use Rattle.optra_cert.specs.Certs.{Cert, IsAmount, IsListed, IsWritable, IsWritableItem}
-use Rattle.optra_cert.specs.CertTexts.{cert_records, head_records, item_records, leg_record, leg_records, price_record}
-use Rattle.optra_cert.specs.Forms.{field_at}
+use Rattle.optra_cert.specs.CertTexts.{cert_records, item_records, leg_record, leg_records, price_record}
 use Rattle.optra_cert.specs.Outcomes.{◌>>=◌, row_or_fault}
-use Rattle.optra_cert.specs.Steps.{State, TreeSoFar, WalksSoFar, amount_told, body_step, bound_step, cert_of, count_added, end_step, fault, filled, in_row, is_above, is_whole, item_step, leaf_added, leg_added, leg_told, no_tree, no_walks, price_added, price_told, read_rows, revenue_step, split_added, started, step, step_at, tree_step}
+use Rattle.optra_cert.specs.Steps.{State, TreeSoFar, WalksSoFar, body_step, bound_step, count_added, fault, filled, in_row, is_above, is_whole, item_step, leaf_added, leg_added, leg_told, price_added, price_told, read_rows, revenue_step, split_added, started, step, step_at, tree_step}
 use Rattle.optra_cert.specs.declared.CertCode.{CertCode}
 use Rattle.optra_cert.specs.declared.CertCode.TheVariants as code
-use Rattle.optra_cert.specs.declared.CertFault.{CertFault}
 use Rattle.optra_cert.specs.declared.reading.Place.{Place}
 use Rattle.optra_cert.specs.declared.reading.Place.TheVariants as place
 use Rattle.optra_cert.specs.declared.row_text.RowRead.{RowRead}
@@ -61,7 +59,7 @@ module _ (net : Net) where
   leg_at_place done got more last leg =
       ap (λ (c : Choice). walks_of c (length done))
       (ap (λ (legs : List Leg). slice_set (done ++ Some got ∷ more) (length done) (Some (legs ++ leg ∷ []))) (at_place done (Some got) more)
-       ∙ set_at done (Some got) more (Some (got ++ leg ∷ [])) (length done) refl)
+      ∙ set_at done (Some got) more (Some (got ++ leg ∷ [])) (length done) refl)
 
   -- the first leg of the bid at a place
   first_at_place : (done more : Choice) (last : ℕ) (leg : Leg)
@@ -69,7 +67,7 @@ module _ (net : Net) where
   first_at_place done more last leg =
       ap (λ (c : Choice). walks_of c (length done))
       (ap (λ (legs : List Leg). slice_set (done ++ None ∷ more) (length done) (Some (legs ++ leg ∷ []))) (at_place done None more)
-       ∙ set_at done None more (Some (leg ∷ [])) (length done) refl)
+      ∙ set_at done None more (Some (leg ∷ [])) (length done) refl)
 
   more_taken : (done : Choice) (got legs : List Leg) (more : Choice)
       → legs_taken net (walks_of (done ++ Some got ∷ more) (length done)) (length done) legs ≡ walks_of (done ++ Some (got ++ legs) ∷ more) (length done)
@@ -143,7 +141,7 @@ module _ {R : Type 0} (cmp : R → R → Ordering) (texts : RowTexts R) (apart :
       let next : s.walks.choice ≡ (done ++ None ∷ []) ++ replicate (length todo) None = choice ∙ sym (append_assoc done (None ∷ []) (replicate (length todo) None)) in
       subst (λ (n : ℕ). ReadsTo s (leg_records net n todo ++ rest) cert) long
       (walks_read todo (done ++ None ∷ []) s rest cert at (omega (arith, long, within)) next (omega (arith, long, least)) (All-tail (λ walk. IfSome walk (IsFormedWalk net)) None todo formed)
-       (λ last. subst (λ (c : Choice). ReadsTo (record s { walks = walks_of c last }) rest cert) (sym (append_assoc done (None ∷ []) todo)) (more last)))
+      (λ last. subst (λ (c : Choice). ReadsTo (record s { walks = walks_of c last }) rest cert) (sym (append_assoc done (None ∷ []) todo)) (more last)))
   walks_read (Some legs ∷ todo) done s rest cert at within choice least formed more =
       let long = length_push done (Some legs) in
       let own = All-head (λ walk. IfSome walk (IsFormedWalk net)) (Some legs) todo formed in
@@ -155,11 +153,11 @@ module _ {R : Type 0} (cmp : R → R → Ordering) (texts : RowTexts R) (apart :
       let after : State R = record s { walks = walks_of (done ++ Some legs ∷ padded) (length done) } in
       let others : ReadsTo after (leg_records net (length (done ++ Some legs ∷ [])) todo ++ rest) cert =
       walks_read todo (done ++ Some legs ∷ []) after rest cert at (omega (arith, long, within)) next (omega (arith, long)) (All-tail (λ walk. IfSome walk (IsFormedWalk net)) (Some legs) todo formed)
-       (λ last. subst (λ (c : Choice). ReadsTo (record s { walks = walks_of c last }) rest cert) (sym (append_assoc done (Some legs ∷ []) todo)) (more last)) in
+      (λ last. subst (λ (c : Choice). ReadsTo (record s { walks = walks_of c last }) rest cert) (sym (append_assoc done (Some legs ∷ []) todo)) (more last)) in
       let from_own : ReadsTo after (later ++ rest) cert = subst (λ (n : ℕ). ReadsTo after (leg_records net n todo ++ rest) cert) long others in
       subst (λ (rows : List Record). ReadsTo s rows cert) (sym (append_assoc (map (leg_record net (codes "leg") (length done)) legs) later rest))
       (legs_read legs s (length done) (later ++ rest) cert at (omega (arith, within)) own.formed least
-       (subst (λ (w : WalksSoFar). ReadsTo (record s { walks = w }) (later ++ rest) cert) (sym taken) from_own))
+      (subst (λ (w : WalksSoFar). ReadsTo (record s { walks = w }) (later ++ rest) cert) (sym taken) from_own))
 
   -- ---- the tree
 
@@ -229,8 +227,8 @@ module _ {R : Type 0} (cmp : R → R → Ordering) (texts : RowTexts R) (apart :
       one_read s (in_tree s next) (price_record texts net entry) (map (price_record texts net) todo ++ rest) cert
       (tree_taken s (codes "price") (row_fields texts net entry.0 ++ signed_decimal entry.1 ∷ []) next (inr at) refl taken)
       (prices_read todo (got ++ entry ∷ []) (in_tree s next) done m rest cert refl next_is (All-tail (IsListed texts net version) entry todo listed)
-       (subst (AreAscending cmp) (sym all) ascend)
-       (subst (λ (ps : PriceList R). ReadsTo (in_tree s (tree_of (done ++ Priced ps ∷ []) m 0 [])) rest cert) (sym all) more))
+      (subst (AreAscending cmp) (sym all) ascend)
+      (subst (λ (ps : PriceList R). ReadsTo (in_tree s (tree_of (done ++ Priced ps ∷ []) m 0 [])) rest cert) (sym all) more))
 
   -- ---- items
 
@@ -289,7 +287,7 @@ module _ {R : Type 0} (cmp : R → R → Ordering) (texts : RowTexts R) (apart :
       one_read s (in_tree s (count_added (tree_of done (suc m) 0 []) (length prices))) (codes "priced" ∷ decimal (length prices) ∷ []) (map (price_record texts net) prices ++ rest) cert
       (begun s done m (codes "priced") (decimal (length prices) ∷ []) (count_added (tree_of done (suc m) 0 []) (length prices)) tree at refl (priced_step (tree_of done (suc m) 0 []) (length prices) writable.0))
       (prices_read prices [] (in_tree s (count_added (tree_of done (suc m) 0 []) (length prices))) done (suc m - 1) rest cert refl refl writable.1 formed
-       (subst (λ (n : ℕ). ReadsTo (in_tree s (tree_of (done ++ Priced prices ∷ []) n 0 [])) rest cert) (sym ways) more))
+      (subst (λ (n : ℕ). ReadsTo (in_tree s (tree_of (done ++ Priced prices ∷ []) n 0 [])) rest cert) (sym ways) more))
 
   -- the end of the records, where the tree is whole
   ended : (s : State R) (done : List (Item R)) → s.tree ≡ tree_of done 0 0 [] → ReadsTo s [] (cert_with s done)
@@ -309,7 +307,7 @@ module _ {R : Type 0} (cmp : R → R → Ordering) (texts : RowTexts R) (apart :
       items_read todo (done ++ item ∷ []) (in_tree s next) (arity item + m) (inr refl) refl count (All-tail (IsFormedItem cmp net bids) item todo formed) (All-tail (IsWritableItem texts net version) item todo writable) in
       subst (λ (rows : List Record). ReadsTo s rows (cert_with s (done ++ item ∷ todo))) (sym (flat_map-cons (item_records texts net) item todo))
       (item_read item s done m (flat_map (item_records texts net) todo) (cert_with s (done ++ item ∷ todo)) at tree (All-head (IsFormedItem cmp net bids) item todo formed) (All-head (IsWritableItem texts net version) item todo writable)
-       (subst (λ (items : List (Item R)). ReadsTo (in_tree s next) (flat_map (item_records texts net) todo) (cert_with s items)) (append_assoc done (item ∷ []) todo) later))
+      (subst (λ (items : List (Item R)). ReadsTo (in_tree s next) (flat_map (item_records texts net) todo) (cert_with s items)) (append_assoc done (item ∷ []) todo) later))
 
   -- ---- the whole
 
@@ -325,6 +323,6 @@ module _ {R : Type 0} (cmp : R → R → Ordering) (texts : RowTexts R) (apart :
       one_read (started bids) second (codes "revenue" ∷ signed_decimal cert.revenue ∷ []) ((codes "bound" ∷ signed_decimal cert.bound ∷ []) ∷ (legs ++ items)) cert
       (revenue_taken (started bids) cert.revenue refl writable.revenue)
       (one_read second third (codes "bound" ∷ signed_decimal cert.bound ∷ []) (legs ++ items) cert
-       (bound_taken second cert.bound refl writable.bound)
-       (walks_read cert.choice [] third items cert refl (omega (arith, entries)) bids_are (omega arith) writable.formed.walks
-        (λ last. items_read cert.tree [] (record third { walks = walks_of cert.choice last }) 1 (inl refl) refl (count_by_tree cert.tree writable.formed.whole) writable.formed.items writable.items)))
+      (bound_taken second cert.bound refl writable.bound)
+      (walks_read cert.choice [] third items cert refl (omega (arith, entries)) bids_are (omega arith) writable.formed.walks
+      (λ last. items_read cert.tree [] (record third { walks = walks_of cert.choice last }) 1 (inl refl) refl (count_by_tree cert.tree writable.formed.whole) writable.formed.items writable.items)))

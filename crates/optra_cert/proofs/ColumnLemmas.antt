@@ -1,6 +1,6 @@
 -- A field that tells a value is its text, and the text of a value that fits tells it.
-use Rattle.std.proofs.Common.{◌≡◌, ◌≢◌, ◌<◌, ◌≤◌, ◌^◌, ◌&&◌, ℕ, Bool, true, false, List, [], ◌∷◌, length, get_or, Option, Some, None, refl, sym, ap, ◌∙◌, subst, arith, bytes_eq, nat_le}
-use Rattle.std.specs.Prelude.{cond, All, Result, Ok, Err, slice_get, unwrap_or, is_some}
+use Rattle.std.proofs.Common.{◌≡◌, ◌<◌, ◌≤◌, ◌^◌, ◌&&◌, ℕ, Bool, true, false, List, [], ◌∷◌, length, get_or, Option, Some, None, refl, sym, ◌∙◌, subst, arith, bytes_eq, nat_le}
+use Rattle.std.specs.Prelude.{cond, All, Result, Ok, Err, slice_get, unwrap_or}
 use Rattle.std.specs.List.{AllZip, position_or_len}
 use Rattle.std.specs.Fmt.{decimal}
 use Rattle.std.proofs.lemmas.Bool.{le-leb, leb-true, lt-ltb, and_parts, false_from_ne_true}
@@ -14,7 +14,7 @@ use Rattle.optra_network.specs.Names.{AllDiffer, place_of}
 use Rattle.optra_records.specs.Numbers.{plain_number_of}
 use Rattle.optra_records.specs.Reading.{Field, Record}
 use Rattle.optra_records.proofs.PlainNumbers.{plain_number_back, plain_number_text}
-use Rattle.optra_cert.specs.Columns.{Column, a_station, a_track, a_type, a_number, a_word, FitsIn, IsSoundColumn, told_in, shown_in, shown, in_range, values_of, has_form, record_values, told_before, before_others}
+use Rattle.optra_cert.specs.Columns.{Column, a_station, a_track, a_type, a_number, a_word, FitsIn, IsSoundColumn, told_in, shown_in, shown, in_range, values_of, has_form, record_values, told_before}
 use Rattle.optra_cert.specs.declared.CertCode.{CertCode}
 use Rattle.optra_cert.specs.declared.CertCode.TheVariants as codes
 
@@ -54,11 +54,13 @@ in_range_some low high (Some m) n e = by (nat_le low m && nat_le m high) refl e
         subst (IsThat low high m) same (refl, (leb-true low m parts.0, leb-true m high parts.1))
     by false f e = absurd (cc e)
 
-number_back : (low high n : ℕ) → high < 10 ^ 18 → low ≤ n → n ≤ high → in_range low high (plain_number_of (decimal n)) ≡ Some n
-number_back low high n few least most = rw (plain_number_back n (omega (arith, few, most)), le-leb low n least, le-leb n high most) refl
+-- the text of a number of a range tells it
+pub number_shown : (low high n : ℕ) → high < 10 ^ 18 → low ≤ n → n ≤ high → in_range low high (plain_number_of (decimal n)) ≡ Some n
+number_shown low high n few least most = rw (plain_number_back n (omega (arith, few, most)), le-leb low n least, le-leb n high most) refl
 
-number_told : (low high : ℕ) (field : Field) (n : ℕ) → high < 10 ^ 18 → in_range low high (plain_number_of field) ≡ Some n → ((low ≤ n) × (n ≤ high)) × (decimal n ≡ field)
-number_told low high field n few e =
+-- a field that tells a number of a range is its text
+pub shown_number : (low high : ℕ) (field : Field) (n : ℕ) → high < 10 ^ 18 → in_range low high (plain_number_of field) ≡ Some n → ((low ≤ n) × (n ≤ high)) × (decimal n ≡ field)
+shown_number low high field n few e =
     let h = in_range_some low high (plain_number_of field) n e in
     let most = h.1.1 in
     (h.1, plain_number_text field n h.0 (omega (arith, few, most)))
@@ -69,7 +71,7 @@ module _ (net : Net) (built : IsBuilt net) where
   told_shown a_station n sound fits = named_back net.stations built.station_names.differ n fits
   told_shown a_track n sound fits = let same = built.named in named_back net.track_names built.names_of_tracks.differ n (omega (arith, same, fits))
   told_shown a_type n sound fits = named_back net.types built.type_names.differ n fits
-  told_shown (a_number low high) n sound fits = number_back low high n sound fits.0 fits.1
+  told_shown (a_number low high) n sound fits = number_shown low high n sound fits.0 fits.1
   told_shown (a_word words) n sound fits = named_back words sound n fits
 
   -- a field that tells a value is its text
@@ -81,7 +83,7 @@ module _ (net : Net) (built : IsBuilt net) where
       let same = built.named in
       (omega (arith, same, within), h.1)
   shown_told a_type field n sound e = named_told net.types field n e
-  shown_told (a_number low high) field n sound e = number_told low high field n sound e
+  shown_told (a_number low high) field n sound e = shown_number low high field n sound e
   shown_told (a_word words) field n sound e = named_told words field n e
 
   form_step : (column : Column) (columns : List Column) (field : Field) (fields : Record) (n : ℕ) → told_in net column field ≡ Some n

@@ -1,22 +1,21 @@
 -- The fault of a record behind the records before it is that of its step.
-use Rattle.std.proofs.Common.{◌≡◌, ◌≢◌, ◌<◌, ◌≤◌, ◌^◌, ◌+◌, ◌-◌, ◌++◌, ◌==◌, ◌&&◌, ◌||◌, not, ℕ, zero, suc, Bool, true, false, List, [], ◌∷◌, length, drop, Option, Some, None, refl, sym, ap, ◌∙◌, subst, arith, codes, cond, bytes_eq, ℤ, pos}
-use Rattle.std.specs.Prelude.{Result, Ok, Err, count_by, slice_get, unwrap_or, nat_le, nat_lt}
+use Rattle.std.proofs.Common.{◌≡◌, ◌<◌, ◌≤◌, ◌^◌, ◌+◌, ◌-◌, ◌==◌, ◌&&◌, ◌||◌, not, ℕ, suc, Bool, true, false, List, [], ◌∷◌, length, drop, Option, Some, None, refl, sym, ap, ◌∙◌, arith, codes, cond, bytes_eq, ℤ, pos}
+use Rattle.std.specs.Prelude.{Result, Ok, Err, count_by, unwrap_or, nat_le, nat_lt}
 use Rattle.std.specs.List.{list_any}
 use Rattle.std.specs.Fmt.{decimal}
 use Rattle.std.specs.declared.cmp.Ordering.{Ordering}
-use Rattle.std.proofs.lemmas.Bool.{ne_eqb, eqb-true, eqb-false, le-ltb, lt-ltb, and_parts, false≢true}
+use Rattle.std.proofs.lemmas.Bool.{ne_eqb, eqb-true, eqb-false, lt-ltb}
 use Rattle.optra_network.specs.Net.{Net, IsBuilt}
 use Rattle.optra_walk.specs.declared.Leg.{Leg}
-use Rattle.optra_node.specs.declared.Item.{Item}
-use Rattle.optra_node.specs.declared.Item.TheVariants.{Split, NoWalk, Forced, Priced}
+use Rattle.optra_node.specs.declared.Item.TheVariants.{NoWalk, Forced}
 use Rattle.optra_node.specs.Duals.{PriceList}
 use Rattle.optra_records.specs.Numbers.{plain_number_of}
 use Rattle.optra_records.specs.Reading.{Field, Record}
 use Rattle.optra_records.proofs.PlainNumbers.{plain_number_back}
 use Rattle.optra_cert.specs.Columns.{record_values}
 use Rattle.optra_cert.specs.RowTexts.{RowTexts, AreApart, AreTexts, read_row}
-use Rattle.optra_cert.specs.Faults.{fault_at, fault_behind, fault_of, is_below, is_in_order, is_one_of, is_whole, last_of, leaf_words, number_at, or_then, prices_due, row_fault, row_of_price, tree_words, words_behind}
-use Rattle.optra_cert.specs.Forms.{any_number, bid_columns, but_last, field_at, last_alone, leg_columns}
+use Rattle.optra_cert.specs.Faults.{fault_at, fault_behind, fault_of, is_below, is_in_order, is_one_of, is_whole, last_of, leaf_words, number_at, or_then, prices_due, row_of_price, tree_words, words_behind}
+use Rattle.optra_cert.specs.Forms.{any_number, but_last, field_at, last_alone, leg_columns}
 use Rattle.optra_cert.specs.Outcomes.{◌>>=◌, row_or_fault}
 use Rattle.optra_cert.specs.Steps.{State, TreeSoFar, WalksSoFar, amount_told, bid_told, body_step, bound_step, count_added, count_told, is_above, item_step, leaf_added, leg_added, leg_of, leg_told, price_added, price_told, revenue_step, split_added, step, step_at, tree_step}
 use Rattle.optra_cert.specs.Steps.{number_told}
@@ -27,7 +26,6 @@ use Rattle.optra_cert.specs.declared.CertCode.{CertCode}
 use Rattle.optra_cert.specs.declared.CertCode.TheVariants as code
 use Rattle.optra_cert.specs.declared.reading.Place.{Place}
 use Rattle.optra_cert.specs.declared.reading.Place.TheVariants as place
-use Rattle.optra_cert.specs.declared.row_text.RowRead.{RowRead}
 use Rattle.optra_cert.specs.declared.row_text.RowRead.TheVariants as read
 use Rattle.optra_cert.proofs.FaultWords.{fault_before, fault_then, has_word, number_fault, or_none, row_fault_is, same_zero}
 use Rattle.optra_cert.proofs.LegTexts.{leg_is}
@@ -70,7 +68,7 @@ module _ {R : Type 0} (cmp : R → R → Ordering) (texts : RowTexts R) (apart :
   other_order : (last fields : Record) (word : Field) → field_at fields 0 ≡ word → list_any (bytes_eq word) (codes "leg" ∷ []) ≡ false → list_any (bytes_eq word) (codes "price" ∷ []) ≡ false → in_order last fields ≡ true
   other_order last fields word same no_leg no_price =
       (λ i. cond (is_one_of (codes "leg" ∷ []) last && has_word fields word (codes "leg" ∷ []) false same no_leg i) (nat_le (number_at last 1) (number_at fields 1))
-       (cond (is_one_of (codes "price" ∷ []) last && has_word fields word (codes "price" ∷ []) false same no_price i) (is_below cmp texts net bids version (row_of_price cmp texts net bids version last) (row_of_price cmp texts net bids version fields)) true))
+      (cond (is_one_of (codes "price" ∷ []) last && has_word fields word (codes "price" ∷ []) false same no_price i) (is_below cmp texts net bids version (row_of_price cmp texts net bids version last) (row_of_price cmp texts net bids version fields)) true))
       ∙ by (is_one_of (codes "leg" ∷ []) last) (is_one_of (codes "price" ∷ []) last)
     where
       by : (a b : Bool) → cond (a && false) (nat_le (number_at last 1) (number_at fields 1)) (cond (b && false) (is_below cmp texts net bids version (row_of_price cmp texts net bids version last) (row_of_price cmp texts net bids version fields)) true) ≡ true
@@ -100,7 +98,7 @@ module _ {R : Type 0} (cmp : R → R → Ordering) (texts : RowTexts R) (apart :
     where
       by : (b : Bool) → bytes_eq (field_at fields 0) word ≡ b
           → cond (not (b || false)) (Some code.Record) (or_then (own_fault (field_at fields 0) (drop 1 fields)) (order_fault (in_order last fields)))
-            ≡ fault_of (cond b (amount_told (drop 1 fields) >>= f) (Err code.Record))
+          ≡ fault_of (cond b (amount_told (drop 1 fields) >>= f) (Err code.Record))
       by true e =
           let same = same_word (field_at fields 0) word e in
           by_word last fields word (fault_of (amount_told (drop 1 fields) >>= f)) same (other_order last fields word same no_leg no_price)
@@ -142,10 +140,10 @@ module _ {R : Type 0} (cmp : R → R → Ordering) (texts : RowTexts R) (apart :
       by : (a : Bool) → bytes_eq (field_at fields 0) (codes "split") ≡ a → (b : Bool) → bytes_eq (field_at fields 0) (codes "nowalk") ≡ b → (c : Bool) → bytes_eq (field_at fields 0) (codes "forced") ≡ c
           → (d : Bool) → bytes_eq (field_at fields 0) (codes "priced") ≡ d
           → cond (not (a || (b || (c || (d || false))))) (Some code.Record) (or_then (own_fault (field_at fields 0) (drop 1 fields)) (order_fault (in_order last fields)))
-            ≡ fault_of (cond a (leg_told net bids (drop 1 fields) >>= λ told. Ok (split_added tree told.0 told.1))
-               (cond b (bid_told bids (drop 1 fields) >>= λ bid. Ok (leaf_added tree (NoWalk bid)))
-                (cond c (row_or_fault (read_row texts net version (drop 1 fields)) >>= λ row. Ok (leaf_added tree (Forced row)))
-                 (cond d (count_told (drop 1 fields) >>= λ count. Ok (count_added tree count)) (Err code.Record)))))
+          ≡ fault_of (cond a (leg_told net bids (drop 1 fields) >>= λ told. Ok (split_added tree told.0 told.1))
+          (cond b (bid_told bids (drop 1 fields) >>= λ bid. Ok (leaf_added tree (NoWalk bid)))
+          (cond c (row_or_fault (read_row texts net version (drop 1 fields)) >>= λ row. Ok (leaf_added tree (Forced row)))
+          (cond d (count_told (drop 1 fields) >>= λ count. Ok (count_added tree count)) (Err code.Record)))))
       by true p b q c r d t =
           let same = same_word (field_at fields 0) (codes "split") p in
           by_word last fields (codes "split") _ same (other_order last fields (codes "split") same refl refl) (split_fault tree (drop 1 fields))
@@ -167,7 +165,7 @@ module _ {R : Type 0} (cmp : R → R → Ordering) (texts : RowTexts R) (apart :
   price_told_fault fields =
       ap (λ (o : Option CertCode). or_then o (fault_of (record_values net any_number (last_alone fields)))) (row_fault_is (read_row texts net version (but_last fields)))
       ∙ fault_then (row_or_fault (read_row texts net version (but_last fields))) (λ row. amount_told (last_alone fields) >>= λ amount. Ok (row, amount)) (fault_of (record_values net any_number (last_alone fields)))
-        (λ row told. fault_before (amount_told (last_alone fields)) (λ amount. Ok (row, amount)) (λ amount. refl) ∙ sym (amount_alone (last_alone fields)))
+      (λ row told. fault_before (amount_told (last_alone fields)) (λ amount. Ok (row, amount)) (λ amount. refl) ∙ sym (amount_alone (last_alone fields)))
 
   price_added_fault : (tree : TreeSoFar R) (entry : R × ℤ) → fault_of (price_added cmp tree entry) ≡ order_fault (is_above cmp tree.prices entry.0)
   unfolding price_added
@@ -196,13 +194,13 @@ module _ {R : Type 0} (cmp : R → R → Ordering) (texts : RowTexts R) (apart :
     where
       by : (b : Bool) → bytes_eq (field_at fields 0) (codes "price") ≡ b
           → cond (not (b || false)) (Some code.Record) (or_then (own_fault (field_at fields 0) (drop 1 fields)) (order_fault (in_order last fields)))
-            ≡ fault_of (cond b (price_told texts net version (drop 1 fields) >>= price_added cmp tree) (Err code.Record))
+          ≡ fault_of (cond b (price_told texts net version (drop 1 fields) >>= price_added cmp tree) (Err code.Record))
       by true e =
           let same = same_word (field_at fields 0) (codes "price") e in
           ap (λ (w : Field). or_then (own_fault w (drop 1 fields)) (order_fault (in_order last fields))) same
           ∙ ap (λ (o : Option CertCode). or_then o (order_fault (in_order last fields))) (price_told_fault (drop 1 fields))
           ∙ fault_then (price_told texts net version (drop 1 fields)) (price_added cmp tree) (order_fault (in_order last fields))
-            (λ entry told. price_added_fault tree entry ∙ ap order_fault (sym (order fields entry.0 same (price_row (drop 1 fields) entry told))))
+          (λ entry told. price_added_fault tree entry ∙ ap order_fault (sym (order fields entry.0 same (price_row (drop 1 fields) entry told))))
       by false e = refl
 
   -- ---- records of the tree
@@ -218,7 +216,7 @@ module _ {R : Type 0} (cmp : R → R → Ordering) (texts : RowTexts R) (apart :
     where
       by : (a b : Bool) → (tree.due == 0) ≡ b → judged a (words_in tree.due) last fields
           ≡ fault_of (cond a (Err code.Order) (cond b (item_step cmp texts net bids version tree (field_at fields 0) (drop 1 fields))
-             (cond (bytes_eq (field_at fields 0) (codes "price")) (price_told texts net version (drop 1 fields) >>= price_added cmp tree) (Err code.Record))))
+          (cond (bytes_eq (field_at fields 0) (codes "price")) (price_told texts net version (drop 1 fields) >>= price_added cmp tree) (Err code.Record))))
       by true b e = refl
       by false true e =
           let none = eqb-true tree.due 0 e in
@@ -259,8 +257,8 @@ module _ {R : Type 0} (cmp : R → R → Ordering) (texts : RowTexts R) (apart :
       ap (λ (w : Field). or_then (own_fault w (drop 1 fields)) (order_fault (in_order last fields))) same
       ∙ ap (λ (o : Option CertCode). or_then o (order_fault (in_order last fields))) (sym (leg_fault net bids (drop 1 fields)))
       ∙ fault_then (leg_told net bids (drop 1 fields)) (legs_go_on s) (order_fault (in_order last fields))
-        (λ told e. fault_before (leg_added s.walks told.0 told.1) (λ walks. Ok (record s { walks = walks })) (λ walks. refl) ∙ leg_added_fault s.walks told.0 told.1
-         ∙ ap order_fault (sym (order fields told.0 same (leg_number fields told e))))
+      (λ told e. fault_before (leg_added s.walks told.0 told.1) (λ walks. Ok (record s { walks = walks })) (λ walks. refl) ∙ leg_added_fault s.walks told.0 told.1
+      ∙ ap order_fault (sym (order fields told.0 same (leg_number fields told e))))
 
   tree_goes_on : (s : State R) (word : Field) (fields : Record)
       → fault_of (tree_step cmp texts net bids version s.tree word fields >>= λ tree. Ok (record s { place = place.Tree; tree = tree })) ≡ fault_of (tree_step cmp texts net bids version s.tree word fields)
@@ -277,8 +275,8 @@ module _ {R : Type 0} (cmp : R → R → Ordering) (texts : RowTexts R) (apart :
 
       by : (b : Bool) → bytes_eq (field_at fields 0) (codes "leg") ≡ b
           → cond (not (b || is_one_of tree_words fields)) (Some code.Record) (or_then (own_fault (field_at fields 0) (drop 1 fields)) (order_fault (in_order last fields)))
-            ≡ fault_of (cond b (leg_told net bids (drop 1 fields) >>= legs_go_on s)
-               (tree_step cmp texts net bids version s.tree (field_at fields 0) (drop 1 fields) >>= λ tree. Ok (record s { place = place.Tree; tree = tree })))
+          ≡ fault_of (cond b (leg_told net bids (drop 1 fields) >>= legs_go_on s)
+          (tree_step cmp texts net bids version s.tree (field_at fields 0) (drop 1 fields) >>= λ tree. Ok (record s { place = place.Tree; tree = tree })))
       by true e = leg_judged s last fields order (same_word (field_at fields 0) (codes "leg") e)
       by false e =
           (λ i. judged (sym open_ i) (words_in (sym none i)) last fields) ∙ tree_judged s.tree last fields no_due ∙ sym (tree_goes_on s (field_at fields 0) (drop 1 fields))
@@ -318,8 +316,8 @@ module _ {R : Type 0} (cmp : R → R → Ordering) (texts : RowTexts R) (apart :
       → words_behind before ≡ cond (nat_lt 0 due) (codes "price" ∷ []) (cond b (codes "leg" ∷ tree_words) tree_words)
   words_later before due b long same last =
       λ i. cond (ne_eqb (length before) 1 (λ e. absurd (omega (arith, e, long))) i) (codes "revenue" ∷ [])
-       (cond (ne_eqb (length before) 2 (λ e. absurd (omega (arith, e, long))) i) (codes "bound" ∷ [])
-        (cond (nat_lt 0 (same i)) (codes "price" ∷ []) (cond (last i) (codes "leg" ∷ tree_words) tree_words)))
+      (cond (ne_eqb (length before) 2 (λ e. absurd (omega (arith, e, long))) i) (codes "bound" ∷ [])
+      (cond (nat_lt 0 (same i)) (codes "price" ∷ []) (cond (last i) (codes "leg" ∷ tree_words) tree_words)))
 
   words_first : (before : List Record) → length before ≡ 1 → words_behind before ≡ codes "revenue" ∷ []
   words_first before e = rw e refl

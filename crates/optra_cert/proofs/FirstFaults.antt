@@ -1,18 +1,18 @@
 -- The fault that reading gives is the first one, and what is read has none.
-use Rattle.std.proofs.Common.{◌≡◌, ◌<◌, ◌≤◌, ◌^◌, ◌+◌, ◌++◌, ◌⊎◌, inl, inr, ℕ, zero, suc, Bool, true, false, List, [], ◌∷◌, length, take, drop, Option, Some, None, refl, sym, ap, ◌∙◌, subst, arith, codes, append_assoc, cond}
+use Rattle.std.proofs.Common.{◌≡◌, ◌<◌, ◌≤◌, ◌^◌, ◌+◌, ◌++◌, ◌⊎◌, inl, inr, ℕ, Bool, true, false, List, [], ◌∷◌, length, take, drop, Option, Some, None, refl, sym, ap, ◌∙◌, subst, arith, codes, append_assoc, cond}
 use Rattle.std.specs.Prelude.{Result, Ok, Err, slice_get, MatchBool}
 use Rattle.std.specs.Fmt.{decimal}
 use Rattle.std.specs.declared.cmp.Ordering.{Ordering}
-use Rattle.std.proofs.lemmas.Bool.{cases_eq, true≢false, MatchBool-at_true}
+use Rattle.std.proofs.lemmas.Bool.{cases_eq, true≢false}
 use Rattle.std.proofs.lemmas.List.{append-nil, length_push, take_at}
 use Rattle.std.proofs.lemmas.Option.{slice_get_within}
 use Rattle.csv.specs.Reading.{default_config, records}
 use Rattle.optra_network.specs.Net.{Net, IsBuilt}
 use Rattle.optra_records.specs.Canonical.{is_canonical}
-use Rattle.optra_records.specs.Reading.{Field, Record}
+use Rattle.optra_records.specs.Reading.{Record}
 use Rattle.optra_cert.specs.RowTexts.{RowTexts, AreApart, AreTexts}
 use Rattle.optra_cert.specs.Certs.{Cert}
-use Rattle.optra_cert.specs.Faults.{EndsEarly, HaveNone, IsFaultBehind, IsFaultOfRecord, IsFaultOfRecords, IsFirstFault, fault_at, fault_of, is_whole}
+use Rattle.optra_cert.specs.Faults.{HaveNone, IsFaultBehind, IsFaultOfRecords, IsFirstFault, fault_at, fault_of, is_whole}
 use Rattle.optra_cert.specs.Forms.{version_of}
 use Rattle.optra_cert.specs.Outcomes.{◌>>=◌}
 use Rattle.optra_cert.specs.Steps.{State, cert_of, end_step, fault, in_row, read_behind, read_records, read_rows, read_text, started, step}
@@ -186,7 +186,7 @@ module _ {R : Type 0} (cmp : R → R → Ordering) (texts : RowTexts R) (apart :
           let first = version_is texts.version rows version known stated in
           clean_rows version rows f
           (rows_clean version rows cert (started bids) 2 ((codes "optra-certificate" ∷ decimal version ∷ []) ∷ []) (drop 1 rows)
-           (agrees_started cmp texts apart are net built bids few version) (sym first.0) (none_first version rows) e) is
+          (agrees_started cmp texts apart are net built bids few version) (sym first.0) (none_first version rows) e) is
 
   -- The fault that reading gives is the first of the bytes.
   pub read_err : (known : texts.version < 10 ^ 18) (bytes : List ℕ) (f : CertFault) → read_text cmp texts net bids bytes ≡ Err f → IsFirstFault cmp texts net bids bytes f

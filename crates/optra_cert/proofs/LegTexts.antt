@@ -1,7 +1,7 @@
 -- The fields of a leg tell it, and a leg that is told has those fields.
-use Rattle.std.proofs.Common.{◌≡◌, ◌≢◌, ◌<◌, ◌≤◌, ◌^◌, ◌+◌, ◌-◌, ◌==◌, ◌||◌, ℕ, zero, suc, Bool, true, false, List, [], ◌∷◌, length, get_or, drop, Option, Some, None, refl, sym, ap, ◌∙◌, subst, arith, codes, lit<, lit≤, bytes_eq, cond}
-use Rattle.std.specs.Prelude.{All, Result, Ok, Err, slice_get, unwrap_or}
-use Rattle.std.specs.List.{AllPairs, AllZip}
+use Rattle.std.proofs.Common.{◌≡◌, ◌≢◌, ◌<◌, ◌≤◌, ◌^◌, ◌+◌, ◌-◌, ◌==◌, ◌||◌, ℕ, zero, suc, Bool, true, false, List, [], ◌∷◌, length, get_or, drop, refl, sym, ap, ◌∙◌, subst, arith, codes, lit<, lit≤, bytes_eq, cond}
+use Rattle.std.specs.Prelude.{All, Ok, slice_get, unwrap_or}
+use Rattle.std.specs.List.{AllZip}
 use Rattle.std.specs.Fmt.{decimal}
 use Rattle.std.proofs.lemmas.List.Elements.{All-nil, All-cons}
 use Rattle.std.proofs.lemmas.List.Kept.{AllPairs-cons}
@@ -16,9 +16,7 @@ use Rattle.optra_records.specs.Reading.{Field, Record}
 use Rattle.optra_cert.specs.Columns.{Column, a_track, a_number, a_word, FitsIn, IsSoundColumn, record_values, shown}
 use Rattle.optra_cert.specs.CertTexts.{leg_record, from_word, action_word}
 use Rattle.optra_cert.specs.Forms.{field_at, leg_columns, most_dwell, from_words, action_words}
-use Rattle.optra_cert.specs.Outcomes.{◌>>=◌}
-use Rattle.optra_cert.specs.Steps.{value_at, action_of, leg_of, leg_told}
-use Rattle.optra_cert.specs.declared.CertCode.{CertCode}
+use Rattle.optra_cert.specs.Steps.{action_of, leg_of, leg_told}
 use Rattle.optra_cert.proofs.ColumnLemmas.{record_shown, record_told}
 use Rattle.optra_cert.proofs.TellLemmas.{bind_ok}
 
@@ -44,14 +42,14 @@ action_words_differ =
     let differ : (a b : Field) → get_or a 0 0 ≢ get_or b 0 0 → a ≢ b = first_differs in
     AllPairs-cons Other (codes "pass") (codes "halt" ∷ codes "wait" ∷ codes "finish" ∷ [])
     (All-cons (Other (codes "pass")) (codes "halt") (codes "wait" ∷ codes "finish" ∷ []) (differ (codes "pass") (codes "halt") (λ e. absurd (omega (arith, e))))
-     (All-cons (Other (codes "pass")) (codes "wait") (codes "finish" ∷ []) (differ (codes "pass") (codes "wait") (λ e. absurd (omega (arith, e))))
-      (All-cons (Other (codes "pass")) (codes "finish") [] (differ (codes "pass") (codes "finish") (λ e. absurd (omega (arith, e)))) (All-nil (Other (codes "pass"))))))
+    (All-cons (Other (codes "pass")) (codes "wait") (codes "finish" ∷ []) (differ (codes "pass") (codes "wait") (λ e. absurd (omega (arith, e))))
+    (All-cons (Other (codes "pass")) (codes "finish") [] (differ (codes "pass") (codes "finish") (λ e. absurd (omega (arith, e)))) (All-nil (Other (codes "pass"))))))
     (AllPairs-cons Other (codes "halt") (codes "wait" ∷ codes "finish" ∷ [])
-     (All-cons (Other (codes "halt")) (codes "wait") (codes "finish" ∷ []) (differ (codes "halt") (codes "wait") (λ e. absurd (omega (arith, e))))
-      (All-cons (Other (codes "halt")) (codes "finish") [] (differ (codes "halt") (codes "finish") (λ e. absurd (omega (arith, e)))) (All-nil (Other (codes "halt")))))
-     (AllPairs-cons Other (codes "wait") (codes "finish" ∷ [])
-      (All-cons (Other (codes "wait")) (codes "finish") [] (differ (codes "wait") (codes "finish") (λ e. absurd (omega (arith, e)))) (All-nil (Other (codes "wait"))))
-      (AllPairs-cons Other (codes "finish") [] (All-nil (Other (codes "finish"))) no_words)))
+    (All-cons (Other (codes "halt")) (codes "wait") (codes "finish" ∷ []) (differ (codes "halt") (codes "wait") (λ e. absurd (omega (arith, e))))
+    (All-cons (Other (codes "halt")) (codes "finish") [] (differ (codes "halt") (codes "finish") (λ e. absurd (omega (arith, e)))) (All-nil (Other (codes "halt")))))
+    (AllPairs-cons Other (codes "wait") (codes "finish" ∷ [])
+    (All-cons (Other (codes "wait")) (codes "finish") [] (differ (codes "wait") (codes "finish") (λ e. absurd (omega (arith, e)))) (All-nil (Other (codes "wait"))))
+    (AllPairs-cons Other (codes "finish") [] (All-nil (Other (codes "finish"))) no_words)))
 
 -- ---- places of words
 
@@ -141,10 +139,10 @@ sound_columns bids fields few =
     let dwell : IsSoundColumn last = omega (arith, most) in
     All-cons IsSoundColumn (a_number 1 bids) (a_track ∷ a_number 0 2879 ∷ a_word from_words ∷ a_word action_words ∷ last ∷ []) few
     (All-cons IsSoundColumn a_track (a_number 0 2879 ∷ a_word from_words ∷ a_word action_words ∷ last ∷ []) tt
-     (All-cons IsSoundColumn (a_number 0 2879) (a_word from_words ∷ a_word action_words ∷ last ∷ []) (lit< tt)
-      (All-cons IsSoundColumn (a_word from_words) (a_word action_words ∷ last ∷ []) from_words_differ
-       (All-cons IsSoundColumn (a_word action_words) (last ∷ []) action_words_differ
-        (All-cons IsSoundColumn last [] dwell (All-nil IsSoundColumn))))))
+    (All-cons IsSoundColumn (a_number 0 2879) (a_word from_words ∷ a_word action_words ∷ last ∷ []) (lit< tt)
+    (All-cons IsSoundColumn (a_word from_words) (a_word action_words ∷ last ∷ []) from_words_differ
+    (All-cons IsSoundColumn (a_word action_words) (last ∷ []) action_words_differ
+    (All-cons IsSoundColumn last [] dwell (All-nil IsSoundColumn))))))
 
 module _ (net : Net) (built : IsBuilt net) (bids : ℕ) (few : bids < 10 ^ 18) where
   shows : (bid : ℕ) (leg : Leg) → shown net (leg_columns bids (leg_fields net bid leg)) (leg_values bid leg) ≡ leg_fields net bid leg
@@ -184,10 +182,11 @@ module _ (net : Net) (built : IsBuilt net) (bids : ℕ) (few : bids < 10 ^ 18) w
       let least = number.0 in
       let within = number.1 in
       let next : b - 1 + 1 ≡ b = omega (arith, least) in
-      let short : dwell_of (action_of a w) ≤ 240 = let few = text.2 in let same = text.1 in omega (arith, few, same) in
-      (omega (arith, least, within),
-       record { track = track; depart = depart.1; dwell = short },
-       (λ i. decimal (next i) ∷ unwrap_or (slice_get net.track_names t) [] ∷ decimal d ∷ from_text f from_ i ∷ text.0 i ∷ decimal (text.1 i) ∷ []) ∙ are)
+      let short : dwell_of (action_of a w) ≤ 240 = let few = text.2 in let same = text.1 in omega (arith, few, same) in (
+        omega (arith, least, within),
+        record { track = track; depart = depart.1; dwell = short },
+        (λ i. decimal (next i) ∷ unwrap_or (slice_get net.track_names t) [] ∷ decimal d ∷ from_text f from_ i ∷ text.0 i ∷ decimal (text.1 i) ∷ []) ∙ are,
+      )
 
   of_values : (fields : Record) (values : List ℕ) → AllZip (FitsIn net) (leg_columns bids fields) values → shown net (leg_columns bids fields) values ≡ fields → IsTold fields (leg_of values)
   of_values fields [] h are = absurd h

@@ -7,7 +7,6 @@ pub mod WritableLemmas
 pub mod ApartLemmas
 pub mod ColumnLemmas
 pub mod RowLemmas
-pub mod RecordLemmas
 pub mod TellLemmas
 pub mod LegTexts
 pub mod WalkSteps
@@ -24,3 +23,4 @@ pub mod TreeLemmas
 pub mod RunLemmas
 pub mod BackSteps
 pub mod TextBack
+pub mod OneFault

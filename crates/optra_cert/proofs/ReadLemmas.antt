@@ -1,12 +1,12 @@
 -- A certificate that is read is writable, and the bytes are its text.
-use Rattle.std.proofs.Common.{◌≡◌, ◌<◌, ◌≤◌, ◌^◌, ◌+◌, ◌++◌, ◌==◌, ◌&&◌, ℕ, zero, suc, Bool, true, false, not, List, [], ◌∷◌, length, drop, flat_map, Option, Some, None, refl, sym, ap, ◌∙◌, subst, arith, codes, append_assoc, cond, bytes_eq}
-use Rattle.std.specs.Prelude.{All, Result, Ok, Err}
+use Rattle.std.proofs.Common.{◌≡◌, ◌<◌, ◌^◌, ◌+◌, ◌++◌, ◌==◌, ◌&&◌, ℕ, Bool, true, false, not, List, [], ◌∷◌, drop, Option, Some, None, refl, sym, ap, ◌∙◌, subst, arith, codes, append_assoc, cond, bytes_eq}
+use Rattle.std.specs.Prelude.{Result, Ok, Err}
 use Rattle.std.specs.List.{list_all}
 use Rattle.std.specs.Str.{is_utf8}
 use Rattle.std.specs.Fmt.{decimal}
 use Rattle.std.specs.declared.cmp.Ordering.{Ordering}
 use Rattle.std.specs.declared.cmp.Ordering.TheVariants.{Less}
-use Rattle.std.proofs.lemmas.Bool.{eqb-true, and_parts, true≢false, false≢true}
+use Rattle.std.proofs.lemmas.Bool.{eqb-true, and_parts, false≢true}
 use Rattle.std.proofs.lemmas.List.{append-nil}
 use Rattle.std.proofs.lemmas.Slice.Eq.{bytes_eq-Decides}
 use Rattle.csv.specs.Reading.{default_config, records}
@@ -19,22 +19,19 @@ use Rattle.optra_records.specs.Texts.{is_shown, records_text}
 use Rattle.optra_records.proofs.PlainNumbers.{plain_number_text}
 use Rattle.optra_cert.specs.Columns.{in_range}
 use Rattle.optra_cert.specs.RowTexts.{RowTexts, AreApart, AreTexts}
-use Rattle.optra_cert.specs.Certs.{Cert, IsAmount, IsWritable}
-use Rattle.optra_cert.specs.CertTexts.{cert_records, cert_text, head_records, item_records, leg_records}
+use Rattle.optra_cert.specs.Certs.{Cert, IsWritable}
+use Rattle.optra_cert.specs.CertTexts.{cert_records, cert_text, head_records, leg_records}
 use Rattle.optra_cert.specs.CertLaws.{IsTextOf}
 use Rattle.optra_cert.specs.Forms.{version_of}
-use Rattle.optra_cert.specs.Outcomes.{◌>>=◌}
-use Rattle.optra_cert.specs.Steps.{State, TreeSoFar, cert_of, end_step, fault, in_row, is_whole, no_tree, read_behind, read_records, read_rows, read_text, started, step}
+use Rattle.optra_cert.specs.Steps.{State, cert_of, end_step, fault, in_row, is_whole, no_tree, read_behind, read_records, read_rows, read_text, started, step}
 use Rattle.optra_cert.specs.declared.CertCode.{CertCode}
 use Rattle.optra_cert.specs.declared.CertCode.TheVariants as code
-use Rattle.optra_cert.specs.declared.CertFault.{CertFault}
 use Rattle.optra_cert.specs.declared.reading.Place.{Place}
 use Rattle.optra_cert.specs.declared.reading.Place.TheVariants as place
 use Rattle.optra_cert.proofs.ColumnLemmas.{in_range_some}
 use Rattle.optra_cert.proofs.StateSteps.{IsSoFar, same_word, step_next}
 use Rattle.optra_cert.proofs.TellLemmas.{bind_ok}
-use Rattle.optra_cert.proofs.TreeSteps.{IsTreeSoFar, none_open, pending, tree_records}
-use Rattle.optra_cert.proofs.WalkSteps.{AreWalksSoFar}
+use Rattle.optra_cert.proofs.TreeSteps.{none_open, pending}
 
 pub in_row_ok : {A : Type 0} (row : ℕ) (r : Result A CertCode) (a : A) → in_row row r ≡ Ok a → r ≡ Ok a
 in_row_ok row (Ok b) a e = let same : b ≡ a = cc e in ap Ok same
@@ -72,7 +69,6 @@ canonical_text bytes e =
 
 module _ {R : Type 0} (cmp : R → R → Ordering) (trans : (x y z : R) → cmp x y ≡ Less → cmp y z ≡ Less → cmp x z ≡ Less)
     (texts : RowTexts R) (apart : AreApart texts.kinds) (are : AreTexts texts) (net : Net) (built : IsBuilt net) (bids : ℕ) (few : bids < 10 ^ 18) where
-
   -- records are those of a certificate that is writable in the version
   abbrev AreOf : ℕ → List Record → Cert R → Type 0
   AreOf version rows cert = (rows ≡ cert_records texts net version cert) × IsWritable cmp texts net bids version cert
@@ -91,14 +87,15 @@ module _ {R : Type 0} (cmp : R → R → Ordering) (trans : (x y z : R) → cmp 
         let none = eqb-true s.tree.due 0 parts.1 in
         let tree = so_far.3 in
         let count = tree.count ∙ ap Some (λ i. pending (none i) + closed i) in
-        let text = none_open cmp texts net bids version s.tree none in
-        (so_far.0 ∙ ap (λ (t : List Record). head_records version s.revenue s.bound ++ leg_records net 0 s.walks.choice ++ t) text,
-         record {
-           formed = record { entries = so_far.2.entries; walks = so_far.2.formed; whole = tree_by_count s.tree.items count; items = tree.formed };
-           revenue = so_far.1.0;
-           bound = so_far.1.1;
-           items = tree.writable;
-         })
+        let text = none_open cmp texts net bids version s.tree none in (
+          so_far.0 ∙ ap (λ (t : List Record). head_records version s.revenue s.bound ++ leg_records net 0 s.walks.choice ++ t) text,
+          record {
+            formed = record { entries = so_far.2.entries; walks = so_far.2.formed; whole = tree_by_count s.tree.items count; items = tree.formed };
+            revenue = so_far.1.0;
+            bound = so_far.1.1;
+            items = tree.writable;
+          },
+        )
 
     whole_at : (s : State R) (rows : List Record) (p : Place) → SoFar p s rows → is_whole s.tree ≡ true → AreOf version rows (cert_of s)
     whole_at s rows place.Revenue so_far whole = absurd (unbegun s so_far.2 whole)

@@ -1,19 +1,18 @@
 -- A row is read of its fields, and fields that are read as a row are those of the row.
-use Rattle.std.proofs.Common.{◌≡◌, ◌≢◌, ◌<◌, ◌≤◌, ◌⊎◌, inl, inr, ◌&&◌, ℕ, Bool, true, false, List, [], ◌∷◌, length, get_or, Option, Some, None, refl, sym, ap, ◌∙◌, subst, arith, bytes_eq, nat_le}
+use Rattle.std.proofs.Common.{◌≡◌, ◌<◌, ◌≤◌, ◌⊎◌, inl, inr, ◌&&◌, ℕ, Bool, true, false, List, [], ◌∷◌, length, get_or, Option, Some, None, refl, sym, ap, ◌∙◌, subst, arith, bytes_eq, nat_le}
 use Rattle.std.specs.Prelude.{cond, find, All, Contains, Result, Ok, Err}
-use Rattle.std.specs.List.{AllPairs, AllZip}
-use Rattle.std.proofs.lemmas.Bool.{le-leb, leb-true, and_parts, cases_order, true≢false, both_ways}
+use Rattle.std.specs.List.{AllZip}
+use Rattle.std.proofs.lemmas.Bool.{le-leb, leb-true, and_parts, cases_order, both_ways}
 use Rattle.std.proofs.lemmas.List.{get_or_default}
 use Rattle.std.proofs.lemmas.List.Elements.{All-contains, All-cons}
 use Rattle.std.proofs.lemmas.Slice.Eq.{bytes_eq-Decides}
 use Rattle.optra_network.specs.Net.{Net, IsBuilt}
 use Rattle.optra_records.specs.Reading.{Field, Record}
-use Rattle.optra_cert.specs.Columns.{Column, FitsIn, IsSoundColumn, record_values, shown}
+use Rattle.optra_cert.specs.Columns.{FitsIn, IsSoundColumn, record_values, shown}
 use Rattle.optra_cert.specs.ListLemmas.{found_in}
-use Rattle.optra_cert.specs.RowTexts.{RowKind, RowTexts, AreApart, AreTexts, FitsRow, IsRowOf, kind_named, made_row, read_by, read_row, row_of_values, row_fields}
+use Rattle.optra_cert.specs.RowTexts.{RowKind, RowTexts, AreApart, AreTexts, IsRowOf, kind_named, made_row, read_by, read_row, row_of_values, row_fields}
 use Rattle.optra_cert.specs.declared.CertCode.{CertCode}
 use Rattle.optra_cert.specs.declared.CertCode.TheVariants as codes
-use Rattle.optra_cert.specs.declared.row_text.RowRead.{RowRead}
 use Rattle.optra_cert.specs.declared.row_text.RowRead.TheVariants as read
 use Rattle.optra_cert.proofs.ColumnLemmas.{record_shown, record_told}
 
@@ -85,9 +84,10 @@ module _ {R : Type 0} (texts : RowTexts R) (apart : AreApart texts.kinds) (are :
       let tells = are.tells kind.word values row made in
       let own : kind ≡ (texts.told row).0 = one_kind texts.kinds kind (texts.told row).0 apart in_ (are.kinds row) (sym tells.0) in
       let first : (kind.version ≤ version) × AllZip (FitsIn net) kind.columns (texts.told row).1 = (there, subst (λ (vs : List ℕ). AllZip (FitsIn net) kind.columns vs) (sym tells.1) fits) in
-      let second : kind.word ∷ shown net kind.columns (texts.told row).1 ≡ word ∷ fields = cc (same, shows, ap (λ (vs : List ℕ). shown net kind.columns vs) tells.1) in
-      (subst (λ (k : RowKind). (k.version ≤ version) × AllZip (FitsIn net) k.columns (texts.told row).1) own first,
-       subst (λ (k : RowKind). k.word ∷ shown net k.columns (texts.told row).1 ≡ word ∷ fields) own second)
+      let second : kind.word ∷ shown net kind.columns (texts.told row).1 ≡ word ∷ fields = cc (same, shows, ap (λ (vs : List ℕ). shown net kind.columns vs) tells.1) in (
+        subst (λ (k : RowKind). (k.version ≤ version) × AllZip (FitsIn net) k.columns (texts.told row).1) own first,
+        subst (λ (k : RowKind). k.word ∷ shown net k.columns (texts.told row).1 ≡ word ∷ fields) own second,
+      )
 
   made_some : (o : Option R) (row : R) → made_row o ≡ read.Row row → o ≡ Some row
   made_some None row e = absurd (cc e)

@@ -1,34 +1,22 @@
 -- The fields of a record tell what it was written of, and what is written of what they tell are the fields.
-use Rattle.std.proofs.Common.{◌≡◌, ◌≢◌, ◌<◌, ◌≤◌, ◌^◌, ◌+◌, ◌-◌, ◌++◌, ◌==◌, ℕ, zero, suc, Bool, true, false, List, [], ◌∷◌, length, get_or, take, drop, Option, Some, None, refl, sym, ap, ◌∙◌, subst, arith, codes, ℤ, pos, negsuc, lit<}
-use Rattle.std.specs.Prelude.{All, Result, Ok, Err, slice_get, unwrap_or}
-use Rattle.std.specs.List.{AllZip}
+use Rattle.std.proofs.Common.{◌≡◌, ◌<◌, ◌≤◌, ◌^◌, ◌+◌, ◌-◌, ◌++◌, ℕ, [], ◌∷◌, length, Option, Some, None, refl, ap, ◌∙◌, subst, arith, ℤ, pos, negsuc, lit<}
+use Rattle.std.specs.Prelude.{Result, Ok, Err}
 use Rattle.std.specs.Fmt.{decimal, signed_decimal}
 use Rattle.std.proofs.lemmas.List.{take_at, drop_at, take-append-drop, length_push}
-use Rattle.std.proofs.lemmas.List.Elements.{All-nil, All-cons}
 use Rattle.std.proofs.lemmas.Int.{ints}
 use Rattle.optra_network.specs.Net.{Net, IsBuilt, IsFromTo}
-use Rattle.optra_network.specs.Names.{AllDiffer}
-use Rattle.optra_walk.specs.declared.Action.{Action}
-use Rattle.optra_walk.specs.declared.Action.TheVariants.{Pass, Halt, Wait, Finish}
-use Rattle.optra_walk.specs.declared.Leg.{Leg}
-use Rattle.optra_walk.specs.Legs.{dwell_of}
-use Rattle.optra_node.specs.Nodes.{IsFormedLeg}
 use Rattle.optra_records.specs.Numbers.{plain_number_of}
 use Rattle.optra_records.specs.Reading.{Field, Record}
-use Rattle.optra_records.proofs.PlainNumbers.{plain_number_back, plain_number_text}
-use Rattle.std.proofs.lemmas.Bool.{le-leb}
 use Rattle.optra_cert.specs.Columns.{in_range}
-use Rattle.optra_cert.specs.RowTexts.{RowTexts, AreApart, AreTexts, IsRowOf, read_row, row_fields}
+use Rattle.optra_cert.specs.RowTexts.{RowTexts, AreApart, AreTexts, read_row, row_fields}
 use Rattle.optra_cert.specs.Certs.{IsAmount, IsListed}
-use Rattle.optra_cert.specs.CertTexts.{leg_record, price_record, from_word, action_word}
-use Rattle.optra_cert.specs.Forms.{any_number, bid_columns, but_last, field_at, last_alone, leg_columns, most_dwell, from_words, action_words}
+use Rattle.optra_cert.specs.Forms.{but_last, last_alone}
 use Rattle.optra_cert.specs.Outcomes.{◌>>=◌, row_or_fault}
 use Rattle.optra_cert.specs.Steps.{or_fault, number_told, count_told, amount_told, bid_told, price_told}
-use Rattle.optra_cert.specs.declared.CertCode.{CertCode}
 use Rattle.optra_cert.specs.declared.CertCode.TheVariants as codes
 use Rattle.optra_cert.specs.declared.row_text.RowRead.{RowRead}
 use Rattle.optra_cert.specs.declared.row_text.RowRead.TheVariants as read
-use Rattle.optra_cert.proofs.ColumnLemmas.{in_range_some}
+use Rattle.optra_cert.proofs.ColumnLemmas.{number_shown, shown_number}
 use Rattle.optra_cert.proofs.RowLemmas.{row_back, row_told}
 
 -- what goes on with a value gave one
@@ -44,12 +32,6 @@ row_read read.Number row e = absurd (cc e)
 
 -- ---- one number alone
 
-in_range_told : (low high : ℕ) (field : Field) (n : ℕ) → high < 10 ^ 18 → in_range low high (plain_number_of field) ≡ Some n → IsFromTo low high n × (decimal n ∷ [] ≡ field ∷ [])
-in_range_told low high field n few e =
-    let h = in_range_some low high (plain_number_of field) n e in
-    let most = h.1.1 in
-    (h.1, ap (λ (f : Field). f ∷ []) (plain_number_text field n h.0 (omega (arith, few, most))))
-
 or_fault_some : (o : Option ℕ) (n : ℕ) → or_fault codes.Number o ≡ Ok n → o ≡ Some n
 or_fault_some None n e = absurd (cc e)
 or_fault_some (Some m) n e = let same : m ≡ n = cc e in ap Some same
@@ -57,11 +39,13 @@ or_fault_some (Some m) n e = let same : m ≡ n = cc e in ap Some same
 -- the number that is told alone is that of the field
 pub number_is : (low high : ℕ) (fields : Record) (n : ℕ) → high < 10 ^ 18 → number_told low high fields ≡ Ok n → IsFromTo low high n × (decimal n ∷ [] ≡ fields)
 number_is low high [] n few e = absurd (cc e)
-number_is low high (field ∷ []) n few e = in_range_told low high field n few (or_fault_some (in_range low high (plain_number_of field)) n e)
+number_is low high (field ∷ []) n few e =
+    let h = shown_number low high field n few (or_fault_some (in_range low high (plain_number_of field)) n e) in
+    (h.0, ap (λ (f : Field). f ∷ []) h.1)
 number_is low high (field ∷ next ∷ rest) n few e = absurd (cc e)
 
 pub number_back : (low high n : ℕ) → high < 10 ^ 18 → low ≤ n → n ≤ high → number_told low high (decimal n ∷ []) ≡ Ok n
-number_back low high n few least most = rw (plain_number_back n (omega (arith, few, most)), le-leb low n least, le-leb n high most) refl
+number_back low high n few least most = ap (or_fault codes.Number) (number_shown low high n few least most)
 
 pub count_is : (fields : Record) (n : ℕ) → count_told fields ≡ Ok n → (n < 10 ^ 18) × (decimal n ∷ [] ≡ fields)
 count_is fields n e =

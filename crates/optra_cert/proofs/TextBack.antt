@@ -1,5 +1,5 @@
 -- The text of a writable certificate is canonical, and is read as it.
-use Rattle.std.proofs.Common.{◌≡◌, ◌≢◌, ◌<◌, ◌≤◌, ◌^◌, ◌+◌, ◌++◌, ◌==◌, ◌&&◌, not, ℕ, zero, suc, Bool, true, false, List, [], ◌∷◌, length, drop, get_or, map, flat_map, Option, Some, None, refl, sym, ap, ◌∙◌, subst, arith, codes, append_assoc, cond, bytes_eq, ℤ, pos, negsuc, IsTrue, nat_le}
+use Rattle.std.proofs.Common.{◌≡◌, ◌<◌, ◌≤◌, ◌^◌, ◌+◌, ◌++◌, ◌&&◌, ℕ, Bool, true, false, List, [], ◌∷◌, length, drop, get_or, map, flat_map, Option, Some, None, refl, sym, ap, ◌∙◌, subst, arith, codes, cond, bytes_eq, ℤ, pos, negsuc, IsTrue, nat_le}
 use Rattle.std.specs.Prelude.{All, IfSome, Result, Ok, Err, slice_get, unwrap_or}
 use Rattle.std.specs.List.{AllZip, list_all}
 use Rattle.std.specs.Fmt.{decimal, signed_decimal}
@@ -9,9 +9,8 @@ use Rattle.std.proofs.lemmas.Bool.{and_parts, le-leb}
 use Rattle.std.proofs.lemmas.Fmt.{IsAscii-decimal}
 use Rattle.std.proofs.lemmas.Int.{ints}
 use Rattle.std.proofs.lemmas.List.Concat.{flat_map-cons}
-use Rattle.std.proofs.lemmas.List.Elements.{All-append, All-cons, All-contains, All-get_or, All-head, All-nil, All-tail, recursion_from_All}
+use Rattle.std.proofs.lemmas.List.Elements.{All-append, All-cons, All-contains, All-get_or, All-head, All-nil, All-tail}
 use Rattle.std.proofs.lemmas.List.Folds.{list_all-append}
-use Rattle.std.proofs.lemmas.List.Sums.{list_all-from_AllPass}
 use Rattle.std.proofs.lemmas.Option.{unwrap_or-slice_get}
 use Rattle.std.proofs.lemmas.Slice.Eq.{bytes_eq-Decides}
 use Rattle.csv.specs.Reading.{default_config, records}
@@ -37,7 +36,7 @@ use Rattle.optra_cert.specs.Certs.{Cert, IsAmount, IsListed, IsWritable, IsWrita
 use Rattle.optra_cert.specs.CertTexts.{action_word, cert_records, cert_text, from_word, head_records, item_records, leg_record, leg_records, price_record}
 use Rattle.optra_cert.specs.CertLaws.{IsTextOf, TextHasNoFault, TextTellsCert}
 use Rattle.optra_cert.specs.Forms.{version_of}
-use Rattle.optra_cert.specs.Steps.{fault, read_behind, read_records, read_rows, read_text, started}
+use Rattle.optra_cert.specs.Steps.{fault, read_behind, read_records, read_text}
 use Rattle.optra_cert.specs.TextLemmas.{ascii_text, word_text}
 use Rattle.optra_cert.specs.declared.CertCode.TheVariants as code
 use Rattle.optra_cert.specs.declared.CertFault.{CertFault}
@@ -176,16 +175,16 @@ module _ {R : Type 0} (cmp : R → R → Ordering) (texts : RowTexts R) (are : A
   items_text (item ∷ items) formed writable =
       subst (λ (rows : List Record). All IsText rows) (sym (flat_map-cons (item_records texts net) item items))
       (All-append IsText (item_records texts net item) (flat_map (item_records texts net) items)
-       (item_text item (All-head (IsFormedItem cmp net bids) item items formed) (All-head (IsWritableItem texts net version) item items writable))
-       (items_text items (All-tail (IsFormedItem cmp net bids) item items formed) (All-tail (IsWritableItem texts net version) item items writable)))
+      (item_text item (All-head (IsFormedItem cmp net bids) item items formed) (All-head (IsWritableItem texts net version) item items writable))
+      (items_text items (All-tail (IsFormedItem cmp net bids) item items formed) (All-tail (IsWritableItem texts net version) item items writable)))
 
   head_text : (revenue bound : ℤ) → version < 10 ^ 18 → IsAmount revenue → IsAmount bound → All IsText (head_records version revenue bound)
   head_text revenue bound small r b =
       All-cons IsText (codes "optra-certificate" ∷ decimal version ∷ []) ((codes "revenue" ∷ signed_decimal revenue ∷ []) ∷ (codes "bound" ∷ signed_decimal bound ∷ []) ∷ [])
       (pair_text (codes "optra-certificate") (decimal version) (word_text (codes "optra-certificate") refl) (number_text version small))
       (All-cons IsText (codes "revenue" ∷ signed_decimal revenue ∷ []) ((codes "bound" ∷ signed_decimal bound ∷ []) ∷ [])
-       (pair_text (codes "revenue") (signed_decimal revenue) (word_text (codes "revenue") refl) (amount_text revenue r))
-       (one (codes "bound" ∷ signed_decimal bound ∷ []) (pair_text (codes "bound") (signed_decimal bound) (word_text (codes "bound") refl) (amount_text bound b))))
+      (pair_text (codes "revenue") (signed_decimal revenue) (word_text (codes "revenue") refl) (amount_text revenue r))
+      (one (codes "bound" ∷ signed_decimal bound ∷ []) (pair_text (codes "bound") (signed_decimal bound) (word_text (codes "bound") refl) (amount_text bound b))))
 
   -- each record of a certificate that is writable can be printed, and its fields are UTF-8
   cert_texts : (cert : Cert R) → version < 10 ^ 18 → IsWritable cmp texts net bids version cert → All IsText (cert_records texts net version cert)
@@ -193,8 +192,8 @@ module _ {R : Type 0} (cmp : R → R → Ordering) (texts : RowTexts R) (are : A
       let entries = writable.formed.entries in
       All-append IsText (head_records version cert.revenue cert.bound ++ leg_records net 0 cert.choice) (flat_map (item_records texts net) cert.tree)
       (All-append IsText (head_records version cert.revenue cert.bound) (leg_records net 0 cert.choice)
-       (head_text cert.revenue cert.bound small writable.revenue writable.bound)
-       (legs_text 0 cert.choice (omega (arith, entries)) writable.formed.walks))
+      (head_text cert.revenue cert.bound small writable.revenue writable.bound)
+      (legs_text 0 cert.choice (omega (arith, entries)) writable.formed.walks))
       (items_text cert.tree writable.formed.items writable.items)
 
 -- ---- records that are texts are those of their text

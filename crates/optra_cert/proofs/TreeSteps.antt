@@ -1,33 +1,29 @@
 -- One item or price more: the records of the tree, and what a tree keeps.
-use Rattle.std.proofs.Common.{◌≡◌, ◌<◌, ◌≤◌, ◌^◌, ◌+◌, ◌-◌, ◌++◌, ◌==◌, ◌&&◌, ◌⊎◌, inl, inr, ℕ, zero, suc, Bool, true, false, List, [], ◌∷◌, length, get_or, map, flat_map, Option, Some, None, refl, sym, ap, ◌∙◌, subst, arith, codes, append_assoc, cond, ℤ, pos}
-use Rattle.std.specs.Prelude.{All, Result, Ok, Err, slice_get}
-use Rattle.std.specs.List.{AllPairs}
+use Rattle.std.proofs.Common.{◌≡◌, ◌<◌, ◌^◌, ◌+◌, ◌-◌, ◌++◌, ◌⊎◌, inl, inr, ℕ, zero, suc, Bool, true, false, List, [], ◌∷◌, length, get_or, map, flat_map, Option, Some, refl, sym, ap, ◌∙◌, subst, arith, codes, append_assoc, cond, ℤ}
+use Rattle.std.specs.Prelude.{All, Ok, Err, slice_get}
 use Rattle.std.specs.Option.{option_map_or}
 use Rattle.std.specs.Fmt.{decimal}
 use Rattle.std.specs.Ordering.{is_lt}
 use Rattle.std.specs.declared.cmp.Ordering.{Ordering}
 use Rattle.std.specs.declared.cmp.Ordering.TheVariants.{Less, Equal, Greater}
-use Rattle.std.proofs.lemmas.Bool.{ne_eqb, eqb-true, eqb-false, and_parts, cases_eq}
+use Rattle.std.proofs.lemmas.Bool.{ne_eqb, cases_eq}
 use Rattle.std.proofs.lemmas.List.{append-nil, length_push, map_push}
+use Rattle.std.proofs.lemmas.List.Concat.{flat_map-append}
 use Rattle.std.proofs.lemmas.List.Elements.{All-nil, All-push}
 use Rattle.std.proofs.lemmas.List.Quantifiers.{all_pairs_push}
 use Rattle.std.proofs.lemmas.Option.{slice_get-get_or}
 use Rattle.optra_network.specs.Net.{Net}
-use Rattle.optra_walk.specs.declared.Leg.{Leg}
 use Rattle.optra_node.specs.declared.Item.{Item}
-use Rattle.optra_node.specs.declared.Item.TheVariants.{Split, NoWalk, Forced, Priced}
+use Rattle.optra_node.specs.declared.Item.TheVariants.{Priced}
 use Rattle.optra_node.specs.Certificates.{AreAscending, IsFormedItem}
 use Rattle.optra_node.specs.Duals.{PriceList}
-use Rattle.optra_node.specs.Nodes.{IsFormedLeg}
 use Rattle.optra_node.specs.Trees.{arity, open_count}
-use Rattle.optra_records.specs.Reading.{Field, Record}
+use Rattle.optra_records.specs.Reading.{Record}
 use Rattle.optra_cert.specs.RowTexts.{RowTexts}
 use Rattle.optra_cert.specs.Certs.{IsListed, IsWritableItem}
-use Rattle.optra_cert.specs.CertTexts.{item_records, leg_record, price_record}
-use Rattle.optra_cert.specs.Steps.{TreeSoFar, count_added, filled, is_above, leaf_added, no_tree, price_added, split_added}
-use Rattle.optra_cert.specs.declared.CertCode.{CertCode}
+use Rattle.optra_cert.specs.CertTexts.{item_records, price_record}
+use Rattle.optra_cert.specs.Steps.{TreeSoFar, count_added, filled, is_above, no_tree, price_added}
 use Rattle.optra_cert.specs.declared.CertCode.TheVariants as codes
-use Rattle.optra_cert.proofs.RecordLemmas.{items_more}
 
 -- ---- nodes that are open
 
@@ -47,6 +43,11 @@ pending (suc due) = 1
 pending_none : (due : ℕ) → due ≡ 0 → pending due ≡ 0
 pending_none zero e = refl
 pending_none (suc due) e = absurd (omega (arith, e))
+
+-- one more item
+items_more : {R : Type 0} (texts : RowTexts R) (net : Net) (items : List (Item R)) (item : Item R) → flat_map (item_records texts net) (items ++ item ∷ []) ≡ flat_map (item_records texts net) items ++ item_records texts net item
+items_more texts net items item =
+    flat_map-append (item_records texts net) items (item ∷ []) ∙ ap (λ (t : List Record). flat_map (item_records texts net) items ++ t) (append-nil (item_records texts net item))
 
 -- ---- prices that ascend
 
@@ -259,6 +260,6 @@ module _ {R : Type 0} (cmp : R → R → Ordering) (texts : RowTexts R) (net : N
       let same : tree.due - 1 + length (tree.prices ++ entry ∷ []) ≡ tree.due + length tree.prices = omega (arith, long, due) in
       leaf_so_far_records tree.items tree.ways (tree.due - 1) (tree.prices ++ entry ∷ [])
       ∙ ap (λ (t : List Record). items ++ t)
-        (leaf_push (tree.due - 1 + length (tree.prices ++ entry ∷ [])) (tree.due + length tree.prices) tree.prices entry same
-        ∙ ap (λ (t : List Record). t ++ price_record texts net entry ∷ []) (sym (open_text tree.due left tree.prices due)))
+      (leaf_push (tree.due - 1 + length (tree.prices ++ entry ∷ [])) (tree.due + length tree.prices) tree.prices entry same
+      ∙ ap (λ (t : List Record). t ++ price_record texts net entry ∷ []) (sym (open_text tree.due left tree.prices due)))
       ∙ sym (append_assoc items (leaf_records tree.due tree.prices) (price_record texts net entry ∷ []))

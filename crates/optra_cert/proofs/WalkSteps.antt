@@ -1,18 +1,16 @@
 -- One leg more: the records of the choice, and what a choice keeps.
-use Rattle.std.proofs.Common.{◌≡◌, ◌<◌, ◌≤◌, ◌+◌, ◌++◌, ◌==◌, ℕ, zero, suc, Bool, true, false, List, [], ◌∷◌, length, map, replicate, Option, Some, None, refl, sym, ap, ◌∙◌, subst, arith, codes, append_assoc, cond, set}
-use Rattle.std.specs.Prelude.{All, IfSome, Result, Ok, Err, slice_get, slice_set, unwrap_or, nat_le}
-use Rattle.std.specs.Option.{option_map_or}
+use Rattle.std.proofs.Common.{◌≡◌, ◌<◌, ◌≤◌, ◌+◌, ◌++◌, ℕ, zero, suc, Bool, true, false, List, [], ◌∷◌, length, map, replicate, Option, Some, None, refl, sym, ap, ◌∙◌, arith, codes, append_assoc, cond}
+use Rattle.std.specs.Prelude.{All, IfSome, Ok, Err, slice_set, nat_le}
 use Rattle.std.proofs.lemmas.Bool.{leb-true, le-leb}
-use Rattle.std.proofs.lemmas.List.{append-nil, length_push, length-set, length-replicate, map_push, set_at}
+use Rattle.std.proofs.lemmas.List.{append-nil, length_push, length-set, length-replicate, map_push}
 use Rattle.std.proofs.lemmas.List.Elements.{All-nil, All-cons, All-head, All-tail, All-push, All-set}
 use Rattle.optra_network.specs.Net.{Net}
 use Rattle.optra_walk.specs.declared.Leg.{Leg}
 use Rattle.optra_node.specs.Certificates.{IsFormedWalk}
 use Rattle.optra_node.specs.Nodes.{IsFormedLeg, legs_at}
-use Rattle.optra_records.specs.Reading.{Field, Record}
+use Rattle.optra_records.specs.Reading.{Record}
 use Rattle.optra_cert.specs.CertTexts.{leg_record, leg_records}
 use Rattle.optra_cert.specs.Steps.{WalksSoFar, leg_added, no_walks}
-use Rattle.optra_cert.specs.declared.CertCode.{CertCode}
 use Rattle.optra_cert.specs.declared.CertCode.TheVariants as codes
 
 -- a choice of some bids
@@ -71,8 +69,8 @@ module _ (net : Net) where
       ∙ ap (λ (k : ℕ). leg_records net (start + 1) choice ++ leg_record net (codes "leg") k leg ∷ []) (omega arith)
   leg_set start (suc n) (Some legs ∷ choice) leg within none =
       ap (λ (t : List Record). own start legs ++ t)
-        (leg_set (start + 1) n choice leg (omega (arith, within)) none
-        ∙ ap (λ (k : ℕ). leg_records net (start + 1) choice ++ leg_record net (codes "leg") k leg ∷ []) (omega arith))
+      (leg_set (start + 1) n choice leg (omega (arith, within)) none
+      ∙ ap (λ (k : ℕ). leg_records net (start + 1) choice ++ leg_record net (codes "leg") k leg ∷ []) (omega arith))
       ∙ sym (append_assoc (own start legs) (leg_records net (start + 1) choice) (leg_record net (codes "leg") (start + suc n) leg ∷ []))
 
   legs_formed : (choice : Choice) (n : ℕ) → All (λ walk. IfSome walk (IsFormedWalk net)) choice → All (IsFormedLeg net) (legs_at choice n)

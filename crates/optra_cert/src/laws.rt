@@ -1,5 +1,6 @@
-//! The laws that lead from a valid certificate to its text.
-ghost use Rattle.std.specs.Prelude.{◌≡◌};
+//! The laws that lead from a valid certificate to its text, and back.
+ghost use Rattle.std.specs.Prelude.{◌≡◌, ◌≤◌, length};
+ghost use Rattle.optra_cert.specs.CertLaws.{OneFirstFault, TextHasNoFault, TextTellsCert};
 ghost use Rattle.optra_cert.specs.Headways.{headway_texts};
 ghost use Rattle.optra_cert.specs.RowTexts.{AreApart};
 ghost use Rattle.optra_cert.specs.Writables.{ValidIsWritable};
@@ -14,6 +15,34 @@ pub fn valid_is_writable<F: RowText>(inst: Instance<'_>, rows: &F)
         (F.KeepsRule rows.entry.now inst.entry.net.now) inst.entry.bids.now }
 {
     let _ = inst.net.track_count();
+    let _ = rows;
+}
+
+/// A text is that of one certificate alone: two writable certificates with the same text are equal.
+pub fn text_tells_cert<F: RowText>(inst: Instance<'_>, rows: &F)
+    requires few { length inst.bids.now ≤ 1000 }
+    requires apart { AreApart (F.texts_of rows.now).kinds }
+    ensures { TextTellsCert F.Row.cmp (F.texts_of rows.entry.now) inst.entry.net.now (length inst.entry.bids.now) }
+{
+    let _ = inst.net.track_count();
+    let _ = rows.version();
+}
+
+/// The text of a writable certificate has no fault, so it is read as that certificate.
+pub fn text_has_no_fault<F: RowText>(inst: Instance<'_>, rows: &F)
+    requires few { length inst.bids.now ≤ 1000 }
+    requires apart { AreApart (F.texts_of rows.now).kinds }
+    ensures { TextHasNoFault F.Row.cmp (F.texts_of rows.entry.now) inst.entry.net.now (length inst.entry.bids.now) }
+{
+    let _ = inst.net.track_count();
+    let _ = rows.version();
+}
+
+/// Bytes have at most one first fault.
+pub fn first_fault_is_one<F: RowText>(inst: Instance<'_>, rows: &F)
+    ensures { OneFirstFault F.Row.cmp (F.texts_of rows.entry.now) inst.entry.net.now (length inst.entry.bids.now) }
+{
+    let _ = inst;
     let _ = rows;
 }
 

@@ -25,7 +25,10 @@ mod rows_told;
 mod writing;
 
 pub use cell::Cell;
-pub use laws::{headway_kinds_are_apart, valid_is_writable};
+pub use laws::{
+    first_fault_is_one, headway_kinds_are_apart, text_has_no_fault, text_tells_cert,
+    valid_is_writable,
+};
 pub use record_reader::read_certificate;
 pub use row_text::{RowRead, RowText};
 pub use writing::write_certificate;

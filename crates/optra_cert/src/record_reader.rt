@@ -2,9 +2,10 @@
 //!
 //! A text is first compared with its own records, written again. Then its records are taken one after the other, so no
 //! second text is held, and what is kept is the certificate as far as it goes.
-ghost use Rattle.std.specs.Prelude.{◌≡◌, ◌+◌, ◌<◌, ◌≤◌, ◌^◌, drop, length, IfOk, IfSome, IsSome};
+ghost use Rattle.std.specs.Prelude.{◌≡◌, ◌+◌, ◌<◌, ◌≤◌, ◌^◌, drop, length, IfErr, IfOk, IfSome};
 ghost use Rattle.csv.specs.Records.{fields_of};
 ghost use Rattle.optra_network.specs.Net.{IsFromTo};
+ghost use Rattle.optra_cert.specs.CertLaws.{IsAnswer, IsTextOf};
 ghost use Rattle.optra_cert.specs.Forms.{version_of};
 ghost use Rattle.optra_cert.specs.Frames.{CanRead, version_told};
 ghost use Rattle.optra_cert.specs.Outcomes.{Reads};
@@ -26,7 +27,11 @@ use std::alloc::Global;
 /// The row of the first record behind that of the version.
 const FIRST_ROW: u64 = 2;
 
-/// The certificate of which bytes are the text, in a version from 1 to that of the family, or their first fault.
+/// The certificate of which bytes are the text, in a version from 1 to that of the family, or their first fault. Each
+/// text of a certificate that is writable in such a version is read, and no other bytes are.
+///
+/// Nothing is guessed: bytes that are almost a text have a fault. No count in the bytes reserves memory before what it
+/// counts has come, and no call goes deeper the longer they are.
 pub fn read_certificate<F: RowText>(
     alloc: Global,
     inst: Instance<'_>,
@@ -35,10 +40,12 @@ pub fn read_certificate<F: RowText>(
 ) -> Result<Certificate<F::Row>, CertError>
     requires few { length inst.bids.now ≤ 1000 }
     requires apart { AreApart (F.texts_of rows.now).kinds }
-    ensures { Reads (λ cert. cert) result
-        (read_text F.Row.cmp (F.texts_of rows.now) inst.entry.net.now (length inst.entry.bids.now) bytes.now) }
+    ensures ok { IfOk result (IsTextOf F.Row.cmp (F.texts_of rows.now) inst.entry.net.now (length inst.entry.bids.now) bytes.now) }
+    ensures err { IfErr result (IsAnswer F.Row.cmp (F.texts_of rows.now) inst.entry.net.now (length inst.entry.bids.now) bytes.now) }
 {
-    read_text(alloc, inst, rows, bytes)
+    let _proper = inst.net.track_count();
+    let most = rows.version();
+    read_text(alloc, inst, rows, most, bytes)
 }
 
 /// A fault in a row.
@@ -54,10 +61,12 @@ fn read_text<F: RowText>(
     alloc: Global,
     inst: Instance<'_>,
     rows: &F,
+    most: u8,
     bytes: &[u8],
 ) -> Result<Certificate<F::Row>, CertError>
     requires few { length inst.bids.now ≤ 1000 }
     requires apart { AreApart (F.texts_of rows.now).kinds }
+    requires most { most ≡ (F.texts_of rows.now).version }
     ensures { Reads (λ cert. cert) result
         (read_text F.Row.cmp (F.texts_of rows.now) inst.entry.net.now (length inst.entry.bids.now) bytes.now) }
 {
@@ -65,7 +74,7 @@ fn read_text<F: RowText>(
         return fault(CertCode::Csv, 0);
     }
     let mut records = Records::of_text(alloc, bytes);
-    read_records(alloc, inst, rows, &mut records)
+    read_records(alloc, inst, rows, most, &mut records)
 }
 
 /// The certificate of records, or their first fault.
@@ -74,16 +83,18 @@ fn read_records<F: RowText>(
     alloc: Global,
     inst: Instance<'_>,
     rows: &F,
+    most: u8,
     records: &mut Records<'_>,
 ) -> Result<Certificate<F::Row>, CertError>
     requires few { length inst.bids.now ≤ 1000 }
     requires apart { AreApart (F.texts_of rows.now).kinds }
+    requires most { most ≡ (F.texts_of rows.now).version }
     requires fits { length records.old + 2 < 2 ^ 64 }
     ensures { Reads (λ cert. cert) result
         (read_records F.Row.cmp (F.texts_of rows.now) inst.entry.net.now (length inst.entry.bids.now) records.old) }
 {
     let mut row = ByteRecord::new(alloc);
-    let Some(version) = read_version(records, &mut row, rows.version())? else {
+    let Some(version) = read_version(records, &mut row, most)? else {
         return fault(CertCode::Version, 1);
     };
     let frame = Frame {

@@ -1,0 +1,14 @@
+use Rattle.std.proofs.Common.{◌<◌, ◌^◌, length, arith}
+use Rattle.optra_cert.proofs.TextBack.{one_cert}
+use Rattle.optra_cert.proofs.laws.text_tells_cert.Goals as goal
+
+pub returns : goal.returns
+returns g c =
+    let texts = g.F.RowText.texts_of c.args.rows.now in
+    let apart = c.requires.apart in
+    let most = c.requires.few in
+    let small = c.version.type_inv in
+    let same = c.version.ensures.version in
+    let few : length c.args.inst.bids.now < 10 ^ 18 = omega (arith, most) in
+    let known : texts.version < 10 ^ 18 = omega (arith, small, same) in
+    one_cert g.F.Row.Ord.cmp texts apart (g.met.F.RowText.are_texts c.args.rows.now apart) c.args.inst.net.now c.track_count.ensures.proper.built (length c.args.inst.bids.now) few known
