@@ -87,7 +87,7 @@ fn verdict_on<F: RowText>(
 {
     let cert = match read_certificate(alloc, inst, rows, bytes) {
         Ok(cert) => cert,
-        Err(CertError::NoMemory) => return Err(NoMemory),
+        Err(CertError::NoMemory) => return Err(AllocError),
         Err(CertError::Fault(fault)) => {
             return Ok(VerdictView::Unreadable {
                 row: fault.row,

@@ -1,4 +1,5 @@
 //! Laws of the printed plan and of the verdict on it, each as the contract of a call that does nothing else.
+ghost use Rattle.std.specs.Prelude.{◌≤◌, length};
 ghost use Rattle.optra_rows.specs.Headways.{KeepsHeadwayRule};
 ghost use Rattle.optra_top.specs.CheckLaws.{ConfirmsPlan};
 ghost use Rattle.optra_top.specs.PlanLaws.{OneText};
@@ -27,6 +28,7 @@ pub fn one_text(inst: Instance<'_>)
 /// A law, and no work: what the plan command puts as its certificate, the check command answers Yes of, with the printed
 /// revenue and bound.
 pub fn check_confirms_plan(inst: Instance<'_>)
+    requires { length inst.bids.now ≤ 1000 }
     ensures { ConfirmsPlan inst.entry.net.now inst.entry.bids.now }
 {
     headway_kinds_are_apart();
