@@ -1,0 +1,4 @@
+pub mod LowerLemmas
+pub mod OwnLemmas
+pub mod OpenLemmas
+pub mod WayLemmas

@@ -1,0 +1,4 @@
+-- What a check says, and the ways that a walk over a tree has still to go.
+pub mod Verdicts
+pub mod Ways
+pub mod Opens
