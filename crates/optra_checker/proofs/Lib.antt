@@ -2,3 +2,4 @@ pub mod LowerLemmas
 pub mod OwnLemmas
 pub mod OpenLemmas
 pub mod WayLemmas
+pub mod AtLemmas

@@ -9,6 +9,7 @@ use optra_network::Cents;
 
 mod open_node;
 mod own_lists;
+mod splitting;
 mod taking;
 
 /// What a check says of a certificate.
