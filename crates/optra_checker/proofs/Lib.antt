@@ -3,3 +3,5 @@ pub mod OwnLemmas
 pub mod OpenLemmas
 pub mod WayLemmas
 pub mod AtLemmas
+pub mod EarnLemmas
+pub mod FitLemmas

@@ -2,3 +2,4 @@
 pub mod Verdicts
 pub mod Ways
 pub mod Opens
+pub mod Fits

@@ -7,10 +7,13 @@
 
 use optra_network::Cents;
 
+mod fitting;
 mod open_node;
 mod own_lists;
+mod pricing;
 mod splitting;
 mod taking;
+mod walks;
 
 /// What a check says of a certificate.
 #[derive(Clone, Copy, Debug, PartialEq, Eq)]
