@@ -13,7 +13,7 @@ use Rattle.optra_node.specs.Trees.{children, open_after, placed, root, places, I
 use Rattle.optra_node.proofs.LoadLemmas.{contains_head}
 use Rattle.optra_node.proofs.PlaceLemmas.{one_more}
 use Rattle.optra_checker.specs.Opens.{AreSame}
-use Rattle.optra_checker.specs.Ways.{to_come, open_with, IsNextWay, IsAt}
+use Rattle.optra_checker.specs.ToCome.{to_come, open_with, IsNextWay, IsAt}
 
 placed-append : {R : Type 0} (ways : List (List Decision)) (items later : List (Item R)) → placed ways (items ++ later) ≡ placed ways items ++ placed (open_after ways items) later
 placed-append ways [] later = refl

@@ -8,12 +8,14 @@
 use optra_network::Cents;
 
 mod fitting;
+mod leaf_prices;
 mod open_node;
 mod own_lists;
 mod pricing;
 mod splitting;
 mod taking;
 mod walks;
+mod weighing;
 
 /// What a check says of a certificate.
 #[derive(Clone, Copy, Debug, PartialEq, Eq)]

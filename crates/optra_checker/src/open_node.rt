@@ -6,7 +6,7 @@ ghost use Rattle.optra_node.specs.Spans.{IsLegOk, IsLetBy, IsStartOk};
 ghost use Rattle.optra_node.specs.Summaries.{decisions_for};
 ghost use Rattle.optra_node.specs.Trees.{children};
 ghost use Rattle.optra_node.specs.Certificates.{IsFormedItem, SplitsUndecided};
-ghost use Rattle.optra_checker.specs.Ways.{to_come, IsNextWay};
+ghost use Rattle.optra_checker.specs.ToCome.{to_come, IsNextWay};
 
 use crate::own_lists::{add_own, drop_own, empty_lists};
 use crate::taking::take_decision;

@@ -2,8 +2,8 @@ use Rattle.std.proofs.Common.{◌≡◌, ◌++◌, ◌∷◌, [], sym, ◌∙◌
 use Rattle.optra_node.specs.Summaries.{Summed, summed}
 use Rattle.optra_node.specs.Trees.{decide_not}
 use Rattle.optra_checker.specs.Opens.{AreSame}
-use Rattle.optra_checker.specs.Ways.{to_come, open_with, IsNextWay}
-use Rattle.optra_checker.proofs.WayLemmas.{no_leaves_none, yes_leaves_no, if_ok}
+use Rattle.optra_checker.specs.ToCome.{to_come, open_with, IsNextWay}
+use Rattle.optra_checker.proofs.ToComeLemmas.{no_leaves_none, yes_leaves_no, if_ok}
 use Rattle.optra_checker.proofs.open_node.OpenNode.turn.Goals as goal
 
 pub returns-then-last-clause-next : goal.returns-then-last-clause-next

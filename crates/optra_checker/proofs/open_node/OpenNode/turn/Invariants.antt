@@ -1,6 +1,6 @@
 use Rattle.std.proofs.Common.{◌≡◌, length}
 use Rattle.optra_checker.specs.Opens.{AreSame}
-use Rattle.optra_checker.specs.Ways.{to_come}
+use Rattle.optra_checker.specs.ToCome.{to_come}
 use Rattle.optra_checker.proofs.open_node.OpenNode.turn.Given as goal
 
 abbrev pub invariant-back : goal.invariant-back

@@ -4,7 +4,7 @@ use Rattle.std.specs.Prelude.{◌⊎◌, Result, Ok, Err, IfOk}
 use Rattle.std.proofs.lemmas.List.{append-nil}
 use Rattle.optra_node.specs.declared.Decision.{Decision}
 use Rattle.optra_node.specs.Trees.{decide_not}
-use Rattle.optra_checker.specs.Ways.{to_come_behind, to_come, open_with, IsNextWay}
+use Rattle.optra_checker.specs.ToCome.{to_come_behind, to_come, open_with, IsNextWay}
 
 -- what a decision leaves to come beside what stands before it
 abbrev left_by : List Decision → Decision → List (List Decision)
