@@ -6,3 +6,4 @@ pub mod AtLemmas
 pub mod EarnLemmas
 pub mod FitLemmas
 pub mod LeafPriceLemmas
+pub mod TestLemmas

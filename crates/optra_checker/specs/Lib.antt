@@ -4,3 +4,4 @@ pub mod ToCome
 pub mod Opens
 pub mod Fits
 pub mod Weights
+pub mod Tests
