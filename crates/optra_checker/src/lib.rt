@@ -1,0 +1,4 @@
+//! The checker of certificates.
+#![tactic(auto)]
+
+mod weighing;
