@@ -1,1 +1,4 @@
 pub mod Weights
+pub mod Places
+pub mod Settings
+pub mod Rests

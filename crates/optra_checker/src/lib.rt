@@ -1,4 +1,5 @@
 //! The checker of certificates.
 #![tactic(auto)]
 
+mod states;
 mod weighing;

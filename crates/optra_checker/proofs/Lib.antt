@@ -1,0 +1,4 @@
+pub mod PlaceLemmas
+pub mod RestLemmas
+pub mod HorizonLemmas
+pub mod WayLemmas
