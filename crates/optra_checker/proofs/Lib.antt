@@ -2,3 +2,4 @@ pub mod PlaceLemmas
 pub mod RestLemmas
 pub mod HorizonLemmas
 pub mod WayLemmas
+pub mod BestLemmas

@@ -35,10 +35,10 @@ pub record LeavesAs (net : Net) (s : State) (leg : Leg) : Type 0 where
 get_suc : {X : Type 0} (x : X) (xs : List X) (k : ℕ) → slice_get (x ∷ xs) (suc k) ≡ slice_get xs k
 get_suc x xs k = refl
 
-all_tail : {X : Type 0} (P : X → Type 0) (x : X) (xs : List X) → All P (x ∷ xs) → All P xs
+pub all_tail : {X : Type 0} (P : X → Type 0) (x : X) (xs : List X) → All P (x ∷ xs) → All P xs
 all_tail P x xs h k d l = h (suc k) d (omega arith)
 
-all_head : {X : Type 0} (P : X → Type 0) (x : X) (xs : List X) → All P (x ∷ xs) → P x
+pub all_head : {X : Type 0} (P : X → Type 0) (x : X) (xs : List X) → All P (x ∷ xs) → P x
 all_head P x xs h = h 0 x (omega arith)
 
 adjacent_tail : {X : Type 0} (R : X → X → Type 0) (x : X) (xs : List X) → AllAdjacentBelow R (x ∷ xs) (length (x ∷ xs)) → AllAdjacentBelow R xs (length xs)
