@@ -3,3 +3,4 @@ pub mod RestLemmas
 pub mod HorizonLemmas
 pub mod WayLemmas
 pub mod BestLemmas
+pub mod MoveLemmas
