@@ -266,3 +266,48 @@ module _ (w : Weights) (net : Net) (bid : Bid) (table : RestTable) (s : State) (
         (λ leg e. on_way net bid.path s way.track leg (inl e)) (λ leg e. on_way net bid.path s way.track leg (inr e))
         (best_both w net bid s (IsLegBy s way.track Pass) (IsHaltBy s way.track) (λ leg. IsLegBy s way.track Pass leg ⊎ IsHaltBy s way.track leg) a b (λ leg m e. e) (λ leg e. inl e) (λ leg e. inr e) pass halts)
         (best_both w net bid s (IsWaitBy s way.track) (IsLegBy s way.track Finish) (λ leg. IsWaitBy s way.track leg ⊎ IsLegBy s way.track Finish leg) c d (λ leg m e. e) (λ leg e. inl e) (λ leg e. inr e) waits finish)
+
+    -- ---- halts and waits, dwell by dwell
+
+    pub halt_start : (stop : Stop) → slice_get bid.path.stops s.done ≡ Some stop → IsBestRest w net bid s (IsHaltBelow s way.track stop.min_dwell) None
+    halt_start stop at = best_none w net bid s (IsHaltBelow s way.track stop.min_dwell)
+        (λ leg m h. let f = halt_meets net bid.path s way by leg h.0 stop at m h.2 in let least = f.2.0 in let l = h.1 in absurd (omega arith))
+
+    pub halt_push : (d : ℕ) (a b : Option ℤ) → IsBestRest w net bid s (IsHaltBelow s way.track d) a → IsBestRest w net bid s (IsLegBy s way.track (Halt d)) b
+        → IsBestRest w net bid s (IsHaltBelow s way.track (d + 1)) (greater_of a b)
+    halt_push d a b h k = best_both w net bid s (IsHaltBelow s way.track d) (IsLegBy s way.track (Halt d)) (IsHaltBelow s way.track (d + 1)) a b
+        (λ leg m e. split leg e (cases_lt e.0 d)) (λ leg e. let l = e.1 in (e.0, omega arith, e.2)) (λ leg e. (d, omega arith, e)) h k
+      where
+        split : (leg : Leg) → (e : IsHaltBelow s way.track (d + 1) leg) → (e.0 < d) ⊎ (d ≤ e.0) → IsHaltBelow s way.track d leg ⊎ IsLegBy s way.track (Halt d) leg
+        split leg e (inl l) = inl (e.0, l, e.2)
+        split leg e (inr l) = let b = e.1 in let same : e.0 ≡ d = omega arith in inr (e.2 ∙ ap (λ n. leg_by s way.track (Halt n)) same)
+
+    pub halt_end : (stop : Stop) (d : ℕ) (a : Option ℤ) → slice_get bid.path.stops s.done ≡ Some stop → stop.max_dwell < d → IsBestRest w net bid s (IsHaltBelow s way.track d) a
+        → IsBestRest w net bid s (IsHaltBy s way.track) a
+    halt_end stop d a at over h = best_same w net bid s (IsHaltBelow s way.track d) (IsHaltBy s way.track) a (λ leg m e. (e.0, e.2))
+        (λ leg m e. let f = halt_meets net bid.path s way by leg e.0 stop at m e.1 in let most = f.2.1 in (e.0, omega arith, e.1)) h
+
+    pub halt_none : (stop : Stop) → slice_get bid.path.stops s.done ≡ Some stop → ((stop.station ≡ way.head) × (stop.arrive.from ≤ way.halt) × (way.halt ≤ stop.arrive.to) → ⊥)
+        → IsBestRest w net bid s (IsHaltBy s way.track) None
+    halt_none stop at apart = best_none w net bid s (IsHaltBy s way.track)
+        (λ leg m e. let f = halt_meets net bid.path s way by leg e.0 stop at m e.1 in apart (f.0, f.1.0, f.1.1))
+
+    pub halt_no_stop : slice_get bid.path.stops s.done ≡ None → IsBestRest w net bid s (IsHaltBy s way.track) None
+    halt_no_stop none = best_none w net bid s (IsHaltBy s way.track) (no_halt net bid.path s way by none)
+
+    pub wait_start : IsBestRest w net bid s (IsWaitBelow s way.track 1) None
+    wait_start = best_none w net bid s (IsWaitBelow s way.track 1)
+        (λ leg m h. let f = wait_within net bid.path s way by leg h.0 m h.2 in let least = f.0 in let l = h.1 in absurd (omega arith))
+
+    pub wait_push : (d : ℕ) (a b : Option ℤ) → IsBestRest w net bid s (IsWaitBelow s way.track d) a → IsBestRest w net bid s (IsLegBy s way.track (Wait d)) b
+        → IsBestRest w net bid s (IsWaitBelow s way.track (d + 1)) (greater_of a b)
+    wait_push d a b h k = best_both w net bid s (IsWaitBelow s way.track d) (IsLegBy s way.track (Wait d)) (IsWaitBelow s way.track (d + 1)) a b
+        (λ leg m e. split leg e (cases_lt e.0 d)) (λ leg e. let l = e.1 in (e.0, omega arith, e.2)) (λ leg e. (d, omega arith, e)) h k
+      where
+        split : (leg : Leg) → (e : IsWaitBelow s way.track (d + 1) leg) → (e.0 < d) ⊎ (d ≤ e.0) → IsWaitBelow s way.track d leg ⊎ IsLegBy s way.track (Wait d) leg
+        split leg e (inl l) = inl (e.0, l, e.2)
+        split leg e (inr l) = let b = e.1 in let same : e.0 ≡ d = omega arith in inr (e.2 ∙ ap (λ n. leg_by s way.track (Wait n)) same)
+
+    pub wait_end : (d : ℕ) (a : Option ℤ) → bid.path.wait_max < d → IsBestRest w net bid s (IsWaitBelow s way.track d) a → IsBestRest w net bid s (IsWaitBy s way.track) a
+    wait_end d a over h = best_same w net bid s (IsWaitBelow s way.track d) (IsWaitBy s way.track) a (λ leg m e. (e.0, e.2))
+        (λ leg m e. let f = wait_within net bid.path s way by leg e.0 m e.1 in let most = f.1 in (e.0, omega arith, e.1)) h

@@ -5,3 +5,4 @@ pub mod Rests
 pub mod Ways
 pub mod Tables
 pub mod Shares
+pub mod Sizes

@@ -2,6 +2,7 @@
 #![tactic(auto)]
 
 mod rest_table;
+mod rests;
 mod shares;
 mod states;
 mod ways;
