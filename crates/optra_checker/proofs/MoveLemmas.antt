@@ -311,3 +311,28 @@ module _ (w : Weights) (net : Net) (bid : Bid) (table : RestTable) (s : State) (
     pub wait_end : (d : ℕ) (a : Option ℤ) → bid.path.wait_max < d → IsBestRest w net bid s (IsWaitBelow s way.track d) a → IsBestRest w net bid s (IsWaitBy s way.track) a
     wait_end d a over h = best_same w net bid s (IsWaitBelow s way.track d) (IsWaitBy s way.track) a (λ leg m e. (e.0, e.2))
         (λ leg m e. let f = wait_within net bid.path s way by leg e.0 m e.1 in let most = f.1 in (e.0, omega arith, e.1)) h
+
+-- a rest by a leg that departs at a minute of the two days, where the rest behind it departs later
+pub less_size : (depart : ℕ) (rest share cost n : ℤ) → depart ≤ 2879 → IsRestSize (depart + 1) rest → pos 0 ≤ℤ share → share ≤ℤ pos 1000000000000000
+    → pos 0 ≤ℤ cost → cost ≤ℤ pos 1152921504606846976 → n ≡ rest -ℤ share -ℤ cost → IsRestSize depart n
+less_size depart rest share cost n l h s t c d e =
+    let low = h.0 in
+    let high = h.1 in
+    let more : 2880 - depart ≡ 2880 - (depart + 1) + 1 = omega arith in
+    (omega (arith, ints), omega (arith, ints))
+
+-- ---- the same under other names
+
+pub named_size : (x leg : Leg) (after : State) (o rest : Option ℤ) → x.depart < after.minute → IfSome o (IsRestSize after.minute) → leg ≡ x → rest ≡ o → IfSome rest (IsRestSize (leg.depart + 1))
+named_size x leg after o rest l h e f =
+    let d = ap (λ (y : Leg). y.depart) e in
+    subst (λ (r : Option ℤ). IfSome r (IsRestSize (leg.depart + 1))) (sym f) (sizes_before after.minute (leg.depart + 1) o (omega arith) h)
+
+pub named_best : (w : Weights) (net : Net) (bid : Bid) (s : State) (P : Leg → Type 0) (x leg : Leg) (share given : ℤ) (o rest result : Option ℤ) → leg ≡ x → given ≡ share → rest ≡ o
+    → result ≡ worth_by w leg given rest → IfSome result (IsRestSize leg.depart) → x.depart ≡ s.minute
+    → (IfSome (worth_by w x share o) (IsRestSize s.minute) → IsBestRest w net bid s P (worth_by w x share o)) → IsBestRest w net bid s P result
+named_best w net bid s P x leg share given o rest result e f r v size at best =
+    let d : leg.depart ≡ s.minute = ap (λ (y : Leg). y.depart) e ∙ at in
+    let is : result ≡ worth_by w x share o = v ∙ (λ i. worth_by w (e i) (f i) (r i)) in
+    let sized : IfSome (worth_by w x share o) (IsRestSize s.minute) = subst (λ (q : Option ℤ). IfSome q (IsRestSize s.minute)) is (subst (λ (n : ℕ). IfSome result (IsRestSize n)) d size) in
+    subst (IsBestRest w net bid s P) (sym is) (best sized)
