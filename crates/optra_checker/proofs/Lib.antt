@@ -4,3 +4,4 @@ pub mod HorizonLemmas
 pub mod WayLemmas
 pub mod BestLemmas
 pub mod MoveLemmas
+pub mod TrackLemmas

@@ -14,7 +14,7 @@ wait_rest-rest-requires-clause-wait g c = wait_move c.args.net.now c.args.bid.no
 pub loop-dwell-preserved : goal.loop-dwell-preserved
 loop-dwell-preserved g c =
     let w = g.W.Weighing.weights c.args.weighing.now in
-    subst (λ (o : Option ℤ). IsBestRest w c.args.net.now c.args.bid.now c.args.state (IsWaitBelow c.args.state c.args.way.track (c.loop-dwell.dwell + 1)) o) (sym c.greater.ensures)
+    subst (λ (o : Option ℤ). IsBestRest w c.args.net.now c.args.bid.now c.args.state (IsWaitBelow c.args.state c.args.way.track (c.loop-dwell.dwell + 1)) o) (sym c.greater-best.ensures)
     (wait_push w c.args.net.now c.args.bid.now c.args.table.now c.args.state c.requires.ready c.args.way c.requires.way c.requires.weights c.loop-dwell.dwell c.loop-dwell.best c.wait_rest-rest.result c.loop-dwell.invariant c.wait_rest-rest.ensures)
 
 pub returns : goal.returns
