@@ -5,3 +5,4 @@ pub mod WayLemmas
 pub mod BestLemmas
 pub mod MoveLemmas
 pub mod TrackLemmas
+pub mod ValueLemmas

@@ -55,7 +55,7 @@ adjacent_cons R x y xs r h (suc k) d l =
     let e : suc (k + 1) ≡ suc k + 1 = omega arith in
     subst (λ i. R (get_or (y ∷ xs) k d) (get_or (x ∷ y ∷ xs) i d)) e (h k d (omega arith))
 
-last_suc : (x y : Leg) (r : List Leg) → last_leg (x ∷ y ∷ r) ≡ last_leg (y ∷ r)
+pub last_suc : (x y : Leg) (r : List Leg) → last_leg (x ∷ y ∷ r) ≡ last_leg (y ∷ r)
 last_suc x y r =
     let e : suc (suc (length r)) - 1 ≡ suc (suc (length r) - 1) = omega arith in
     ap (slice_get (x ∷ y ∷ r)) e
