@@ -6,3 +6,4 @@ pub mod BestLemmas
 pub mod MoveLemmas
 pub mod TrackLemmas
 pub mod ValueLemmas
+pub mod FillLemmas

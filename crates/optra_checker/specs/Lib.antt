@@ -6,3 +6,4 @@ pub mod Ways
 pub mod Tables
 pub mod Shares
 pub mod Sizes
+pub mod Starts

@@ -5,5 +5,6 @@ mod rest_table;
 mod rests;
 mod shares;
 mod states;
+mod table;
 mod ways;
 mod weighing;

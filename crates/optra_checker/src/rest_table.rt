@@ -1,6 +1,6 @@
 //! The best rests of states, in one dense table.
-ghost use Rattle.std.specs.Prelude.{◌≡◌, ◌+◌, ◌<◌, length, IfOk, replicate, None};
-ghost use Rattle.optra_checker.specs.Places.{IsPlaced, IsSmall, places_of};
+ghost use Rattle.std.specs.Prelude.{◌≡◌, ◌+◌, ◌<◌, length, IfOk, slice_set};
+ghost use Rattle.optra_checker.specs.Places.{IsPlaced, IsSmall};
 ghost use Rattle.optra_checker.specs.Tables.{IsTable, rest_at};
 
 use crate::states::{Layout, State};
@@ -37,5 +37,14 @@ impl RestTable {
             return None;
         }
         self.rests[layout.place(state) as usize]
+    }
+
+    /// Puts the best rest of the state at a place there.
+    pub(crate) fn put(&mut self, place: u32, rest: Option<i128>)
+        requires { place < length self.old.rests.items }
+        ensures rests { self.new.rests.items ≡ slice_set self.old.rests.items place rest }
+        ensures layout { self.new.layout ≡ self.old.layout }
+    {
+        self.rests[place as usize] = rest;
     }
 }
