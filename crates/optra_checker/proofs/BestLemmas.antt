@@ -1,17 +1,14 @@
 -- The best rest of a walk: of two kinds together, and by one leg from what is behind it.
-use Rattle.std.proofs.Common.{◌≡◌, ℕ, ◌⊎◌, inl, inr, Bool, true, false, List, [], ◌∷◌, All, Option, None, Some, IfSome, refl, sym, ap, ◌∙◌, subst, arith, true≢false}
-use Rattle.std.specs.Prelude.{ℤ, pos, ◌-ℤ◌, ◌≤ℤ◌, ⊤, if◌then◌else◌}
+use Rattle.std.proofs.Common.{◌≡◌, ◌⊎◌, inl, inr, Bool, true, false, List, [], ◌∷◌, Option, None, Some, IfSome, refl, sym, ap, ◌∙◌, subst, arith, true≢false}
+use Rattle.std.specs.Prelude.{ℤ, pos, ◌-ℤ◌, ◌≤ℤ◌, if◌then◌else◌}
 use Rattle.std.specs.Int.{int_max}
 use Rattle.std.proofs.lemmas.Int.{ints, clamps}
 use Rattle.std.proofs.lemmas.List.Elements.{All-cons}
 use Rattle.optra_network.specs.Net.{Net}
-use Rattle.optra_bid.specs.Specs.{Path}
 use Rattle.optra_bid.specs.declared.bids.Bid.{Bid}
-use Rattle.optra_walk.specs.declared.Action.{Action}
 use Rattle.optra_walk.specs.declared.Action.TheVariants.{Finish}
 use Rattle.optra_walk.specs.declared.Leg.{Leg}
 use Rattle.optra_walk.specs.Legs.{is_finish}
-use Rattle.optra_node.specs.Duals.{IsGreatest}
 use Rattle.optra_checker.specs.Weights.{Weights}
 use Rattle.optra_checker.specs.declared.states.State.{State}
 use Rattle.optra_checker.specs.Rests.{IsMove, IsAfter, IsRest, IsOpenRest, IsRestWorth, IsGreatestOf, IsRestSize, IsBestRest, AnyLeg, greater_of, worth_by, rest_worth, share_of}

@@ -7,3 +7,4 @@ pub mod MoveLemmas
 pub mod TrackLemmas
 pub mod ValueLemmas
 pub mod FillLemmas
+pub mod StartLemmas

@@ -1,11 +1,11 @@
 -- The legs by one way: which may be next, and what is behind them.
-use Rattle.std.proofs.Common.{◌≡◌, ℕ, zero, suc, ◌+◌, ◌-◌, ◌*◌, ◌≤◌, ◌<◌, ◌⊎◌, inl, inr, Bool, true, false, cond, List, [], ◌∷◌, length, Option, None, Some, IfSome, IsSomeAnd, slice_get, refl, sym, ap, ◌∙◌, subst, arith, nat_lt, slice_index_or}
-use Rattle.std.specs.Prelude.{ℤ, pos, ◌-ℤ◌, ◌≤ℤ◌, ⊤, if◌then◌else◌, unwrap_or}
+use Rattle.std.proofs.Common.{◌≡◌, ℕ, ◌+◌, ◌-◌, ◌*◌, ◌≤◌, ◌<◌, ◌⊎◌, inl, inr, Bool, true, false, ◌∷◌, length, Option, None, Some, IfSome, IsSomeAnd, slice_get, refl, sym, ap, ◌∙◌, subst, arith, nat_lt}
+use Rattle.std.specs.Prelude.{ℤ, pos, ◌-ℤ◌, ◌≤ℤ◌, if◌then◌else◌, unwrap_or}
 use Rattle.std.specs.Option.{option_map}
 use Rattle.std.proofs.lemmas.Int.{ints}
 use Rattle.std.proofs.lemmas.Bool.{cases_lt, lt-ltb}
 use Rattle.std.proofs.lemmas.Option.{get_or_from_slice_get, slice_get_within}
-use Rattle.optra_network.specs.Net.{Net, IsFromTo, MayUse}
+use Rattle.optra_network.specs.Net.{Net, IsFromTo}
 use Rattle.optra_network.specs.declared.TrackId.{TrackId}
 use Rattle.optra_network.specs.declared.TypeId.{TypeId}
 use Rattle.optra_bid.specs.Specs.{Path, IsStop}
@@ -19,12 +19,10 @@ use Rattle.optra_walk.specs.Walks.{MeetsStop}
 use Rattle.optra_walk.specs.Families.{IsUsable}
 use Rattle.optra_checker.specs.Weights.{Weights, AreWeightsFor}
 use Rattle.optra_checker.specs.declared.states.State.{State}
-use Rattle.optra_checker.specs.declared.states.Layout.{Layout}
 use Rattle.optra_checker.specs.declared.ways.Way.{Way}
 use Rattle.optra_checker.specs.declared.rest_table.RestTable.{RestTable}
 use Rattle.optra_checker.specs.Places.{IsPlaced, place_of, mode_of}
-use Rattle.optra_checker.specs.Settings.{IsSetting}
-use Rattle.optra_checker.specs.Rests.{FitsAction, IsMove, IsAfter, IsRest, IsRestWorth, IsRestSize, IsBestRest, AnyLeg, greater_of, worth_by, share_of, end_price, wait_price}
+use Rattle.optra_checker.specs.Rests.{FitsAction, IsMove, IsAfter, IsRestSize, IsBestRest, AnyLeg, greater_of, worth_by, end_price, wait_price}
 use Rattle.optra_checker.specs.Tables.{IsReadyFor, rest_at, entry_at}
 use Rattle.optra_checker.specs.Ways.{leg_by, IsWay, IsOn, IsLegBy, IsHaltBelow, IsHaltBy, IsWaitBelow, IsWaitBy}
 use Rattle.optra_checker.proofs.BestLemmas.{best_same, best_both, best_none, best_on, best_end}
@@ -118,7 +116,7 @@ module _ (net : Net) (path : Path) (s : State) where
         → (stop.station ≡ way.head) × IsFromTo stop.arrive.from stop.arrive.to way.halt × IsFromTo stop.min_dwell stop.max_dwell d
     halt_meets leg d stop at m e =
         let meets : MeetsStop net path.kind (leg_by s way.track (Halt d)) stop =
-            stop_of (MeetsStop net path.kind (leg_by s way.track (Halt d))) (slice_get path.stops s.done) stop at (move_at leg way.track (Halt d) e m) in
+        stop_of (MeetsStop net path.kind (leg_by s way.track (Halt d))) (slice_get path.stops s.done) stop at (move_at leg way.track (Halt d) e m) in
         (some_same _ stop.station way.head meets.place by.head, within_of _ way.halt stop.arrive.from stop.arrive.to by.halt meets.time, meets.dwell)
 
     -- without a stop that is left no halt may be next
@@ -201,7 +199,7 @@ module _ (w : Weights) (net : Net) (bid : Bid) (table : RestTable) (s : State) (
       pub halt_few : d ≤ 240
       halt_few =
           let is : IsStop stop_at.0 = subst IsStop (get_or_from_slice_get bid.path.stops s.done stop_at.0 stop_at.0 stop_at.1)
-              (ready.setting.stops s.done stop_at.0 (slice_get_within bid.path.stops s.done stop_at.0 stop_at.1)) in
+          (ready.setting.stops s.done stop_at.0 (slice_get_within bid.path.stops s.done stop_at.0 stop_at.1)) in
           let most = is.dwell_max in
           let within = stop_at.2.dwell.1 in
           omega arith

@@ -1,5 +1,5 @@
 -- The start and the rest of a walk add up to its worth.
-use Rattle.std.proofs.Common.{◌≡◌, ℕ, zero, suc, ◌+◌, ◌-◌, ◌≤◌, ◌<◌, inl, inr, false, List, [], ◌∷◌, length, Option, Some, None, IsSomeAnd, unwrap_or, refl, sym, ap, ◌∙◌, subst, arith}
+use Rattle.std.proofs.Common.{◌≡◌, ℕ, zero, suc, ◌+◌, ◌-◌, ◌≤◌, inl, inr, false, List, [], ◌∷◌, Option, Some, None, IsSomeAnd, unwrap_or, refl, sym, ap, ◌∙◌, subst, arith}
 use Rattle.std.specs.Prelude.{ℤ, pos, ◌+ℤ◌, ◌-ℤ◌, ◌*ℤ◌}
 use Rattle.std.specs.Option.{option_and_then}
 use Rattle.std.proofs.lemmas.Int.{ints}
@@ -11,8 +11,7 @@ use Rattle.optra_walk.specs.declared.Action.{Action}
 use Rattle.optra_walk.specs.declared.Action.TheVariants.{Pass, Halt, Wait, Finish}
 use Rattle.optra_walk.specs.declared.Leg.{Leg}
 use Rattle.optra_walk.specs.Legs.{is_finish, wait_of, arrival_of}
-use Rattle.optra_walk.specs.Walks.{last_leg}
-use Rattle.optra_walk.specs.Values.{first_departure, last_arrival, wait_minutes, price_off, price_under_way, value_of}
+use Rattle.optra_walk.specs.Values.{first_departure, last_arrival, wait_minutes, price_off, price_under_way}
 use Rattle.optra_walk.proofs.WalkLemmas.{arrival_later}
 use Rattle.optra_node.specs.Duals.{sum_of}
 use Rattle.optra_node.proofs.SumLemmas.{sum_of-cons}
@@ -114,7 +113,7 @@ module _ (w : Weights) (net : Net) (bid : Bid) where
       let l = rest_arrives proper (start_state bid.path d) legs h in
       let t = times_less bid.money.travel d (last_arrival net bid.path.kind legs) l in
       let v = ap (λ (k : ℕ). pos 1000 *ℤ (bid.money.base
-          -ℤ price_off bid.path.depart.ideal bid.money.early_depart bid.money.late_depart k
-          -ℤ price_off bid.path.arrive.ideal bid.money.early_arrive bid.money.late_arrive (last_arrival net bid.path.kind legs)
-          -ℤ price_under_way bid.money.travel (last_arrival net bid.path.kind legs - k) bid.money.wait (wait_minutes legs))) first in
+      -ℤ price_off bid.path.depart.ideal bid.money.early_depart bid.money.late_depart k
+      -ℤ price_off bid.path.arrive.ideal bid.money.early_arrive bid.money.late_arrive (last_arrival net bid.path.kind legs)
+      -ℤ price_under_way bid.money.travel (last_arrival net bid.path.kind legs - k) bid.money.wait (wait_minutes legs))) first in
       omega (arith, ints)

@@ -41,12 +41,7 @@ fn less(rest: i128, share: i64, cost: i128) -> i128
 }
 
 /// What the best rest that begins with the leg is worth, by the leg's share of the value and the best rest behind it.
-fn begin_with<W: Weighing>(
-    weighing: &W,
-    leg: Leg,
-    share: i64,
-    rest: Option<i128>,
-) -> Option<i128>
+fn begin_with<W: Weighing>(weighing: &W, leg: Leg, share: i64, rest: Option<i128>) -> Option<i128>
     requires usable { IsUsable (W.weights weighing.now).net (W.weights weighing.now).kind leg }
     requires share { IsShare share }
     requires rest { IfSome rest (IsRestSize (leg.depart + 1)) }

@@ -1,8 +1,7 @@
 //! The best walk of a bid, by a table over the minutes that is filled in one pass from late to early.
-ghost use Rattle.std.specs.Prelude.{◌≡◌, IfOk, IfSome, ◌+ℤ◌};
+ghost use Rattle.std.specs.Prelude.{◌≡◌, ◌≤◌, IfOk, IfSome, ◌+ℤ◌};
 ghost use Rattle.optra_bid.specs.Specs.{IsPathOn};
 ghost use Rattle.optra_network.specs.Net.{IsFromTo};
-
 ghost use Rattle.optra_checker.specs.Rests.{start_state};
 ghost use Rattle.optra_checker.specs.Shares.{IsStartValue};
 ghost use Rattle.optra_checker.specs.Sizes.{IsWholeRest};
@@ -16,7 +15,7 @@ use crate::rests::{greater, state_rest};
 use crate::shares::start_value;
 use crate::states::{State, make_layout};
 use crate::weighing::Weighing;
-use optra_bid::Bid;
+use optra_bid::{Bid, Window};
 use optra_network::{Minute, Network, NoMemory};
 use std::alloc::Global;
 
@@ -77,6 +76,14 @@ fn whole(start: i64, rest: i128) -> i128
     i128::from(start) + rest
 }
 
+/// The minutes at which a walk may depart.
+fn departures(bid: &Bid) -> Window
+    ensures window { result ≡ bid.now.path.depart }
+    ensures day { result.to ≤ 2879 }
+{
+    bid.path.depart
+}
+
 /// The best walk over all starts.
 fn best_start<W: Weighing>(
     net: &Network,
@@ -89,8 +96,9 @@ fn best_start<W: Weighing>(
     ensures best { IsBestWorth (W.weights weighing.now) net.now bid.now result }
     ensures size { IfSome result IsWorthSize }
 {
+    let window = departures(bid);
     let mut best = None;
-    for minute in bid.path.depart.from..bid.path.depart.to + 1 {
+    for minute in window.from..window.to + 1 {
         let walk = start_walk(net, bid, weighing, table, minute);
         best = greater(best, walk);
     }

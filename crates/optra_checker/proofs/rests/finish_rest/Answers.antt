@@ -1,5 +1,5 @@
 -- The leg that finishes, where the walk may end.
-use Rattle.std.proofs.Common.{arith, refl, ℤ, pos, Some, to_z, of_z, w64}
+use Rattle.std.proofs.Common.{arith, refl, pos, Some, to_z, of_z, w64}
 use Rattle.std.proofs.lemmas.Int.{ints}
 use Rattle.optra_walk.specs.declared.Action.TheVariants.{Finish}
 use Rattle.optra_checker.specs.Rests.{end_price}

@@ -1,10 +1,8 @@
 -- The leg that halts, and the rest behind it.
-use Rattle.std.proofs.Common.{arith, refl, subst, sym, ℤ, pos, ◌≡◌, ◌∙◌}
-use Rattle.std.proofs.lemmas.Int.{ints}
+use Rattle.std.proofs.Common.{arith, refl, subst, sym, pos}
 use Rattle.optra_walk.specs.declared.Leg.{Leg}
 use Rattle.optra_walk.specs.Families.{IsUsable}
 use Rattle.optra_walk.specs.declared.Action.TheVariants.{Halt}
-
 use Rattle.optra_checker.specs.Tables.{rest_at}
 use Rattle.optra_checker.specs.Ways.{leg_by, IsLegBy}
 use Rattle.optra_checker.proofs.MoveLemmas.{after_halt, halt_usable, halt_later, halt_best, named_size, named_best}

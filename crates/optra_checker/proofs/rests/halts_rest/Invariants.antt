@@ -1,5 +1,4 @@
 -- The best of the halts with shorter dwells.
-use Rattle.std.proofs.Common.{◌+◌, ◌≤◌}
 use Rattle.optra_checker.specs.Rests.{IsBestRest}
 use Rattle.optra_checker.specs.Ways.{IsHaltBelow}
 use Rattle.optra_checker.proofs.rests.halts_rest.Given as goal

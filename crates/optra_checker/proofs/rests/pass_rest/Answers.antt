@@ -1,5 +1,5 @@
 -- The leg that passes, and the rest behind it.
-use Rattle.std.proofs.Common.{refl, ℤ, pos}
+use Rattle.std.proofs.Common.{refl, pos}
 use Rattle.optra_walk.specs.declared.Action.TheVariants.{Pass}
 use Rattle.optra_checker.specs.Tables.{rest_at}
 use Rattle.optra_checker.specs.Ways.{leg_by, IsLegBy}

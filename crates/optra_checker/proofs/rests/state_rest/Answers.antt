@@ -1,5 +1,5 @@
 -- One more track.
-use Rattle.std.proofs.Common.{arith, subst, sym, Option, ℤ, ◌+◌}
+use Rattle.std.proofs.Common.{subst, sym, Option, ℤ, ◌+◌}
 use Rattle.optra_checker.specs.Rests.{IsBestRest}
 use Rattle.optra_checker.specs.Ways.{IsOnFirst}
 use Rattle.optra_checker.proofs.TrackLemmas.{tail_in, tracks_start, tracks_push, tracks_all}

@@ -1,6 +1,5 @@
 -- The way by the track, where the train may use it.
-use Rattle.std.proofs.Common.{arith, subst, sym, Option, ℤ}
-use Rattle.optra_network.specs.declared.TrackId.{TrackId}
+use Rattle.std.proofs.Common.{subst, sym, Option, ℤ}
 use Rattle.optra_checker.specs.Rests.{IsBestRest}
 use Rattle.optra_checker.specs.Ways.{IsOn}
 use Rattle.optra_checker.proofs.TrackLemmas.{track_none}

@@ -1,5 +1,5 @@
 -- The leg that waits, and the rest behind it.
-use Rattle.std.proofs.Common.{rules, arith, refl, ℤ, pos, ◌≡◌, ◌∙◌}
+use Rattle.std.proofs.Common.{arith, refl}
 use Rattle.std.proofs.lemmas.Int.{ints}
 use Rattle.optra_walk.specs.declared.Action.TheVariants.{Wait}
 use Rattle.optra_checker.specs.Rests.{wait_price}

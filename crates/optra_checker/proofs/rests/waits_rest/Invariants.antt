@@ -1,5 +1,4 @@
 -- The best of the waits with shorter dwells.
-use Rattle.std.proofs.Common.{◌+◌, ◌≤◌}
 use Rattle.optra_checker.specs.Rests.{IsBestRest}
 use Rattle.optra_checker.specs.Ways.{IsWaitBelow}
 use Rattle.optra_checker.proofs.rests.waits_rest.Given as goal
