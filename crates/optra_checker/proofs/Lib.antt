@@ -7,3 +7,14 @@ pub mod EarnLemmas
 pub mod FitLemmas
 pub mod LeafPriceLemmas
 pub mod TestLemmas
+pub mod PlaceLemmas
+pub mod RestLemmas
+pub mod HorizonLemmas
+pub mod WayLemmas
+pub mod BestLemmas
+pub mod MoveLemmas
+pub mod TrackLemmas
+pub mod ValueLemmas
+pub mod FillLemmas
+pub mod StartLemmas
+pub mod UsedLemmas

@@ -9,12 +9,20 @@ use optra_network::Cents;
 
 mod fitting;
 mod leaf_prices;
+mod leaf_weights;
 mod open_node;
 mod own_lists;
 mod pricing;
+mod rest_table;
+mod rests;
+mod shares;
 mod splitting;
+mod states;
+mod table;
 mod taking;
+mod terms;
 mod walks;
+mod ways;
 mod weighing;
 
 /// What a check says of a certificate.

@@ -1,13 +1,18 @@
 //! The node at hand while a tree is gone through.
-ghost use Rattle.std.specs.Prelude.{◌≡◌, ◌<◌, ◌↔◌, ◌++◌, ◌∷◌, [], IsTrue, IfOk, length};
+ghost use Rattle.std.specs.Prelude.{◌≡◌, ◌<◌, ◌↔◌, ◌++◌, ◌∷◌, [], IsTrue, IfOk, length, pos};
 ghost use Rattle.std.specs.List.{list_any};
 ghost use Rattle.optra_node.specs.Nodes.{IsFormedLeg, IsFormedDecision, IsUndecided, IsOverfull, IsBlocked, kind_at, has_yes};
 ghost use Rattle.optra_node.specs.Spans.{IsLegOk, IsLetBy, IsStartOk};
 ghost use Rattle.optra_node.specs.Summaries.{decisions_for};
 ghost use Rattle.optra_node.specs.Trees.{children};
-ghost use Rattle.optra_node.specs.Certificates.{IsFormedItem, SplitsUndecided};
+ghost use Rattle.optra_bid.specs.Specs.{IsBetween};
+ghost use Rattle.optra_walk.specs.Families.{IsUsable};
+ghost use Rattle.optra_node.specs.Duals.{ArePrices, leg_price, capacity_price};
+ghost use Rattle.optra_node.specs.Certificates.{IsFormedItem, SplitsUndecided, AreAscending};
+ghost use Rattle.optra_checker.specs.Tests.{may_have_leg, may_start_at};
 ghost use Rattle.optra_checker.specs.ToCome.{to_come, IsNextWay};
 
+use crate::leaf_prices::{capacity_price, leg_price};
 use crate::own_lists::{add_own, drop_own, empty_lists};
 use crate::taking::take_decision;
 use optra_network::{Minute, NoMemory};
@@ -243,5 +248,53 @@ impl<'a, F: RowFamily> OpenNode<'a, F> {
         ensures { IsTrue result ↔ IsLegOk self.now.net (F.rows_of self.now.family self.now.net) self.now.bids self.now.node bid (kind_at self.now.bids bid) leg }
     {
         self.let_by(bid, leg) && !self.blocked(bid, leg)
+    }
+
+    /// The instance.
+    pub(crate) fn inst(&self) -> Instance<'_>
+        ensures net { result.net.now ≡ self.now.net }
+        ensures bids { result.bids.now ≡ self.now.bids }
+    {
+        self.inst
+    }
+
+    /// Whether a walk of the bid may have the leg, on a track that its type may use.
+    pub(crate) fn usable_leg_ok(&self, bid: u32, leg: Leg) -> bool
+        requires bid { bid < length self.now.bids }
+        requires usable { IsUsable self.now.net (kind_at self.now.bids bid) leg }
+        ensures { result ≡ may_have_leg self.now.net (F.rows_of self.now.family self.now.net) (F.rows_used self.now.family self.now.net) self.now.bids self.now.node bid (kind_at self.now.bids bid) leg }
+    {
+        let _ = self.inst.net.track_count();
+        self.leg_ok(bid, leg)
+    }
+
+    /// Whether the bid may start at the minute, as a test.
+    pub(crate) fn may_start(&self, bid: u32, minute: Minute) -> bool
+        requires { bid < length self.now.bids }
+        ensures { result ≡ may_start_at self.now.node bid minute }
+    {
+        self.start_ok(bid, minute)
+    }
+
+    /// What the leg costs a walk of the bid at the prices, on a track that its type may use.
+    pub(crate) fn leg_price(&self, prices: &[(F::Row, i64)], bid: u32, leg: Leg) -> i128
+        requires bid { bid < length self.now.bids }
+        requires usable { IsUsable self.now.net (kind_at self.now.bids bid) leg }
+        requires ascending { AreAscending F.Row.cmp prices.now }
+        requires proper { ArePrices (F.rows_of self.now.family self.now.net) prices.now }
+        ensures value { result ≡ leg_price (F.rows_of self.now.family self.now.net) prices.now (kind_at self.now.bids bid) leg }
+        ensures range { IsBetween (pos 0) (pos 16384000000000000) result }
+    {
+        let inst = self.inst;
+        leg_price(inst, self.rows, prices, kind_at(inst, bid), leg)
+    }
+
+    /// The price of all capacity.
+    pub(crate) fn capacity_price(&self, prices: &[(F::Row, i64)]) -> i128
+        requires { ArePrices (F.rows_of self.now.family self.now.net) prices.now }
+        ensures value { result ≡ capacity_price (F.rows_of self.now.family self.now.net) prices.now }
+        ensures range { IsBetween (pos 0) (pos 2417851639229258349412352000000000000) result }
+    {
+        capacity_price(self.inst.net, self.rows, prices)
     }
 }
