@@ -18,3 +18,4 @@ pub mod ValueLemmas
 pub mod FillLemmas
 pub mod StartLemmas
 pub mod UsedLemmas
+pub mod LeafLemmas

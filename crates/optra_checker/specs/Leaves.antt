@@ -46,3 +46,8 @@ abbrev pub plus_of : Option ℤ → Option ℤ → Option ℤ
 plus_of None b = None
 plus_of (Some a) None = None
 plus_of (Some a) (Some b) = Some (a +ℤ b)
+
+-- the price of all capacity and a sum of terms; 0 where there is no sum
+abbrev pub dual_by : ℤ → Option ℤ → ℤ
+dual_by capacity None = pos 0
+dual_by capacity (Some sum) = capacity +ℤ sum

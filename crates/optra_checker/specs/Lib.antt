@@ -15,3 +15,4 @@ pub mod Shares
 pub mod Sizes
 pub mod Starts
 pub mod Leaves
+pub mod Bounds

@@ -41,23 +41,32 @@ PricesHold rows cert = All (HasPrices rows) cert.tree
 abbrev pub BoundHolds : {R : Type 0} → Net → Rows R → List Bid → Cert R → Type 0
 BoundHolds net rows bids cert = IsGreatestBound net rows bids cert.tree cert.bound
 
+-- the parts that speak of the choice
+pub record ChoiceHolds {R : Type 0} (net : Net) (Keeps : List Entry → Type 0) (bids : List Bid) (cert : Cert R) : Type 0 where
+  pub walks : WalksHold net bids cert
+  pub rule : RuleHolds Keeps bids cert
+  pub revenue_is : RevenueHolds net bids cert
+
+-- the parts that speak of the tree
+pub record TreeHolds {R : Type 0} (net : Net) (rows : Rows R) (bids : List Bid) (cert : Cert R) : Type 0 where
+  pub splits : SplitsHold cert
+  pub dead : LeavesHold net rows bids cert
+  pub prices : PricesHold rows cert
+  pub bound_is : BoundHolds net rows bids cert
+
 -- the reason is the first, in the order of the reasons, whose part of being valid fails
 abbrev pub IsFirstReason : {R : Type 0} → Net → Rows R → (List Entry → Type 0) → List Bid → Cert R → Reason → Type 0
 IsFirstReason net rows Keeps bids cert Walk = WalksHold net bids cert → ⊥
 IsFirstReason net rows Keeps bids cert Conflict = WalksHold net bids cert × (RuleHolds Keeps bids cert → ⊥)
 IsFirstReason net rows Keeps bids cert Revenue =
     WalksHold net bids cert × RuleHolds Keeps bids cert × (RevenueHolds net bids cert → ⊥)
-IsFirstReason net rows Keeps bids cert Decision =
-    WalksHold net bids cert × RuleHolds Keeps bids cert × RevenueHolds net bids cert × (SplitsHold cert → ⊥)
-IsFirstReason net rows Keeps bids cert DeadLeaf =
-    WalksHold net bids cert × RuleHolds Keeps bids cert × RevenueHolds net bids cert × SplitsHold cert
-    × (LeavesHold net rows bids cert → ⊥)
+IsFirstReason net rows Keeps bids cert Decision = ChoiceHolds net Keeps bids cert × (SplitsHold cert → ⊥)
+IsFirstReason net rows Keeps bids cert DeadLeaf = ChoiceHolds net Keeps bids cert × SplitsHold cert × (LeavesHold net rows bids cert → ⊥)
 IsFirstReason net rows Keeps bids cert Price =
-    WalksHold net bids cert × RuleHolds Keeps bids cert × RevenueHolds net bids cert × SplitsHold cert
-    × LeavesHold net rows bids cert × (PricesHold rows cert → ⊥)
+    ChoiceHolds net Keeps bids cert × SplitsHold cert × LeavesHold net rows bids cert × (PricesHold rows cert → ⊥)
 IsFirstReason net rows Keeps bids cert Bound =
-    WalksHold net bids cert × RuleHolds Keeps bids cert × RevenueHolds net bids cert × SplitsHold cert
-    × LeavesHold net rows bids cert × PricesHold rows cert × (BoundHolds net rows bids cert → ⊥)
+    ChoiceHolds net Keeps bids cert × SplitsHold cert × LeavesHold net rows bids cert × PricesHold rows cert
+    × (BoundHolds net rows bids cert → ⊥)
 
 -- Yes, with the stated numbers, of a valid certificate; else No, with the first reason
 abbrev pub IsVerdict : {R : Type 0} → Net → Rows R → (List Entry → Type 0) → List Bid → Cert R → Verdict → Type 0

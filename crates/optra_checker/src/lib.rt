@@ -7,9 +7,12 @@
 
 use optra_network::Cents;
 
+mod bounding;
+mod checking;
 mod fitting;
 mod leaf_prices;
 mod leaf_weights;
+mod leaves;
 mod open_node;
 mod own_lists;
 mod pricing;
@@ -24,6 +27,8 @@ mod terms;
 mod walks;
 mod ways;
 mod weighing;
+
+pub use checking::check;
 
 /// What a check says of a certificate.
 #[derive(Clone, Copy, Debug, PartialEq, Eq)]

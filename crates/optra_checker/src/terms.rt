@@ -1,10 +1,11 @@
 //! What the bids add to the dual value of a node, and the dual value.
 ghost use Rattle.std.specs.Prelude.{◌≡◌, ◌⊎◌, ◌<◌, ◌≤◌, length, slice_get, Some, IfOk, IfSome, pos, ◌≤ℤ◌};
+ghost use Rattle.optra_bid.specs.Specs.{IsBetween};
 ghost use Rattle.optra_bid.specs.Instances.{IsInstance};
 ghost use Rattle.optra_bid.specs.declared.bids.Bid.{Bid as Asked};
-ghost use Rattle.optra_node.specs.Duals.{ArePrices};
+ghost use Rattle.optra_node.specs.Duals.{ArePrices, whole_cents};
 ghost use Rattle.optra_node.specs.Certificates.{AreAscending, IsBoundOf};
-ghost use Rattle.optra_checker.specs.Leaves.{IsBestOffer, AreTerms, IsSumSize, plus_of};
+ghost use Rattle.optra_checker.specs.Leaves.{IsBestOffer, AreTerms, IsSumSize, plus_of, dual_by};
 ghost use Rattle.optra_checker.specs.Weights.{IsWorthSize};
 
 use crate::leaf_weights::LeafWeights;
@@ -85,6 +86,25 @@ fn term_sum<F: RowFamily>(
     Ok(sum)
 }
 
+/// The price of all capacity and a sum of terms; zero where there is no sum.
+fn dual_by(capacity: i128, sum: Option<i128>) -> i128
+    requires capacity { IsBetween (pos 0) (pos 2417851639229258349412352000000000000) capacity }
+    requires sum { IfSome sum (IsSumSize 1000) }
+    ensures { result ≡ dual_by capacity sum }
+{
+    match sum {
+        Some(sum) => capacity + sum,
+        None => 0,
+    }
+}
+
+/// Thousandths of a cent as whole cents, rounded down.
+fn whole_cents(value: i128) -> i128
+    ensures { result ≡ whole_cents value }
+{
+    value.div_euclid(1000)
+}
+
 /// The dual value of the node at the prices, in whole cents and rounded down.
 pub(crate) fn leaf_bound<F: RowFamily>(
     alloc: Global,
@@ -96,9 +116,7 @@ pub(crate) fn leaf_bound<F: RowFamily>(
     requires proper { ArePrices (F.rows_of node.now.family node.now.net) prices.now }
     ensures { IfOk result (IsBoundOf node.now.net (F.rows_of node.now.family node.now.net) node.now.bids node.now.node prices.now) }
 {
-    let value = match term_sum(alloc, node, prices)? {
-        Some(sum) => node.capacity_price(prices) + sum,
-        None => 0,
-    };
-    Ok(value.div_euclid(1000))
+    let sum = term_sum(alloc, node, prices)?;
+    let value = dual_by(node.capacity_price(prices), sum);
+    Ok(whole_cents(value))
 }
