@@ -42,6 +42,10 @@ still_open tree i whole l none =
     let n = length-take i tree in
     omega arith
 
+-- what is of the same family, network and bids
+pub as_summed : {F : Type 0} (family : F) (net : Net) (bids : List Bid) (v : Summed F) → AreSame (summed family net bids []) v → v ≡ summed family net bids v.node
+as_summed family net bids v same = λ i. record { family = sym same.family i; net = sym same.net i; bids = sym same.bids i; node = v.node }
+
 module _ {F R : Type 0} (family : F) (net : Net) (bids : List Bid) (tree : List (Item R)) where
   -- before the first item the root is open
   pub at_first : (v : Summed F) → v ≡ summed family net bids [] → IsAt family net bids tree 0 v

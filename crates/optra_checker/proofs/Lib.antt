@@ -19,3 +19,4 @@ pub mod FillLemmas
 pub mod StartLemmas
 pub mod UsedLemmas
 pub mod LeafLemmas
+pub mod BoundLemmas

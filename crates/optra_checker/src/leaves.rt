@@ -22,7 +22,8 @@ fn is_stuck<F: RowFamily>(
     requires bid { bid < length node.now.bids }
     ensures { IfOk result (λ stuck. IsTrue stuck ↔ IsSomeAnd (slice_get node.now.bids bid) (λ b. IsStuck node.now.net (F.rows_of node.now.family node.now.net) node.now.bids node.now.node bid b)) }
 {
-    let best = best_offer(alloc, node, &[], bid)?;
+    let prices = Vec::new(alloc);
+    let best = best_offer(alloc, node, &prices, bid)?;
     Ok(best.is_none())
 }
 
