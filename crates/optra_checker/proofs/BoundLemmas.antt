@@ -61,22 +61,24 @@ module _ {R : Type 0} (net : Net) (rows : Rows R) (bids : List Bid) where
       → IsGreatestOf net rows bids (ps ++ (node, Priced prices) ∷ []) (greater_of o (Some m))
   next_bound ps node prices None m is all = (
     All-push (λ (p : List Decision × Item R). IsWithin net rows bids m p.0 p.1) ps (node, Priced prices)
-    (All-weaker (λ (p : List Decision × Item R). IsUnpriced p.1) (λ (p : List Decision × Item R). IsWithin net rows bids m p.0 p.1) (λ p h. unpriced_within m p.0 p.1 h) ps all) (m, is, omega (arith, ints)),
+        (All-weaker (λ (p : List Decision × Item R). IsUnpriced p.1) (λ (p : List Decision × Item R). IsWithin net rows bids m p.0 p.1) (λ p h. unpriced_within m p.0 p.1 h) ps all) (m, is, omega (arith, ints)),
     (node, prices, Contains-append_right ps ((node, Priced prices) ∷ []) (node, Priced prices) (contains_head (node, Priced prices) [] (node, Priced prices) refl), is),
   )
   next_bound ps node prices (Some b) m is so_far = by (max_sides b m)
     where
       by : ((m ≤ℤ b) × (int_max b m ≡ b)) ⊎ ((b ≤ℤ m) × (int_max b m ≡ m)) → IsGreatestOf net rows bids (ps ++ (node, Priced prices) ∷ []) (Some (int_max b m))
       by (inl (l, e)) =
-          subst (λ n. IsGreatestOf net rows bids (ps ++ (node, Priced prices) ∷ []) (Some n)) (sym e)
-          (All-push (λ (p : List Decision × Item R). IsWithin net rows bids b p.0 p.1) ps (node, Priced prices) so_far.0 (m, is, l),
-          (let r = so_far.1 in (r.0, r.1, Contains-append_left ps ((node, Priced prices) ∷ []) (r.0, Priced r.1) r.2, r.3)))
+          subst (λ n. IsGreatestOf net rows bids (ps ++ (node, Priced prices) ∷ []) (Some n)) (sym e) (
+            All-push (λ (p : List Decision × Item R). IsWithin net rows bids b p.0 p.1) ps (node, Priced prices) so_far.0 (m, is, l),
+            (let r = so_far.1 in (r.0, r.1, Contains-append_left ps ((node, Priced prices) ∷ []) (r.0, Priced r.1) r.2, r.3)),
+          )
       by (inr (l, e)) =
-          subst (λ n. IsGreatestOf net rows bids (ps ++ (node, Priced prices) ∷ []) (Some n)) (sym e)
-          (All-push (λ (p : List Decision × Item R). IsWithin net rows bids m p.0 p.1) ps (node, Priced prices)
-          (All-weaker (λ (p : List Decision × Item R). IsWithin net rows bids b p.0 p.1) (λ (p : List Decision × Item R). IsWithin net rows bids m p.0 p.1) (λ p h. within_more b m l p.0 p.1 h) ps so_far.0)
-          (m, is, omega (arith, ints)),
-          (node, prices, Contains-append_right ps ((node, Priced prices) ∷ []) (node, Priced prices) (contains_head (node, Priced prices) [] (node, Priced prices) refl), is))
+          subst (λ n. IsGreatestOf net rows bids (ps ++ (node, Priced prices) ∷ []) (Some n)) (sym e) (
+            All-push (λ (p : List Decision × Item R). IsWithin net rows bids m p.0 p.1) ps (node, Priced prices)
+                (All-weaker (λ (p : List Decision × Item R). IsWithin net rows bids b p.0 p.1) (λ (p : List Decision × Item R). IsWithin net rows bids m p.0 p.1) (λ p h. within_more b m l p.0 p.1 h) ps so_far.0)
+                (m, is, omega (arith, ints)),
+            (node, prices, Contains-append_right ps ((node, Priced prices) ∷ []) (node, Priced prices) (contains_head (node, Priced prices) [] (node, Priced prices) refl), is),
+          )
 
   none_more : (o : Option ℤ) → greater_of o None ≡ o
   none_more None = refl

@@ -135,7 +135,7 @@ module _ (net : Net) (kind : TypeId) where
       by d false e = ((λ h b. absurd (grind (arith, nat_tests))), (λ h. refl))
 
   module _ {R : Type 0} (cmp : R → R → Ordering) (rows : Rows R) (used : TypeId → Leg → List R) (bids : List Bid) (node : List Decision) (number : ℕ) (leg : Leg)
-    (lists : ListsRows cmp rows.is_row (rows.uses kind leg) (used kind leg)) where
+      (lists : ListsRows cmp rows.is_row (rows.uses kind leg) (used kind leg)) where
     abbrev Fits : R → Type 0
     Fits row = rows.uses kind leg row + others_load rows bids node number row ≤ rows.capacity row
 

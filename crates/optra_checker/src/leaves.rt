@@ -13,11 +13,7 @@ use optra_walk::{Instance, RowFamily};
 use std::alloc::Global;
 
 /// Whether the bid has a yes leg and no allowed walk.
-fn is_stuck<F: RowFamily>(
-    alloc: Global,
-    node: &OpenNode<'_, F>,
-    bid: u32,
-) -> Result<bool, NoMemory>
+fn is_stuck<F: RowFamily>(alloc: Global, node: &OpenNode<'_, F>, bid: u32) -> Result<bool, NoMemory>
     requires instance { IsInstance node.now.net node.now.bids }
     requires bid { bid < length node.now.bids }
     ensures { IfOk result (λ stuck. IsTrue stuck ↔ IsSomeAnd (slice_get node.now.bids bid) (λ b. IsStuck node.now.net (F.rows_of node.now.family node.now.net) node.now.bids node.now.node bid b)) }

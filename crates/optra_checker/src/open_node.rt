@@ -203,8 +203,7 @@ impl<'a, F: RowFamily> OpenNode<'a, F> {
         ensures { IsTrue result ↔ IsOverfull (F.rows_of self.now.family self.now.net) self.now.bids self.now.node row }
     {
         let net = self.inst.net;
-        self.rows.is_row(net, row)
-            && u128::from(self.rows.cap(net, row)) < total(&self.totals, row)
+        self.rows.is_row(net, row) && u128::from(self.rows.cap(net, row)) < total(&self.totals, row)
     }
 
     /// As [`optra_node::Node::start_ok`] of the node.

@@ -16,8 +16,7 @@ returns-then-not-branch-2 g c =
     let rows = g.F.RowFamily.rows_of c.args.rows.now net in
     let Splits = λ (tree : List (Item g.row.F-Row.Denot)). All (λ p. SplitsUndecided p.0 p.1) (places tree) in
     let Leaves = λ (tree : List (Item g.row.F-Row.Denot)). All (λ p. EndsDead net rows bids p.0 p.1) (places tree) in
-    let is = c.items-tree.ensures in
-    (
+    let is = c.items-tree.ensures in (
       c.requires.choice,
       subst Splits is (c.in_ok-splits_hold.ensures.0 c.if-not-branch.false),
       λ h. not_both c.in_ok-leaves_hold.field-0 c.if-not-branch-2.true (c.in_ok-leaves_hold.ensures.1 (subst Leaves (sym is) h)),
@@ -30,8 +29,7 @@ returns-then-not-prices_hold g c =
     let rows = g.F.RowFamily.rows_of c.args.rows.now net in
     let Splits = λ (tree : List (Item g.row.F-Row.Denot)). All (λ p. SplitsUndecided p.0 p.1) (places tree) in
     let Leaves = λ (tree : List (Item g.row.F-Row.Denot)). All (λ p. EndsDead net rows bids p.0 p.1) (places tree) in
-    let is = c.items-tree.ensures in
-    (
+    let is = c.items-tree.ensures in (
       c.requires.choice,
       subst Splits is (c.in_ok-splits_hold.ensures.0 c.if-not-branch.false),
       subst Leaves is (c.in_ok-leaves_hold.ensures.0 c.if-not-branch-2.false),
@@ -47,14 +45,13 @@ returns-then-not-branch-3 g c =
     let Leaves = λ (tree : List (Item g.row.F-Row.Denot)). All (λ p. EndsDead net rows bids p.0 p.1) (places tree) in
     let is = c.items-tree.ensures in
     let fits : FitsSigned w64 c.cert.inside.bound = search rules in
-    let stated = to_z-of_z w64 c.cert.inside.bound fits ∙ ap (λ (v : Cert g.row.F-Row.Denot). v.bound) c.cert.view_is in
-    (
+    let stated = to_z-of_z w64 c.cert.inside.bound fits ∙ ap (λ (v : Cert g.row.F-Row.Denot). v.bound) c.cert.view_is in (
       c.requires.choice,
       subst Splits is (c.in_ok-splits_hold.ensures.0 c.if-not-branch.false),
       subst Leaves is (c.in_ok-leaves_hold.ensures.0 c.if-not-branch-2.false),
       subst (All (HasPrices rows)) is (c.prices_hold.ensures.0 c.if-not-prices_hold.false),
       λ h. not_both c.in_ok-bound_holds.field-0 c.if-not-branch-3.true (c.in_ok-bound_holds.ensures.1
-      (subst (IsGreatestBound net rows bids c.items-tree.result.now) (sym stated) (subst (λ tree. IsGreatestBound net rows bids tree c.args.cert.now.bound) (sym is) h))),
+          (subst (IsGreatestBound net rows bids c.items-tree.result.now) (sym stated) (subst (λ tree. IsGreatestBound net rows bids tree c.args.cert.now.bound) (sym is) h))),
     )
 
 pub returns : goal.returns

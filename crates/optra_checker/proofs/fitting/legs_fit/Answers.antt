@@ -16,12 +16,11 @@ returns-then-not-branch-clause-within g c =
     let rows = g.F.RowFamily.rows_of c.args.rows.now c.args.net.now in
     let total = total_of g.F.Row.Ord.cmp in
     let kind = c.args.kind in
-    let legs = c.args.legs.now in
-    (
+    let legs = c.args.legs.now in (
       λ t. absurd (no_true t),
       λ within. absurd (not_both c.in_ok-leg_fits.field-0 c.if-not-branch.true (c.in_ok-leg_fits.ensures.within.1
-      (within_below rows (total c.leg_fits.new.totals) (λ q. total c.args.totals.now q + load_of rows q (map (λ (leg : Leg). (kind, leg)) legs))
-      (λ q. let a = c.in_ok-leg_fits.ensures.added q in let b = c.legs.invariant.added q in let l = legs_below rows kind q legs c.legs.leg-index any_leg c.legs-test.true in omega arith) within))),
+          (within_below rows (total c.leg_fits.new.totals) (λ q. total c.args.totals.now q + load_of rows q (map (λ (leg : Leg). (kind, leg)) legs))
+          (λ q. let a = c.in_ok-leg_fits.ensures.added q in let b = c.legs.invariant.added q in let l = legs_below rows kind q legs c.legs.leg-index any_leg c.legs-test.true in omega arith) within))),
     )
 
 pub returns-clause-within : goal.returns-clause-within
@@ -30,9 +29,8 @@ returns-clause-within g c =
     let total = total_of g.F.Row.Ord.cmp in
     let kind = c.args.kind in
     let legs = c.args.legs.now in
-    let all = take_all c.legs.leg-index legs c.legs-test.false in
-    (
+    let all = take_all c.legs.leg-index legs c.legs-test.false in (
       λ _. within_same rows (λ q. total c.args.totals.now q + load_of rows q (map (λ (leg : Leg). (kind, leg)) legs)) (total c.legs.totals)
-      (λ q. sym (c.legs.invariant.added q ∙ ap (λ ls. total c.args.totals.now q + load_of rows q (map (λ (leg : Leg). (kind, leg)) ls)) all)) c.legs.invariant.within,
+          (λ q. sym (c.legs.invariant.added q ∙ ap (λ ls. total c.args.totals.now q + load_of rows q (map (λ (leg : Leg). (kind, leg)) ls)) all)) c.legs.invariant.within,
       λ _. refl,
     )

@@ -18,8 +18,7 @@ returns-then-not-branch g c =
     let P = λ (p : List Decision × Item g.row.F-Row.Denot). EndsDead net (g.F.RowFamily.rows_of c.args.rows.now net) bids p.0 p.1 in
     let v = c.items.node in
     let told = subst (λ (w : Summed g.row.F.Denot). IsTrue c.in_ok-ends_dead.field-0 ↔ EndsDead w.net (g.F.RowFamily.rows_of w.family w.net) w.bids w.node c.item-item.result)
-    (as_summed c.args.rows.now net bids v c.items.invariant.at.same) c.in_ok-ends_dead.ensures in
-    (
+    (as_summed c.args.rows.now net bids v c.items.invariant.at.same) c.in_ok-ends_dead.ensures in (
       λ t. absurd (no_true t),
       λ all. absurd (not_both c.in_ok-ends_dead.field-0 c.if-not-branch.true (told.1 (here_of_all c.args.rows.now c.args.inst.net.now c.args.inst.bids.now c.args.tree.now c.items.item-index c.item-item.result c.items.node c.items-test.true c.item-item.is c.items.invariant.at P all))),
     )
@@ -41,8 +40,7 @@ pub returns : goal.returns
 returns g c =
     let net = c.args.inst.net.now in
     let bids = c.args.inst.bids.now in
-    let P = λ (p : List Decision × Item g.row.F-Row.Denot). EndsDead net (g.F.RowFamily.rows_of c.args.rows.now net) bids p.0 p.1 in
-    (
+    let P = λ (p : List Decision × Item g.row.F-Row.Denot). EndsDead net (g.F.RowFamily.rows_of c.args.rows.now net) bids p.0 p.1 in (
       λ _. all_past c.args.rows.now net bids c.args.tree.now P c.items.item-index c.items-test.false c.items.invariant.so_far,
       λ _. refl,
     )

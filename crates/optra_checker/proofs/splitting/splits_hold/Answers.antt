@@ -8,8 +8,7 @@ use Rattle.optra_checker.proofs.splitting.splits_hold.Goals as goal
 
 pub returns-then-not-is_fresh : goal.returns-then-not-is_fresh
 returns-then-not-is_fresh g c =
-    let P = λ (p : List Decision × Item g.row.F-Row.Denot). SplitsUndecided p.0 p.1 in
-    (
+    let P = λ (p : List Decision × Item g.row.F-Row.Denot). SplitsUndecided p.0 p.1 in (
       λ t. absurd (no_true t),
       λ all. absurd (not_both c.is_fresh.result c.if-not-is_fresh.true (c.is_fresh.ensures.1 (here_of_all c.args.rows.now c.args.inst.net.now c.args.inst.bids.now c.args.tree.now c.items.item-index c.item-item.result c.items.node c.items-test.true c.item-item.is c.items.invariant.at P all))),
     )
@@ -25,8 +24,7 @@ items-preserved g c =
 
 pub returns : goal.returns
 returns g c =
-    let P = λ (p : List Decision × Item g.row.F-Row.Denot). SplitsUndecided p.0 p.1 in
-    (
+    let P = λ (p : List Decision × Item g.row.F-Row.Denot). SplitsUndecided p.0 p.1 in (
       λ _. all_past c.args.rows.now c.args.inst.net.now c.args.inst.bids.now c.args.tree.now P c.items.item-index c.items-test.false c.items.invariant.so_far,
       λ _. refl,
     )
