@@ -8,7 +8,7 @@ use optra_network::{Network, TrackId, TypeId};
 use optra_walk::{Instance, Leg, RowFamily};
 
 /// The train type of a bid.
-pub(crate) fn kind_at(inst: Instance<'_>, bid: u32) -> TypeId
+pub fn kind_at(inst: Instance<'_>, bid: u32) -> TypeId
     requires { bid < length inst.bids.now }
     ensures { result ≡ kind_at inst.entry.bids.now bid }
 {
@@ -17,7 +17,7 @@ pub(crate) fn kind_at(inst: Instance<'_>, bid: u32) -> TypeId
 }
 
 /// Whether the type may use the track.
-pub(crate) fn may_use(net: &Network, track: TrackId, kind: TypeId) -> bool
+pub fn may_use(net: &Network, track: TrackId, kind: TypeId) -> bool
     ensures { IsTrue result ↔ MayUse net.now track kind }
 {
     net.run(track, kind, true, true).is_some()

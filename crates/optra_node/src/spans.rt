@@ -47,7 +47,7 @@ fn agrees(net: &Network, kind: TypeId, decision: Decision, bid: u32, leg: Leg) -
 }
 
 /// Whether no decision is of the leg for the bid.
-pub(crate) fn is_undecided(decisions: &[Decision], bid: u32, leg: Leg) -> bool
+pub fn is_undecided(decisions: &[Decision], bid: u32, leg: Leg) -> bool
     ensures { IsTrue result ↔ IsUndecided decisions.now bid leg }
 {
     for decision in decisions {
@@ -59,7 +59,7 @@ pub(crate) fn is_undecided(decisions: &[Decision], bid: u32, leg: Leg) -> bool
 }
 
 /// Whether each decision for the bid lets its walk have the leg.
-pub(crate) fn let_by(
+pub fn let_by(
     net: &Network,
     kind: TypeId,
     decisions: &[Decision],
@@ -77,7 +77,7 @@ pub(crate) fn let_by(
 }
 
 /// Whether no yes leg of the bid departs before the minute.
-pub(crate) fn start_ok(decisions: &[Decision], bid: u32, minute: Minute) -> bool
+pub fn start_ok(decisions: &[Decision], bid: u32, minute: Minute) -> bool
     ensures { IsTrue result ↔ IsStartOk decisions.now bid minute }
 {
     for decision in decisions {

@@ -13,7 +13,7 @@ use std::alloc::Global;
 use std::collections::BTreeMap;
 
 /// The total of a row, 0 where none is kept.
-pub(crate) fn total<R: Copy + Ord>(totals: &BTreeMap<R, u128>, row: R) -> u128
+pub fn total<R: Copy + Ord>(totals: &BTreeMap<R, u128>, row: R) -> u128
     ensures { result ≡ total_of R.cmp totals.now row }
 {
     totals.get(&row).copied().unwrap_or(0)
@@ -30,7 +30,7 @@ fn raise<R: Copy + Ord>(totals: &mut BTreeMap<R, u128>, row: R, by: u32) -> Resu
 }
 
 /// Adds what a leg of the type uses.
-fn add_leg<F: RowFamily>(
+pub fn add_leg<F: RowFamily>(
     totals: &mut BTreeMap<F::Row, u128>,
     net: &Network,
     rows: &F,
@@ -53,7 +53,7 @@ fn add_leg<F: RowFamily>(
 }
 
 /// Adds what the decided leg uses, where it is yes.
-fn add_decision<F: RowFamily>(
+pub fn add_decision<F: RowFamily>(
     totals: &mut BTreeMap<F::Row, u128>,
     inst: Instance<'_>,
     rows: &F,
@@ -141,7 +141,7 @@ fn is_usable_blocked_beside<F: RowFamily>(
 
 /// Whether the leg uses a row of which it and what the totals have beside a bid's own decisions come to more than the
 /// capacity.
-pub(crate) fn is_blocked_beside<F: RowFamily>(
+pub fn is_blocked_beside<F: RowFamily>(
     inst: Instance<'_>,
     rows: &F,
     totals: &BTreeMap<F::Row, u128>,

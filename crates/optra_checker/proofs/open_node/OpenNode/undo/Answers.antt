@@ -1,0 +1,41 @@
+use Rattle.std.proofs.Common.{◌≡◌, ◌++◌, ◌∷◌, [], length, map, sym, subst, Vec, Global}
+use Rattle.optra_node.specs.declared.Decision.{Decision}
+use Rattle.optra_node.specs.Nodes.{IsNode, IsFormedDecision}
+use Rattle.optra_node.specs.Summaries.{Summed, AreByBid}
+use Rattle.optra_checker.proofs.OpenLemmas.{open_pop, totals_few, behind}
+use Rattle.optra_checker.proofs.open_node.OpenNode.undo.Goals as goal
+
+pub invariant_of-before : goal.invariant_of-before
+invariant_of-before g c =
+    let inside = c.self.inside in
+    let d = c.in-Some.last in
+    let f = inside.rows.now in
+    let net = inside.inst.net.now in
+    let bids = inside.inst.bids.now in
+    let rows = g.F.RowFamily.rows_of f net in
+    let node = inside.decisions.items in
+    let before = c.pop.new.self.items in
+    let is : node ≡ before ++ d ∷ [] = c.in-Some.ensures.items in
+    let lists = map (λ (v : Vec Decision Global). v.items) inside.own.items in
+    let earlier = map (λ (v : Vec Decision Global). v.items) c.drop_own.new.lists.items in
+    let proper = c.track_count.ensures.proper in
+    let formed = (behind net (length bids) before d (subst (IsNode net (length bids)) is c.self.invariant.is_node)).is_node.formed in
+    let few =
+    totals_few g.F.Row.Ord.cmp net rows (g.F.RowFamily.rows_used f net) (λ kind leg usable. g.met.F.RowFamily.lists_rows f net kind leg proper usable)
+    (λ kind leg row not. g.met.F.RowFamily.unusable_uses_none f net kind leg row not) bids before formed in
+    open_pop g.F.Row.Ord.cmp net rows bids d node before inside.totals c.take_decision.new.totals lists earlier is c.self.invariant few c.take_decision.ensures
+    (c.drop_own.ensures (length bids) before (subst (λ n. AreByBid (length bids) n lists) is c.self.invariant.by_bid))
+
+pub returns-clause-formed : goal.returns-clause-formed
+returns-clause-formed g c =
+    let net = c.self.inside.inst.net.now in
+    let bids = length c.self.inside.inst.bids.now in
+    let node = subst (IsNode net bids) c.in-Some.ensures.items c.self.invariant.is_node in
+    subst (λ (v : Summed g.row.F.Denot). IsFormedDecision v.net (length v.bids) c.in-Some.last) c.self.view_is (behind net bids c.pop.new.self.items c.in-Some.last node).formed
+
+pub returns-clause-undecided : goal.returns-clause-undecided
+returns-clause-undecided g c =
+    let net = c.self.inside.inst.net.now in
+    let bids = length c.self.inside.inst.bids.now in
+    let node = subst (IsNode net bids) c.in-Some.ensures.items c.self.invariant.is_node in
+    (behind net bids c.pop.new.self.items c.in-Some.last node).undecided

@@ -1,0 +1,34 @@
+-- The leg that halts, and the rest behind it.
+use Rattle.std.proofs.Common.{arith, refl, subst, sym, pos}
+use Rattle.optra_walk.specs.declared.Leg.{Leg}
+use Rattle.optra_walk.specs.Families.{IsUsable}
+use Rattle.optra_walk.specs.declared.Action.TheVariants.{Halt}
+use Rattle.optra_checker.specs.Tables.{rest_at}
+use Rattle.optra_checker.specs.Ways.{leg_by, IsLegBy}
+use Rattle.optra_checker.proofs.MoveLemmas.{after_halt, halt_usable, halt_later, halt_best, named_size, named_best}
+use Rattle.optra_checker.proofs.rests.halt_rest.Goals as goal
+
+pub begin_with-requires-clause-rest : goal.begin_with-requires-clause-rest
+begin_with-requires-clause-rest g c =
+    let w = g.W.Weighing.weights c.args.weighing.now in
+    let net = c.args.net.now in
+    let bid = c.args.bid.now in
+    let after = after_halt net bid.path c.args.state c.args.way c.requires.way c.args.dwell in
+    let best = halt_later w net bid c.args.table.now c.args.state c.requires.ready c.args.way c.requires.way c.requires.weights c.args.dwell c.requires.halt in
+    named_size (leg_by c.args.state c.args.way.track (Halt c.args.dwell)) c.leg.result after (rest_at c.args.table.now after) c.rest-rest.result (let l = c.requires.way.halt_later in omega arith) best.1.size c.leg.ensures c.rest-rest.ensures
+
+pub returns : goal.returns
+returns g c =
+    let w = g.W.Weighing.weights c.args.weighing.now in
+    let net = c.args.net.now in
+    let bid = c.args.bid.now in
+    let after = after_halt net bid.path c.args.state c.args.way c.requires.way c.args.dwell in
+    named_best w net bid c.args.state (IsLegBy c.args.state c.args.way.track (Halt c.args.dwell)) (leg_by c.args.state c.args.way.track (Halt c.args.dwell)) c.leg.result (pos 0) (pos 0) (rest_at c.args.table.now after) c.rest-rest.result
+    c.begin_with.result c.leg.ensures refl c.rest-rest.ensures c.begin_with.ensures.value c.begin_with.ensures.size refl
+    (halt_best w net bid c.args.table.now c.args.state c.requires.ready c.args.way c.requires.way c.requires.weights c.args.dwell c.requires.halt)
+
+pub begin_with-requires-clause-usable : goal.begin_with-requires-clause-usable
+begin_with-requires-clause-usable g c =
+    let w = g.W.Weighing.weights c.args.weighing.now in
+    subst (λ (leg : Leg). IsUsable w.net w.kind leg) (sym c.leg.ensures)
+    (halt_usable w c.args.net.now c.args.bid.now c.args.table.now c.args.state c.requires.ready c.args.way c.requires.way c.requires.weights c.args.dwell c.requires.halt)

@@ -1,0 +1,18 @@
+-- What a check says; the nodes still to come, and what an open node keeps; tests as yes or no; and the best walk of a bid
+-- by a table over the minutes.
+pub mod Verdicts
+pub mod ToCome
+pub mod Opens
+pub mod Fits
+pub mod Tests
+pub mod Weights
+pub mod Places
+pub mod Settings
+pub mod Rests
+pub mod Ways
+pub mod Tables
+pub mod Shares
+pub mod Sizes
+pub mod Starts
+pub mod Leaves
+pub mod Bounds

@@ -1,0 +1,33 @@
+-- The nodes that are still to come when the items of a tree are gone through one after the other. A yes decision of the
+-- open node is of a split whose no part is still to come; a no decision leaves nothing behind.
+use Rattle.std.specs.Prelude.{◌≡◌, ◌⊎◌, ℕ, ◌<◌, List, [], ◌∷◌, ◌++◌, length, take, cond}
+use Rattle.optra_network.specs.Net.{Net}
+use Rattle.optra_bid.specs.declared.bids.Bid.{Bid}
+use Rattle.optra_node.specs.declared.Decision.{Decision}
+use Rattle.optra_node.specs.declared.Item.{Item}
+use Rattle.optra_node.specs.Summaries.{Summed, summed}
+use Rattle.optra_node.specs.Trees.{decide_not, root, open_after}
+use Rattle.optra_checker.specs.Opens.{AreSame}
+
+-- the nodes still to come after decisions that stand behind others, the nearest first
+abbrev pub to_come_behind : List Decision → List Decision → List (List Decision)
+to_come_behind before [] = []
+to_come_behind before (d ∷ ds) =
+    to_come_behind (before ++ d ∷ []) ds ++ cond d.yes ((before ++ decide_not d.bid d.leg ∷ []) ∷ []) []
+
+-- the nodes still to come after a node, the nearest first
+abbrev pub to_come : List Decision → List (List Decision)
+to_come node = to_come_behind [] node
+
+-- the open nodes while a node is open: it and those still to come
+abbrev pub open_with : List Decision → List (List Decision)
+open_with node = node ∷ to_come node
+
+-- of open nodes, either there is none or the first is this one and the others are still to come after it
+abbrev pub IsNextWay : List (List Decision) → List Decision → Type 0
+IsNextWay ways next = (ways ≡ []) ⊎ (ways ≡ open_with next)
+
+-- before an item of a tree, its node is open
+pub record IsAt {F R : Type 0} (family : F) (net : Net) (bids : List Bid) (tree : List (Item R)) (i : ℕ) (open_node : Summed F) : Type 0 where
+  pub same : AreSame (summed family net bids []) open_node
+  pub ways : i < length tree → open_after root (take i tree) ≡ open_with open_node.node

@@ -1,0 +1,94 @@
+//! Whether the stated bound is the greatest bound of the leaves with prices.
+ghost use Rattle.std.specs.Prelude.{◌≡◌, ◌↔◌, All, IsTrue, IfOk, Some, length};
+ghost use Rattle.optra_bid.specs.Instances.{IsInstance};
+ghost use Rattle.optra_node.specs.Trees.{IsTree, places};
+ghost use Rattle.optra_node.specs.Certificates.{IsFormedItem, SplitsUndecided, HasPrices, IsGreatestBound};
+ghost use Rattle.optra_checker.specs.Bounds.{IsItemBound, IsGreatestOf};
+
+use crate::open_node::OpenNode;
+use crate::rests::greater;
+use crate::terms::leaf_bound;
+use optra_network::{Cents, NoMemory};
+use optra_node::{Item, Prices};
+use optra_walk::{Instance, RowFamily};
+use std::alloc::Global;
+
+/// The entries of prices.
+fn entries<R>(prices: &Prices<R>) -> &[(R, i64)]
+    ensures { result.now ≡ prices.now }
+{
+    &prices.entries
+}
+
+/// The bound of a leaf with prices, in whole cents; none of any other item.
+fn item_bound<F: RowFamily>(
+    alloc: Global,
+    node: &OpenNode<'_, F>,
+    item: &Item<F::Row>,
+) -> Result<Option<i128>, NoMemory>
+    requires instance { IsInstance node.now.net node.now.bids }
+    requires formed { IsFormedItem F.Row.cmp node.now.net (length node.now.bids) item.now }
+    requires prices { HasPrices (F.rows_of node.now.family node.now.net) item.now }
+    ensures { IfOk result (IsItemBound node.now.net (F.rows_of node.now.family node.now.net) node.now.bids node.now.node item.now) }
+{
+    match item {
+        Item::Priced { prices } => {
+            let cents = leaf_bound(alloc, node, entries(prices))?;
+            Ok(Some(cents))
+        }
+        Item::Split { .. } | Item::NoWalk { .. } | Item::Forced { .. } => Ok(None),
+    }
+}
+
+/// The greatest bound of the leaves with prices, in whole cents; `None` where there is no such leaf.
+fn greatest_bound<F: RowFamily>(
+    alloc: Global,
+    inst: Instance<'_>,
+    rows: &F,
+    tree: &[Item<F::Row>],
+) -> Result<Option<i128>, NoMemory>
+    requires instance { IsInstance inst.net.now inst.bids.now }
+    requires whole { IsTree tree.now }
+    requires items { All (IsFormedItem F.Row.cmp inst.net.now (length inst.bids.now)) tree.now }
+    requires splits { All (λ p. SplitsUndecided p.0 p.1) (places tree.now) }
+    requires prices { All (HasPrices (F.rows_of rows.now inst.net.now)) tree.now }
+    ensures { IfOk result (IsGreatestOf inst.entry.net.now (F.rows_of rows.now inst.entry.net.now) inst.entry.bids.now (places tree.now)) }
+{
+    let mut node = OpenNode::new(alloc, inst, rows)?;
+    let mut greatest = None;
+    'items: for item in tree {
+        let cents = item_bound(alloc, &node, item)?;
+        greatest = greater(greatest, cents);
+        node = node.pass(item)?;
+    }
+    Ok(greatest)
+}
+
+/// Whether there is a number and it is the stated one.
+fn is_stated(greatest: Option<i128>, stated: Cents) -> bool
+    ensures { IsTrue result ↔ (greatest ≡ Some stated) }
+{
+    match greatest {
+        Some(cents) => cents == i128::from(stated),
+        None => false,
+    }
+}
+
+/// Whether the stated bound, in cents, is the greatest bound of the leaves with prices.
+pub(crate) fn bound_holds<F: RowFamily>(
+    alloc: Global,
+    inst: Instance<'_>,
+    rows: &F,
+    tree: &[Item<F::Row>],
+    stated: Cents,
+) -> Result<bool, NoMemory>
+    requires instance { IsInstance inst.net.now inst.bids.now }
+    requires whole { IsTree tree.now }
+    requires items { All (IsFormedItem F.Row.cmp inst.net.now (length inst.bids.now)) tree.now }
+    requires splits { All (λ p. SplitsUndecided p.0 p.1) (places tree.now) }
+    requires prices { All (HasPrices (F.rows_of rows.now inst.net.now)) tree.now }
+    ensures { IfOk result (λ holds. IsTrue holds ↔ IsGreatestBound inst.entry.net.now (F.rows_of rows.now inst.entry.net.now) inst.entry.bids.now tree.now stated) }
+{
+    let greatest = greatest_bound(alloc, inst, rows, tree)?;
+    Ok(is_stated(greatest, stated))
+}

@@ -1,0 +1,114 @@
+//! The check of a certificate.
+ghost use Rattle.std.specs.Prelude.{◌≡◌, IfOk, MatchOption, length};
+ghost use Rattle.optra_bid.specs.Instances.{IsInstance};
+ghost use Rattle.optra_node.specs.Certificates.{IsFormed};
+ghost use Rattle.optra_checker.specs.Verdicts.{ChoiceHolds, TreeHolds, IsFirstReason, IsVerdict};
+
+use crate::bounding::bound_holds;
+use crate::fitting::rule_holds;
+use crate::leaves::leaves_hold;
+use crate::pricing::prices_hold;
+use crate::splitting::splits_hold;
+use crate::walks::{revenue, walks_hold};
+use crate::{Reason, Verdict};
+use optra_cert::Certificate;
+use optra_network::NoMemory;
+use optra_node::Item;
+use optra_walk::{Instance, RowFamily, Walk};
+use std::alloc::Global;
+
+/// The entries of a certificate's choice.
+fn entries<R>(cert: &Certificate<R>) -> &[Option<Walk>]
+    ensures { result.now ≡ cert.now.choice }
+{
+    let choice = &cert.choice;
+    &choice.walks
+}
+
+/// The items of a certificate's tree.
+fn items<R>(cert: &Certificate<R>) -> &[Item<R>]
+    ensures { result.now ≡ cert.now.tree }
+{
+    &cert.tree
+}
+
+/// The first of K1 to K3 that comes.
+fn choice_fault<F: RowFamily>(
+    alloc: Global,
+    inst: Instance<'_>,
+    rows: &F,
+    cert: &Certificate<F::Row>,
+) -> Result<Option<Reason>, NoMemory>
+    requires instance { IsInstance inst.net.now inst.bids.now }
+    requires formed { IsFormed F.Row.cmp inst.net.now (length inst.bids.now) cert.now.choice cert.now.tree }
+    ensures { IfOk result (λ fault. MatchOption fault (ChoiceHolds inst.entry.net.now (F.KeepsRule rows.now inst.entry.net.now) inst.entry.bids.now cert.now)
+        (IsFirstReason inst.entry.net.now (F.rows_of rows.now inst.entry.net.now) (F.KeepsRule rows.now inst.entry.net.now) inst.entry.bids.now cert.now)) }
+{
+    let walks = entries(cert);
+    if !walks_hold(inst.net, inst.bids, walks) {
+        return Ok(Some(Reason::Walk));
+    }
+    if !rule_holds(alloc, inst.net, rows, inst.bids, walks)? {
+        return Ok(Some(Reason::Conflict));
+    }
+    if revenue(inst.net, inst.bids, walks) != cert.revenue {
+        return Ok(Some(Reason::Revenue));
+    }
+    Ok(None)
+}
+
+/// The first of K4 to K7 that comes, where none of K1 to K3 does.
+fn tree_fault<F: RowFamily>(
+    alloc: Global,
+    inst: Instance<'_>,
+    rows: &F,
+    cert: &Certificate<F::Row>,
+) -> Result<Option<Reason>, NoMemory>
+    requires instance { IsInstance inst.net.now inst.bids.now }
+    requires formed { IsFormed F.Row.cmp inst.net.now (length inst.bids.now) cert.now.choice cert.now.tree }
+    requires choice { ChoiceHolds inst.net.now (F.KeepsRule rows.now inst.net.now) inst.bids.now cert.now }
+    ensures { IfOk result (λ fault. MatchOption fault (TreeHolds inst.entry.net.now (F.rows_of rows.now inst.entry.net.now) inst.entry.bids.now cert.now)
+        (IsFirstReason inst.entry.net.now (F.rows_of rows.now inst.entry.net.now) (F.KeepsRule rows.now inst.entry.net.now) inst.entry.bids.now cert.now)) }
+{
+    let tree = items(cert);
+    if !splits_hold(alloc, inst, rows, tree)? {
+        return Ok(Some(Reason::Decision));
+    }
+    if !leaves_hold(alloc, inst, rows, tree)? {
+        return Ok(Some(Reason::DeadLeaf));
+    }
+    if !prices_hold(inst.net, rows, tree) {
+        return Ok(Some(Reason::Price));
+    }
+    if !bound_holds(alloc, inst, rows, tree, cert.bound)? {
+        return Ok(Some(Reason::Bound));
+    }
+    Ok(None)
+}
+
+/// Whether a certificate of an instance is valid: Yes with its revenue and its bound exactly where it is, and else No with
+/// the first reason, K1 to K7, that holds somewhere in it. [`Reason`] says when each comes.
+///
+/// It needs an instance of at most 1,000 bids whose paths are on its network, and a formed certificate. What it computes
+/// rests on the laws of the family alone. `NoMemory` is its only refusal.
+pub fn check<F: RowFamily>(
+    alloc: Global,
+    inst: Instance<'_>,
+    rows: &F,
+    cert: &Certificate<F::Row>,
+) -> Result<Verdict, NoMemory>
+    requires instance { IsInstance inst.net.now inst.bids.now }
+    requires formed { IsFormed F.Row.cmp inst.net.now (length inst.bids.now) cert.now.choice cert.now.tree }
+    ensures { IfOk result (IsVerdict inst.entry.net.now (F.rows_of rows.now inst.entry.net.now) (F.KeepsRule rows.now inst.entry.net.now) inst.entry.bids.now cert.now) }
+{
+    if let Some(reason) = choice_fault(alloc, inst, rows, cert)? {
+        return Ok(Verdict::No(reason));
+    }
+    if let Some(reason) = tree_fault(alloc, inst, rows, cert)? {
+        return Ok(Verdict::No(reason));
+    }
+    Ok(Verdict::Yes {
+        revenue: cert.revenue,
+        bound: cert.bound,
+    })
+}

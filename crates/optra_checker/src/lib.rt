@@ -1,0 +1,60 @@
+//! A separate check of certificates. It knows nothing of how a choice was found: it reads the walks, the tree and the
+//! prices of a certificate and computes each number again, by the rows of a family alone.
+//!
+//! A certificate that is answered Yes shows, whoever wrote it, that its choice keeps the rule and earns the stated
+//! revenue, and that no choice that keeps the rule earns more than the stated bound: [`optra_node::bound_holds`].
+#![tactic(auto)]
+
+use optra_network::Cents;
+
+mod bounding;
+mod checking;
+mod fitting;
+mod leaf_prices;
+mod leaf_weights;
+mod leaves;
+mod open_node;
+mod own_lists;
+mod pricing;
+mod rest_table;
+mod rests;
+mod shares;
+mod splitting;
+mod states;
+mod table;
+mod taking;
+mod terms;
+mod walks;
+mod ways;
+mod weighing;
+
+pub use checking::check;
+
+/// What a check says of a certificate.
+#[derive(Clone, Copy, Debug, PartialEq, Eq)]
+pub enum Verdict {
+    /// The certificate is valid, with the revenue and the bound that it states, in cents.
+    Yes { revenue: Cents, bound: Cents },
+    /// The certificate is not valid, for the first reason by number.
+    No(Reason),
+}
+
+/// Why a certificate is not valid.
+#[derive(Clone, Copy, Debug, PartialEq, Eq)]
+pub enum Reason {
+    /// K1: the legs listed for a bid aren't a walk of it.
+    Walk,
+    /// K2: the choice breaks the rule.
+    Conflict,
+    /// K3: the stated revenue isn't the sum of the values.
+    Revenue,
+    /// K4: a split's leg is already decided for its bid on the way from the root.
+    Decision,
+    /// K5: a leaf without prices isn't dead. The bid of a leaf without walk has no yes leg there or has an allowed walk,
+    /// or the row of a forced leaf isn't a row or isn't overfilled by the yes legs.
+    DeadLeaf,
+    /// K6: a listed price isn't 1 to 2,000,000,000,000 thousandths of a cent, or its row isn't a row.
+    Price,
+    /// K7: the stated bound isn't the greatest dual value of the leaves with prices, in whole cents and rounded down.
+    Bound,
+}

@@ -1,0 +1,299 @@
+//! The node at hand while a tree is gone through.
+ghost use Rattle.std.specs.Prelude.{◌≡◌, ◌<◌, ◌↔◌, ◌++◌, ◌∷◌, [], IsTrue, IfOk, length, pos};
+ghost use Rattle.std.specs.List.{list_any};
+ghost use Rattle.optra_node.specs.Nodes.{IsFormedLeg, IsFormedDecision, IsUndecided, IsOverfull, IsBlocked, kind_at, has_yes};
+ghost use Rattle.optra_node.specs.Spans.{IsLegOk, IsLetBy, IsStartOk};
+ghost use Rattle.optra_node.specs.Summaries.{decisions_for};
+ghost use Rattle.optra_node.specs.Trees.{children};
+ghost use Rattle.optra_bid.specs.Specs.{IsBetween};
+ghost use Rattle.optra_walk.specs.Families.{IsUsable};
+ghost use Rattle.optra_node.specs.Duals.{ArePrices, leg_price, capacity_price};
+ghost use Rattle.optra_node.specs.Certificates.{IsFormedItem, SplitsUndecided, AreAscending};
+ghost use Rattle.optra_checker.specs.Tests.{may_have_leg, may_start_at};
+ghost use Rattle.optra_checker.specs.ToCome.{to_come, IsNextWay};
+
+use crate::leaf_prices::{capacity_price, leg_price};
+use crate::own_lists::{add_own, drop_own, empty_lists};
+use crate::taking::take_decision;
+use optra_network::{Minute, NoMemory};
+use optra_node::{
+    Decision, Item, add_decision, is_blocked_beside, is_undecided, kind_at, let_by, start_ok, total,
+};
+use optra_walk::{Instance, Leg, RowFamily};
+use std::alloc::Global;
+use std::collections::BTreeMap;
+use std::marker::Model;
+
+/// A node of an instance whose last decision can be undone and which can be decided further, without a copy. It keeps how
+/// much of each row its yes legs use, and each bid's own decisions, and answers from them what the calls of
+/// [`optra_node::Node`] answer.
+#[derive(Drop)]
+pub(crate) struct OpenNode<'a, F: RowFamily> {
+    inst: Instance<'a>,
+    rows: &'a F,
+    decisions: Vec<Decision>,
+    totals: BTreeMap<F::Row, u128>,
+    own: Vec<Vec<Decision>>,
+}
+
+impl<'a, F: RowFamily> Model for OpenNode<'a, F> {
+    ghost use Rattle.std.specs.Prelude.{map};
+    ghost use Rattle.optra_node.specs.Summaries.{Summed};
+    ghost use Rattle.optra_checker.specs.Opens.{IsOpen};
+
+    ghost Value = { Summed F };
+
+    ghost view = { λ a. record { family = a.rows.now; net = a.inst.net.now; bids = a.inst.bids.now; node = a.decisions.items } };
+
+    ghost invariant = { λ a. IsOpen F.Row.cmp a.inst.net.now (F.rows_of a.rows.now a.inst.net.now) a.inst.bids.now a.decisions.items a.totals (map (λ v. v.items) a.own.items) };
+}
+
+/// Whether one of the decisions is a yes.
+fn any_yes(decisions: &[Decision]) -> bool
+    ensures { result ≡ list_any (λ d. d.yes) decisions.now }
+{
+    decisions.iter().any(|decision| decision.yes)
+}
+
+impl<'a, F: RowFamily> OpenNode<'a, F> {
+    ghost use Rattle.optra_node.specs.Summaries.{summed};
+    ghost use Rattle.optra_checker.specs.Opens.{AreSame};
+
+    /// The root of an instance. `NoMemory` is its only refusal.
+    pub(crate) fn new(
+        alloc: Global,
+        inst: Instance<'a>,
+        rows: &'a F,
+    ) -> Result<OpenNode<'a, F>, NoMemory>
+        ensures { IfOk result (λ node. node ≡ summed rows.now inst.entry.net.now inst.entry.bids.now []) }
+    {
+        let own = empty_lists(alloc, inst.bids.len())?;
+        Ok(OpenNode {
+            inst,
+            rows,
+            decisions: Vec::new(alloc),
+            totals: BTreeMap::new(alloc),
+            own,
+        })
+    }
+
+    /// The node with one more decision, of a leg that is not decided yet for its bid. `NoMemory` is its only refusal.
+    pub(crate) fn decide(self, decision: Decision) -> Result<OpenNode<'a, F>, NoMemory>
+        requires formed { IsFormedDecision self.net (length self.bids) decision }
+        requires undecided { IsUndecided self.node decision.bid decision.leg }
+        ensures { IfOk result (λ next. next ≡ summed self.entry.family self.entry.net self.entry.bids (self.entry.node ++ decision ∷ [])) }
+    {
+        let OpenNode {
+            inst,
+            rows,
+            mut decisions,
+            mut totals,
+            mut own,
+        } = self;
+        add_decision(&mut totals, inst, rows, decision)?;
+        add_own(&mut own, decision)?;
+        decisions.push(decision)?;
+        Ok(OpenNode {
+            inst,
+            rows,
+            decisions,
+            totals,
+            own,
+        })
+    }
+
+    /// The node without its last decision, and that decision.
+    pub(crate) fn undo(self) -> (OpenNode<'a, F>, Decision)
+        requires { 0 < length self.node }
+        ensures same { AreSame self.entry result.0 }
+        ensures last { self.entry.node ≡ result.0.node ++ result.1 ∷ [] }
+        ensures formed { IsFormedDecision self.entry.net (length self.entry.bids) result.1 }
+        ensures undecided { IsUndecided result.0.node result.1.bid result.1.leg }
+    {
+        let OpenNode {
+            inst,
+            rows,
+            mut decisions,
+            mut totals,
+            mut own,
+        } = self;
+        let _ = inst.net.track_count();
+        let Some(last) = decisions.pop() else {
+            unreachable!()
+        };
+        take_decision(&mut totals, inst, rows, last);
+        drop_own(&mut own, last);
+        let before = OpenNode {
+            inst,
+            rows,
+            decisions,
+            totals,
+            own,
+        };
+        (before, last)
+    }
+
+    /// Whether it is the root, which has no decision.
+    pub(crate) fn is_root(&self) -> bool
+        ensures { IsTrue result ↔ (self.now.node ≡ []) }
+    {
+        self.decisions.is_empty()
+    }
+
+    /// The nearest node that is still to come, or the root where none is. `NoMemory` is its only refusal.
+    fn turn(self) -> Result<OpenNode<'a, F>, NoMemory>
+        ensures same { IfOk result (AreSame self.entry) }
+        ensures next { IfOk result (λ next. IsNextWay (to_come self.entry.node) next.node) }
+    {
+        let mut node = self;
+        'back: while !node.is_root() {
+            let (before, last) = node.undo();
+            if last.yes {
+                return before.decide(Decision { yes: false, ..last });
+            }
+            node = before;
+        }
+        Ok(node)
+    }
+
+    /// The node that is open after an item of this node: below a split the one whose decision is yes, and after a leaf the
+    /// nearest that is still to come. Where none is, it is the root. `NoMemory` is its only refusal.
+    pub(crate) fn pass(self, item: &Item<F::Row>) -> Result<OpenNode<'a, F>, NoMemory>
+        requires formed { IsFormedItem F.Row.cmp self.net (length self.bids) item.now }
+        requires undecided { SplitsUndecided self.node item.now }
+        ensures same { IfOk result (AreSame self.entry) }
+        ensures next { IfOk result (λ next. IsNextWay (children self.entry.node item.now ++ to_come self.entry.node) next.node) }
+    {
+        match item {
+            Item::Split { bid, leg } => self.decide(Decision {
+                bid: *bid,
+                leg: *leg,
+                yes: true,
+            }),
+            Item::NoWalk { .. } | Item::Forced { .. } | Item::Priced { .. } => self.turn(),
+        }
+    }
+
+    /// The decisions for a bid, in the node's order.
+    fn own(&self, bid: u32) -> &[Decision]
+        requires { bid < length self.now.bids }
+        ensures { result.now ≡ decisions_for self.now.node bid }
+    {
+        &self.own[bid as usize]
+    }
+
+    /// Whether the leg is not decided yet for the bid.
+    pub(crate) fn is_undecided(&self, bid: u32, leg: Leg) -> bool
+        requires { bid < length self.now.bids }
+        ensures { IsTrue result ↔ IsUndecided self.now.node bid leg }
+    {
+        is_undecided(self.own(bid), bid, leg)
+    }
+
+    /// Whether the bid has a yes leg.
+    pub(crate) fn has_yes(&self, bid: u32) -> bool
+        requires { bid < length self.now.bids }
+        ensures { result ≡ has_yes self.now.node bid }
+    {
+        any_yes(self.own(bid))
+    }
+
+    /// Whether the value is a row of which the yes legs use more than the capacity.
+    pub(crate) fn is_overfull(&self, row: F::Row) -> bool
+        ensures { IsTrue result ↔ IsOverfull (F.rows_of self.now.family self.now.net) self.now.bids self.now.node row }
+    {
+        let net = self.inst.net;
+        self.rows.is_row(net, row) && u128::from(self.rows.cap(net, row)) < total(&self.totals, row)
+    }
+
+    /// As [`optra_node::Node::start_ok`] of the node.
+    pub(crate) fn start_ok(&self, bid: u32, minute: Minute) -> bool
+        requires { bid < length self.now.bids }
+        ensures { IsTrue result ↔ IsStartOk self.now.node bid minute }
+    {
+        start_ok(self.own(bid), bid, minute)
+    }
+
+    /// Whether each decision for the bid lets its walk have the leg.
+    fn let_by(&self, bid: u32, leg: Leg) -> bool
+        requires { bid < length self.now.bids }
+        ensures { IsTrue result ↔ IsLetBy self.now.net self.now.node bid (kind_at self.now.bids bid) leg }
+    {
+        let inst = self.inst;
+        let_by(inst.net, kind_at(inst, bid), self.own(bid), bid, leg)
+    }
+
+    /// As [`optra_node::Node::blocked`] of the node.
+    fn blocked(&self, bid: u32, leg: Leg) -> bool
+        requires bid { bid < length self.now.bids }
+        requires leg { IsFormedLeg self.now.net leg }
+        ensures { IsTrue result ↔ IsBlocked (F.rows_of self.now.family self.now.net) self.now.bids self.now.node bid (kind_at self.now.bids bid) leg }
+    {
+        let inst = self.inst;
+        is_blocked_beside(
+            inst,
+            self.rows,
+            &self.totals,
+            self.own(bid),
+            kind_at(inst, bid),
+            leg,
+        )
+    }
+
+    /// As [`optra_node::Node::leg_ok`] of the node.
+    pub(crate) fn leg_ok(&self, bid: u32, leg: Leg) -> bool
+        requires bid { bid < length self.now.bids }
+        requires leg { IsFormedLeg self.now.net leg }
+        ensures { IsTrue result ↔ IsLegOk self.now.net (F.rows_of self.now.family self.now.net) self.now.bids self.now.node bid (kind_at self.now.bids bid) leg }
+    {
+        self.let_by(bid, leg) && !self.blocked(bid, leg)
+    }
+
+    /// The instance.
+    pub(crate) fn inst(&self) -> Instance<'_>
+        ensures net { result.net.now ≡ self.now.net }
+        ensures bids { result.bids.now ≡ self.now.bids }
+    {
+        self.inst
+    }
+
+    /// Whether a walk of the bid may have the leg, on a track that its type may use.
+    pub(crate) fn usable_leg_ok(&self, bid: u32, leg: Leg) -> bool
+        requires bid { bid < length self.now.bids }
+        requires usable { IsUsable self.now.net (kind_at self.now.bids bid) leg }
+        ensures { result ≡ may_have_leg self.now.net (F.rows_of self.now.family self.now.net) (F.rows_used self.now.family self.now.net) self.now.bids self.now.node bid (kind_at self.now.bids bid) leg }
+    {
+        let _ = self.inst.net.track_count();
+        self.leg_ok(bid, leg)
+    }
+
+    /// Whether the bid may start at the minute, as a test.
+    pub(crate) fn may_start(&self, bid: u32, minute: Minute) -> bool
+        requires { bid < length self.now.bids }
+        ensures { result ≡ may_start_at self.now.node bid minute }
+    {
+        self.start_ok(bid, minute)
+    }
+
+    /// What the leg costs a walk of the bid at the prices, on a track that its type may use.
+    pub(crate) fn leg_price(&self, prices: &[(F::Row, i64)], bid: u32, leg: Leg) -> i128
+        requires bid { bid < length self.now.bids }
+        requires usable { IsUsable self.now.net (kind_at self.now.bids bid) leg }
+        requires ascending { AreAscending F.Row.cmp prices.now }
+        requires proper { ArePrices (F.rows_of self.now.family self.now.net) prices.now }
+        ensures value { result ≡ leg_price (F.rows_of self.now.family self.now.net) prices.now (kind_at self.now.bids bid) leg }
+        ensures range { IsBetween (pos 0) (pos 16384000000000000) result }
+    {
+        let inst = self.inst;
+        leg_price(inst, self.rows, prices, kind_at(inst, bid), leg)
+    }
+
+    /// The price of all capacity.
+    pub(crate) fn capacity_price(&self, prices: &[(F::Row, i64)]) -> i128
+        requires { ArePrices (F.rows_of self.now.family self.now.net) prices.now }
+        ensures value { result ≡ capacity_price (F.rows_of self.now.family self.now.net) prices.now }
+        ensures range { IsBetween (pos 0) (pos 2417851639229258349412352000000000000) result }
+    {
+        capacity_price(self.inst.net, self.rows, prices)
+    }
+}

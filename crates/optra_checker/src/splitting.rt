@@ -1,0 +1,42 @@
+//! Whether each split of a tree is of a leg that is not decided yet.
+ghost use Rattle.std.specs.Prelude.{◌≡◌, ◌↔◌, All, IsTrue, IfOk, length};
+ghost use Rattle.optra_node.specs.Trees.{IsTree, places};
+ghost use Rattle.optra_node.specs.Certificates.{IsFormedItem, SplitsUndecided};
+
+use crate::open_node::OpenNode;
+use optra_network::NoMemory;
+use optra_node::Item;
+use optra_walk::{Instance, RowFamily};
+use std::alloc::Global;
+
+/// Whether the item is no split, or one of a leg that is not decided yet for its bid.
+fn is_fresh<F: RowFamily>(node: &OpenNode<'_, F>, item: &Item<F::Row>) -> bool
+    requires { IsFormedItem F.Row.cmp node.now.net (length node.now.bids) item.now }
+    ensures { IsTrue result ↔ SplitsUndecided node.now.node item.now }
+{
+    match item {
+        Item::Split { bid, leg } => node.is_undecided(*bid, *leg),
+        Item::NoWalk { .. } | Item::Forced { .. } | Item::Priced { .. } => true,
+    }
+}
+
+/// Whether each split is of a leg that is not decided yet for its bid on the way from the root.
+pub(crate) fn splits_hold<F: RowFamily>(
+    alloc: Global,
+    inst: Instance<'_>,
+    rows: &F,
+    tree: &[Item<F::Row>],
+) -> Result<bool, NoMemory>
+    requires whole { IsTree tree.now }
+    requires items { All (IsFormedItem F.Row.cmp inst.net.now (length inst.bids.now)) tree.now }
+    ensures { IfOk result (λ hold. IsTrue hold ↔ All (λ p. SplitsUndecided p.0 p.1) (places tree.now)) }
+{
+    let mut node = OpenNode::new(alloc, inst, rows)?;
+    'items: for item in tree {
+        if !is_fresh(&node, item) {
+            return Ok(false);
+        }
+        node = node.pass(item)?;
+    }
+    Ok(true)
+}

@@ -1,0 +1,90 @@
+//! States of a train under way, and their places in one dense numbering.
+ghost use Rattle.std.specs.Prelude.{◌≡◌, ℕ, ◌+◌, ◌-◌, ◌*◌, ◌<◌, ◌≤◌, length};
+ghost use Rattle.optra_bid.specs.Specs.{IsPathOn};
+ghost use Rattle.optra_checker.specs.Places.{place_of, slot_of, state_of, places_of, IsPlaced, IsSmall};
+ghost use Rattle.optra_checker.specs.Settings.{IsSetting};
+
+use optra_bid::Bid;
+use optra_network::{Minute, Network, StationId};
+
+/// Where a train is to leave next, when, from a halt or not, and how many stops are done.
+#[derive(Clone, Copy, Debug, PartialEq, Eq)]
+pub(crate) struct State {
+    pub station: StationId,
+    pub minute: Minute,
+    pub halted: bool,
+    pub done: u16,
+}
+
+/// How the states of a bid are numbered: minute by minute, in each by stops done, then by mode, then by station.
+/// A state has one of `slots` for its stops and its mode.
+#[derive(Clone, Copy, Debug, PartialEq, Eq)]
+pub(crate) struct Layout {
+    pub first: Minute,
+    pub minutes: u16,
+    pub slots: u16,
+    pub stations: u16,
+}
+
+/// The states that a walk of the bid may come through: they depart before the end of the arrival window.
+pub(crate) fn make_layout(net: &Network, bid: &Bid) -> Layout
+    requires { IsPathOn net.now bid.now.path }
+    ensures { IsSetting net.now bid.now.path result }
+{
+    let first = bid.path.depart.from;
+    Layout {
+        first,
+        minutes: bid.path.arrive.to.saturating_sub(first),
+        slots: 2 * (bid.path.stops.len() as u16 + 1),
+        stations: net.station_count(),
+    }
+}
+
+impl Layout {
+    /// How many places there are. This number itself is the place of the end.
+    pub(crate) fn places(self) -> u32
+        requires { IsSmall self }
+        ensures value { result ≡ places_of self }
+        ensures small { result ≤ 15552000 }
+    {
+        u32::from(self.minutes) * u32::from(self.slots) * u32::from(self.stations)
+    }
+
+    fn slot(self, state: State) -> u32
+        requires small { IsSmall self }
+        requires placed { IsPlaced self state }
+        ensures value { result ≡ slot_of self state }
+        ensures small { result < self.minutes * self.slots }
+    {
+        u32::from(state.minute - self.first) * u32::from(self.slots)
+            + (u32::from(state.done) * 2 + u32::from(state.halted))
+    }
+
+    pub(crate) fn place(self, state: State) -> u32
+        requires small { IsSmall self }
+        requires placed { IsPlaced self state }
+        ensures value { result ≡ place_of self state }
+        ensures within { result < places_of self }
+    {
+        self.slot(state) * u32::from(self.stations) + u32::from(state.station.0)
+    }
+
+    /// The state at a place.
+    pub(crate) fn state(self, place: u32) -> State
+        requires small { IsSmall self }
+        requires within { place < places_of self }
+        ensures value { result ≡ state_of self place }
+        ensures placed { IsPlaced self result }
+    {
+        let stations = u32::from(self.stations);
+        let slots = u32::from(self.slots);
+        let row = place / stations;
+        let slot = row % slots;
+        State {
+            station: StationId((place % stations) as u16),
+            minute: self.first + (row / slots) as u16,
+            halted: slot % 2 == 1,
+            done: (slot / 2) as u16,
+        }
+    }
+}

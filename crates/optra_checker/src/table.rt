@@ -1,0 +1,127 @@
+//! The best walk of a bid, by a table over the minutes that is filled in one pass from late to early.
+ghost use Rattle.std.specs.Prelude.{◌≡◌, ◌≤◌, IfOk, IfSome, ◌+ℤ◌};
+ghost use Rattle.optra_bid.specs.Specs.{IsPathOn};
+ghost use Rattle.optra_network.specs.Net.{IsFromTo};
+ghost use Rattle.optra_checker.specs.Rests.{start_state};
+ghost use Rattle.optra_checker.specs.Shares.{IsStartValue};
+ghost use Rattle.optra_checker.specs.Sizes.{IsWholeRest};
+ghost use Rattle.optra_checker.specs.Settings.{IsSetting};
+ghost use Rattle.optra_checker.specs.Starts.{IsBestStart, IsAt};
+ghost use Rattle.optra_checker.specs.Tables.{IsTable, IsFilled};
+ghost use Rattle.optra_checker.specs.Weights.{AreWeightsFor, IsBestWorth, IsWorthSize};
+
+use crate::rest_table::{RestTable, empty_table};
+use crate::rests::{greater, state_rest};
+use crate::shares::start_value;
+use crate::states::{State, make_layout};
+use crate::weighing::Weighing;
+use optra_bid::{Bid, Window};
+use optra_network::{Minute, Network, NoMemory};
+use std::alloc::Global;
+
+/// Fills the table, from the last place to the first.
+fn fill<W: Weighing>(net: &Network, bid: &Bid, weighing: &W, table: &mut RestTable)
+    requires weights { AreWeightsFor (W.weights weighing.now) net.now bid.now.path }
+    requires table { IsTable table.old }
+    requires setting { IsSetting net.now bid.now.path table.old.layout }
+    ensures { IsFilled (W.weights weighing.now) net.now bid.now table.new 0 }
+{
+    let mut left = table.layout.places();
+    while left > 0 {
+        left -= 1;
+        let state = table.layout.state(left);
+        let rest = state_rest(net, bid, weighing, table, state);
+        table.put(left, rest);
+    }
+}
+
+/// The state in which a walk begins that departs then.
+fn make_start(bid: &Bid, minute: Minute) -> State
+    ensures { result ≡ start_state bid.now.path minute }
+{
+    State {
+        station: bid.path.origin,
+        minute,
+        halted: true,
+        done: 0,
+    }
+}
+
+/// The best walk that departs at the minute.
+fn start_walk<W: Weighing>(
+    net: &Network,
+    bid: &Bid,
+    weighing: &W,
+    table: &RestTable,
+    minute: Minute,
+) -> Option<i128>
+    requires weights { AreWeightsFor (W.weights weighing.now) net.now bid.now.path }
+    requires filled { IsFilled (W.weights weighing.now) net.now bid.now table.now 0 }
+    requires window { IsFromTo bid.now.path.depart.from bid.now.path.depart.to minute }
+    ensures { IsBestStart (W.weights weighing.now) net.now bid.now (IsAt minute) result }
+{
+    if !weighing.may_start(minute) {
+        return None;
+    }
+    let rest = table.rest(make_start(bid, minute))?;
+    Some(whole(start_value(bid, minute), rest))
+}
+
+/// A start and a rest together.
+fn whole(start: i64, rest: i128) -> i128
+    requires start { IsStartValue start }
+    requires rest { IsWholeRest rest }
+    ensures { result ≡ start +ℤ rest }
+{
+    i128::from(start) + rest
+}
+
+/// The minutes at which a walk may depart.
+fn departures(bid: &Bid) -> Window
+    ensures window { result ≡ bid.now.path.depart }
+    ensures day { result.to ≤ 2879 }
+{
+    bid.path.depart
+}
+
+/// The best walk over all starts.
+fn best_start<W: Weighing>(
+    net: &Network,
+    bid: &Bid,
+    weighing: &W,
+    table: &RestTable,
+) -> Option<i128>
+    requires weights { AreWeightsFor (W.weights weighing.now) net.now bid.now.path }
+    requires filled { IsFilled (W.weights weighing.now) net.now bid.now table.now 0 }
+    ensures best { IsBestWorth (W.weights weighing.now) net.now bid.now result }
+    ensures size { IfSome result IsWorthSize }
+{
+    let window = departures(bid);
+    let mut best = None;
+    for minute in window.from..window.to + 1 {
+        let walk = start_walk(net, bid, weighing, table, minute);
+        best = greater(best, walk);
+    }
+    best
+}
+
+/// The greatest worth of a walk of the bid that has a start and legs that it may have: in thousandths of a cent, its value
+/// less what its legs cost. `None` exactly where there is no such walk.
+///
+/// The bid's stations and its type must be positions of the network, and the weighing be one for legs of the bid's type on
+/// the network.
+pub(crate) fn best_walk<W: Weighing>(
+    alloc: Global,
+    net: &Network,
+    bid: &Bid,
+    weighing: &W,
+) -> Result<Option<i128>, NoMemory>
+    requires path { IsPathOn net.now bid.now.path }
+    requires weights { AreWeightsFor (W.weights weighing.now) net.now bid.now.path }
+    ensures best { IfOk result (IsBestWorth (W.weights weighing.now) net.now bid.now) }
+    ensures size { IfOk result (λ best. IfSome best IsWorthSize) }
+{
+    let mut table = empty_table(alloc, make_layout(net, bid))?;
+    fill(net, bid, weighing, &mut table);
+    Ok(best_start(net, bid, weighing, &table))
+}

@@ -1,0 +1,122 @@
+//! What the bids add to the dual value of a node, and the dual value.
+ghost use Rattle.std.specs.Prelude.{◌≡◌, ◌⊎◌, ◌<◌, ◌≤◌, length, slice_get, Some, IfOk, IfSome, pos, ◌≤ℤ◌};
+ghost use Rattle.optra_bid.specs.Specs.{IsBetween};
+ghost use Rattle.optra_bid.specs.Instances.{IsInstance};
+ghost use Rattle.optra_bid.specs.declared.bids.Bid.{Bid as Asked};
+ghost use Rattle.optra_node.specs.Duals.{ArePrices, whole_cents};
+ghost use Rattle.optra_node.specs.Certificates.{AreAscending, IsBoundOf};
+ghost use Rattle.optra_checker.specs.Leaves.{IsBestOffer, AreTerms, IsSumSize, plus_of, dual_by};
+ghost use Rattle.optra_checker.specs.Weights.{IsWorthSize};
+
+use crate::leaf_weights::LeafWeights;
+use crate::open_node::OpenNode;
+use crate::table::best_walk;
+use optra_network::NoMemory;
+use optra_walk::RowFamily;
+use std::alloc::Global;
+
+/// The greater of zero and a number, which may be missing.
+fn or_zero(best: Option<i128>) -> i128
+    ensures least { pos 0 ≤ℤ result }
+    ensures most { IfSome best (λ b. b ≤ℤ result) }
+    ensures reached { (result ≡ pos 0) ⊎ (best ≡ Some result) }
+{
+    match best {
+        Some(best) if best > 0 => best,
+        _ => 0,
+    }
+}
+
+/// The greatest offer to a bid at the node and prices, in thousandths of a cent: the greatest reduced value of its allowed
+/// walks, and zero where it has no yes leg. `None` exactly where it has a yes leg and no allowed walk.
+pub(crate) fn best_offer<F: RowFamily>(
+    alloc: Global,
+    node: &OpenNode<'_, F>,
+    prices: &[(F::Row, i64)],
+    bid: u32,
+) -> Result<Option<i128>, NoMemory>
+    requires instance { IsInstance node.now.net node.now.bids }
+    requires bid { bid < length node.now.bids }
+    requires ascending { AreAscending F.Row.cmp prices.now }
+    requires proper { ArePrices (F.rows_of node.now.family node.now.net) prices.now }
+    ensures best { IfOk result (λ best. (b : Asked) → slice_get node.now.bids bid ≡ Some b → IsBestOffer node.now.net (F.rows_of node.now.family node.now.net) node.now.bids node.now.node prices.now bid b best) }
+    ensures size { IfOk result (λ best. IfSome best IsWorthSize) }
+{
+    let inst = node.inst();
+    let _ = inst.net.track_count();
+    let weights = LeafWeights { node, bid, prices };
+    let best = best_walk(alloc, inst.net, &inst.bids[bid as usize], &weights)?;
+    if node.has_yes(bid) {
+        Ok(best)
+    } else {
+        Ok(Some(or_zero(best)))
+    }
+}
+
+/// A sum with one offer more; none where either is missing.
+fn plus(sum: Option<i128>, best: Option<i128>) -> Option<i128>
+    requires sum { IfSome sum (IsSumSize 1000) }
+    requires best { IfSome best IsWorthSize }
+    ensures { result ≡ plus_of sum best }
+{
+    match (sum, best) {
+        (Some(sum), Some(best)) => Some(sum + best),
+        _ => None,
+    }
+}
+
+/// The sum of the bids' terms; `None` exactly where some bid has a yes leg and no allowed walk.
+fn term_sum<F: RowFamily>(
+    alloc: Global,
+    node: &OpenNode<'_, F>,
+    prices: &[(F::Row, i64)],
+) -> Result<Option<i128>, NoMemory>
+    requires instance { IsInstance node.now.net node.now.bids }
+    requires ascending { AreAscending F.Row.cmp prices.now }
+    requires proper { ArePrices (F.rows_of node.now.family node.now.net) prices.now }
+    ensures terms { IfOk result (AreTerms node.now.net (F.rows_of node.now.family node.now.net) node.now.bids node.now.node prices.now (length node.now.bids)) }
+    ensures size { IfOk result (λ sum. IfSome sum (IsSumSize 1000)) }
+{
+    let count = node.inst().bids.len() as u32;
+    let mut sum = Some(0);
+    'bids: for bid in 0..count {
+        let best = best_offer(alloc, node, prices, bid)?;
+        sum = plus(sum, best);
+    }
+    Ok(sum)
+}
+
+/// The price of all capacity and a sum of terms; zero where there is no sum.
+fn dual_by(capacity: i128, sum: Option<i128>) -> i128
+    requires capacity { IsBetween (pos 0) (pos 2417851639229258349412352000000000000) capacity }
+    requires sum { IfSome sum (IsSumSize 1000) }
+    ensures { result ≡ dual_by capacity sum }
+{
+    match sum {
+        Some(sum) => capacity + sum,
+        None => 0,
+    }
+}
+
+/// Thousandths of a cent as whole cents, rounded down.
+fn whole_cents(value: i128) -> i128
+    ensures { result ≡ whole_cents value }
+{
+    value.div_euclid(1000)
+}
+
+/// The dual value of the node at the prices, in whole cents and rounded down.
+pub(crate) fn leaf_bound<F: RowFamily>(
+    alloc: Global,
+    node: &OpenNode<'_, F>,
+    prices: &[(F::Row, i64)],
+) -> Result<i128, NoMemory>
+    requires instance { IsInstance node.now.net node.now.bids }
+    requires ascending { AreAscending F.Row.cmp prices.now }
+    requires proper { ArePrices (F.rows_of node.now.family node.now.net) prices.now }
+    ensures { IfOk result (IsBoundOf node.now.net (F.rows_of node.now.family node.now.net) node.now.bids node.now.node prices.now) }
+{
+    let sum = term_sum(alloc, node, prices)?;
+    let value = dual_by(node.capacity_price(prices), sum);
+    Ok(whole_cents(value))
+}

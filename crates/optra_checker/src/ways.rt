@@ -1,0 +1,57 @@
+//! Ways by which a train leaves a station.
+ghost use Rattle.std.specs.Prelude.{◌≡◌, ◌≤◌, MatchOption, Some};
+ghost use Rattle.optra_network.specs.Net.{IsProper, MayUse};
+ghost use Rattle.optra_walk.specs.Walks.{tail_of};
+ghost use Rattle.optra_checker.specs.Ways.{IsWay, leg_by};
+
+use crate::states::State;
+use optra_bid::Bid;
+use optra_network::{Minute, Network, StationId, TrackId, TypeId};
+use optra_walk::{Action, Leg};
+
+/// A track by which the train may leave, and when it arrives at its head, passing or halting there.
+#[derive(Clone, Copy, Debug, PartialEq, Eq)]
+pub(crate) struct Way {
+    pub track: TrackId,
+    pub head: StationId,
+    pub pass: Minute,
+    pub halt: Minute,
+}
+
+impl Way {
+    /// The leg by the way from the state, with the action at its end.
+    pub(crate) fn leg(self, state: State, action: Action) -> Leg
+        ensures { result ≡ leg_by state self.track action }
+    {
+        Leg {
+            track: self.track,
+            depart: state.minute,
+            from_halt: state.halted,
+            action,
+        }
+    }
+}
+
+fn kind_of(bid: &Bid) -> TypeId
+    ensures { result ≡ bid.now.path.kind }
+{
+    bid.path.kind
+}
+
+/// The way by the track, where the train may use it.
+pub(crate) fn find_way(net: &Network, bid: &Bid, state: State, track: TrackId) -> Option<Way>
+    requires proper { IsProper net.now }
+    requires tail { tail_of net.now (leg_by state track Action.Pass) ≡ Some state.station }
+    requires minute { state.minute ≤ 2879 }
+    ensures { MatchOption result (¬ MayUse net.now track bid.now.path.kind) (λ way. (way.track ≡ track) × IsWay net.now bid.now.path state way) }
+{
+    let kind = kind_of(bid);
+    let pass = net.run(track, kind, state.halted, false)?;
+    let halt = net.run(track, kind, state.halted, true)?;
+    Some(Way {
+        track,
+        head: net.head(track),
+        pass: state.minute + pass,
+        halt: state.minute + halt,
+    })
+}

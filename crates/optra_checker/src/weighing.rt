@@ -1,0 +1,24 @@
+//! What legs cost a walk, and which legs and starts it may have.
+ghost use Rattle.std.specs.Prelude.{◌≡◌};
+ghost use Rattle.optra_walk.specs.Families.{IsUsable};
+ghost use Rattle.optra_checker.specs.Weights.{Weights, TellsCost};
+
+use optra_network::Minute;
+use optra_walk::Leg;
+
+/// What each leg costs a walk, in thousandths of a cent, and which legs and starts a walk may have.
+///
+/// The answers depend on the leg or the minute alone.
+pub(crate) trait Weighing {
+    /// The network and the train type whose legs are asked of, and the answers.
+    ghost weights: { Self → Weights };
+
+    /// What the leg costs, 0 to 2^60; `None` exactly where a walk may not have it.
+    fn cost(&self, leg: Leg) -> Option<i128>
+        requires { IsUsable (weights self.now).net (weights self.now).kind leg }
+        ensures { TellsCost (weights self.now) leg result };
+
+    /// Whether a walk may start at the minute.
+    fn may_start(&self, minute: Minute) -> bool
+        ensures { result ≡ (weights self.now).may_start minute };
+}
