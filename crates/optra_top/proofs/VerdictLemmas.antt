@@ -31,10 +31,10 @@ pub valid-no_reason : {R : Type 0} (net : Net) (rows : Rows R) (Keeps : List Ent
 valid-no_reason net rows Keeps bids cert Walk valid fails = fails valid.walks
 valid-no_reason net rows Keeps bids cert Conflict valid fails = fails.1 valid.rule
 valid-no_reason net rows Keeps bids cert Revenue valid fails = fails.2 valid.revenue_is
-valid-no_reason net rows Keeps bids cert Decision valid fails = fails.3 valid.splits
-valid-no_reason net rows Keeps bids cert DeadLeaf valid fails = fails.4 valid.dead
-valid-no_reason net rows Keeps bids cert Price valid fails = fails.5 valid.prices
-valid-no_reason net rows Keeps bids cert Bound valid fails = fails.6 valid.bound_is
+valid-no_reason net rows Keeps bids cert Decision valid fails = fails.1 valid.splits
+valid-no_reason net rows Keeps bids cert DeadLeaf valid fails = fails.2 valid.dead
+valid-no_reason net rows Keeps bids cert Price valid fails = fails.3 valid.prices
+valid-no_reason net rows Keeps bids cert Bound valid fails = fails.4 valid.bound_is
 
 module _ (net : Net) (bids : List Bid) (tells : TextTellsCert row_cmp headway_texts net (length bids)) (faultless : TextHasNoFault row_cmp headway_texts net (length bids)) where
   abbrev pub ValidHere : Cert HRow → Type 0
@@ -53,7 +53,7 @@ module _ (net : Net) (bids : List Bid) (tells : TextTellsCert row_cmp headway_te
       absurd (valid-no_reason net (headway_rows net) (KeepsHeadwayRule net) bids found.cert found.reason (subst ValidHere same valid) found.fails)
   verdict-yes bytes cert (Unreadable row number) text valid found = absurd (faultless bytes cert found.fault text found.first)
 
-  text_put : List (List ℕ × List ℕ) → List ℕ
+  abbrev text_put : List (List ℕ × List ℕ) → List ℕ
   text_put [] = []
   text_put (put ∷ puts) = put.1
 
