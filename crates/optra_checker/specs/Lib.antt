@@ -7,3 +7,4 @@ pub mod Tables
 pub mod Shares
 pub mod Sizes
 pub mod Starts
+pub mod Reaches
