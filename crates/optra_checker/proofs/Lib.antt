@@ -8,3 +8,4 @@ pub mod TrackLemmas
 pub mod ValueLemmas
 pub mod FillLemmas
 pub mod StartLemmas
+pub mod ReachLemmas
