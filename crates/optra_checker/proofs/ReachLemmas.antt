@@ -1,10 +1,9 @@
 -- Which states come into walks: those that are reached lead to such, and a state that is too late has no rest.
-use Rattle.std.proofs.Common.{◌≡◌, ℕ, ◌+◌, ◌≤◌, ◌<◌, inl, inr, Bool, true, false, not, List, [], ◌∷◌, length, Option, None, Some, IsSomeAnd, slice_get, slice_index, refl, sym, ap, ◌∙◌, subst, arith}
+use Rattle.std.proofs.Common.{◌≡◌, ℕ, ◌+◌, ◌≤◌, inl, inr, Bool, not, List, [], ◌∷◌, Option, None, Some, IsSomeAnd, slice_get, slice_index, refl, ap, subst, arith}
 use Rattle.std.specs.Option.{option_map}
 use Rattle.std.proofs.lemmas.Option.{slice_get_within}
-use Rattle.optra_network.specs.Net.{Net, IsFromTo, times_of, minutes_by, track_id}
+use Rattle.optra_network.specs.Net.{Net, IsFromTo, times_of, minutes_by}
 use Rattle.optra_network.specs.declared.StationId.{StationId}
-use Rattle.optra_network.specs.declared.TrackId.{TrackId}
 use Rattle.optra_network.specs.declared.TypeId.{TypeId}
 use Rattle.optra_network.specs.declared.Track.{Track}
 use Rattle.optra_network.specs.declared.Times.{Times}
@@ -16,7 +15,7 @@ use Rattle.optra_walk.specs.Legs.{is_pass, arrival_of, next_depart_of, after_act
 use Rattle.optra_walk.specs.Walks.{tail_of, head_of}
 use Rattle.optra_checker.specs.declared.states.State.{State}
 use Rattle.optra_checker.specs.declared.reach.Reach.{Reach}
-use Rattle.optra_checker.specs.Reaches.{AreLeast, IsReach, IsReached, IsInTime}
+use Rattle.optra_checker.specs.Reaches.{IsReach, IsReached, IsInTime}
 use Rattle.optra_checker.specs.Rests.{FitsAction, IsMove, IsAfter, IsRest}
 
 track_there : (tracks : List Track) (n : ℕ) (s : StationId) → option_map (λ (t : Track). t.tail) (slice_get tracks n) ≡ Some s → (t : Track) × (slice_get tracks n ≡ Some t) × (t.tail ≡ s)
