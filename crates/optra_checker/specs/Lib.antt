@@ -8,3 +8,4 @@ pub mod Shares
 pub mod Sizes
 pub mod Starts
 pub mod Reaches
+pub mod Asks

@@ -1,6 +1,7 @@
 //! The checker of certificates.
 #![tactic(auto)]
 
+mod asks;
 mod reach;
 mod rest_table;
 mod rests;

@@ -2,6 +2,7 @@
 ghost use Rattle.std.specs.Prelude.{◌≡◌, ◌+◌, ◌≤◌, IfOk, IfSome, ◌+ℤ◌};
 ghost use Rattle.optra_bid.specs.Specs.{IsPathOn};
 ghost use Rattle.optra_network.specs.Net.{IsFromTo};
+ghost use Rattle.optra_checker.specs.Asks.{AreAsked};
 ghost use Rattle.optra_checker.specs.Places.{IsPlaced, place_of};
 ghost use Rattle.optra_checker.specs.Reaches.{IsReach, IsReached};
 ghost use Rattle.optra_checker.specs.Rests.{IsBestRest, AnyLeg, start_state};
@@ -12,6 +13,7 @@ ghost use Rattle.optra_checker.specs.Starts.{IsBestStart, IsAt};
 ghost use Rattle.optra_checker.specs.Tables.{IsTable, IsFilled};
 ghost use Rattle.optra_checker.specs.Weights.{AreWeightsFor, IsBestWorth, IsWorthSize};
 
+use crate::asks::Ask;
 use crate::reach::make_reach;
 use crate::rest_table::{RestTable, empty_table};
 use crate::rests::{greater, state_rest};
@@ -27,22 +29,32 @@ fn place_rest<W: Weighing>(
     net: &Network,
     bid: &Bid,
     weighing: &W,
+    asks: &mut [Option<Ask>],
     table: &RestTable,
     state: State,
 ) -> Option<i128>
+    requires asks { AreAsked (W.weights weighing.now) asks.old }
     requires weights { AreWeightsFor (W.weights weighing.now) net.now bid.now.path }
     requires placed { IsPlaced table.now.layout state }
     requires filled { IsFilled (W.weights weighing.now) net.now bid.now table.now (place_of table.now.layout state + 1) }
-    ensures { IsReached bid.now.path table.now.reach state → IsBestRest (W.weights weighing.now) net.now bid.now state AnyLeg result }
+    ensures best { IsReached bid.now.path table.now.reach state → IsBestRest (W.weights weighing.now) net.now bid.now state AnyLeg result }
+    ensures asks { AreAsked (W.weights weighing.now) asks.new }
 {
     if !table.reach.has(bid, state) {
         return None;
     }
-    state_rest(net, bid, weighing, table, state)
+    state_rest(net, bid, weighing, asks, table, state)
 }
 
 /// Fills the table, from the last place to the first.
-fn fill<W: Weighing>(net: &Network, bid: &Bid, weighing: &W, table: &mut RestTable)
+fn fill<W: Weighing>(
+    net: &Network,
+    bid: &Bid,
+    weighing: &W,
+    asks: &mut [Option<Ask>],
+    table: &mut RestTable,
+)
+    requires asks { AreAsked (W.weights weighing.now) asks.old }
     requires weights { AreWeightsFor (W.weights weighing.now) net.now bid.now.path }
     requires table { IsTable table.old }
     requires setting { IsSetting net.now bid.now.path table.old.layout }
@@ -53,7 +65,7 @@ fn fill<W: Weighing>(net: &Network, bid: &Bid, weighing: &W, table: &mut RestTab
     while left > 0 {
         left -= 1;
         let state = table.layout.state(left);
-        let rest = place_rest(net, bid, weighing, table, state);
+        let rest = place_rest(net, bid, weighing, asks, table, state);
         table.put(left, rest);
     }
 }
@@ -146,6 +158,7 @@ pub(crate) fn best_walk<W: Weighing>(
 {
     let reach = make_reach(alloc, net, bid)?;
     let mut table = empty_table(alloc, make_layout(net, bid), reach)?;
-    fill(net, bid, weighing, &mut table);
+    let mut asks = vec![in alloc; None; net.track_count() as usize]?;
+    fill(net, bid, weighing, &mut asks, &mut table);
     Ok(best_start(net, bid, weighing, &table))
 }

@@ -17,6 +17,7 @@ loop-left-init g c =
     let e = c.places-left.ensures.value in
     record {
       filled = subst (λ (n : ℕ). IsFilled w c.args.net.now c.args.bid.now c.args.table.now n) (sym e) (filled_none w c.args.net.now c.args.bid.now c.args.table.now c.requires.table c.requires.setting c.requires.reach);
+      asks = c.requires.asks;
       few = omega arith;
     }
 
@@ -36,7 +37,8 @@ loop-left-preserved g c =
     record {
       filled = filled_more w c.args.net.now c.args.bid.now c.loop-left.table c.put.new.self (c.loop-left.left - 1) c.place_rest-rest.result l
           (subst (λ (n : ℕ). IsFilled w c.args.net.now c.args.bid.now c.loop-left.table n) e c.loop-left.invariant.filled)
-          (subst (λ (s : State). IsReached c.args.bid.now.path c.loop-left.table.reach s → IsBestRest w c.args.net.now c.args.bid.now s AnyLeg c.place_rest-rest.result) c.state-state.ensures.value c.place_rest-rest.ensures)
+          (subst (λ (s : State). IsReached c.args.bid.now.path c.loop-left.table.reach s → IsBestRest w c.args.net.now c.args.bid.now s AnyLeg c.place_rest-rest.result) c.state-state.ensures.value c.place_rest-rest.ensures.best)
           c.put.ensures.rests c.put.ensures.layout c.put.ensures.reach;
+      asks = c.place_rest-rest.ensures.asks;
       few = let f = ap places_of c.put.ensures.layout in omega arith;
     }
