@@ -20,3 +20,4 @@ pub mod StartLemmas
 pub mod UsedLemmas
 pub mod LeafLemmas
 pub mod BoundLemmas
+pub mod ReachLemmas

@@ -26,7 +26,7 @@ use Rattle.optra_checker.specs.Rests.{FitsAction, IsMove, IsAfter, IsRestSize, I
 use Rattle.optra_checker.specs.Tables.{IsReadyFor, rest_at, entry_at}
 use Rattle.optra_checker.specs.Ways.{leg_by, IsWay, IsOn, IsLegBy, IsHaltBelow, IsHaltBy, IsWaitBelow, IsWaitBy}
 use Rattle.optra_checker.proofs.BestLemmas.{best_same, best_both, best_none, best_on, best_end}
-use Rattle.optra_checker.proofs.HorizonLemmas.{rest_before}
+use Rattle.optra_checker.proofs.HorizonLemmas.{rest_before, after_later}
 
 some_same : {A : Type 0} (o : Option A) (a b : A) → o ≡ Some a → o ≡ Some b → a ≡ b
 some_same o a b e f = cc
@@ -147,16 +147,16 @@ module _ (net : Net) (path : Path) (s : State) where
 
 module _ (w : Weights) (net : Net) (bid : Bid) (table : RestTable) (s : State) (ready : IsReadyFor w net bid table s) where
   -- what the table has for a state that comes later
-  pub later_rest : (after : State) → s.minute < after.minute → after.station.0 < length net.stations → after.done * 2 + mode_of after.halted < table.layout.slots
+  pub later_rest : (leg : Leg) (after : State) → IsMove net bid.path s leg → IsAfter net bid.path s leg after → after.station.0 < length net.stations → after.done * 2 + mode_of after.halted < table.layout.slots
       → (after.minute < table.layout.first + table.layout.minutes → IsPlaced table.layout after) × IsBestRest w net bid after AnyLeg (rest_at table after)
-  later_rest after later station done = (placed, by (cases_lt after.minute (table.layout.first + table.layout.minutes)))
+  later_rest leg after move is_after station done = (placed, by (cases_lt after.minute (table.layout.first + table.layout.minutes)))
     where
       placed : after.minute < table.layout.first + table.layout.minutes → IsPlaced table.layout after
-      placed l = let early = ready.placed.early in let e = ready.setting.laid.stations in record { early = omega arith; late = l; done = done; station = omega (arith, e) }
+      placed l = let later = after_later net bid.path ready.setting.proper s after leg move is_after in let early = ready.placed.early in let e = ready.setting.laid.stations in record { early = omega arith; late = l; done = done; station = omega (arith, e) }
 
       by : (after.minute < table.layout.first + table.layout.minutes) ⊎ (table.layout.first + table.layout.minutes ≤ after.minute) → IsBestRest w net bid after AnyLeg (rest_at table after)
       by (inl l) = subst (λ (b : Bool). IsBestRest w net bid after AnyLeg (if b then entry_at table (place_of table.layout after) else None))
-          (sym (lt-ltb after.minute (table.layout.first + table.layout.minutes) l)) (ready.later after (placed l) later)
+          (sym (lt-ltb after.minute (table.layout.first + table.layout.minutes) l)) (ready.later leg after move is_after (placed l))
       by (inr l) =
           let f = ready.setting.laid.first in
           let m = ready.setting.laid.minutes in
@@ -183,7 +183,7 @@ module _ (w : Weights) (net : Net) (bid : Bid) (table : RestTable) (s : State) (
 
     pub pass_later : (way.pass < table.layout.first + table.layout.minutes → IsPlaced table.layout (after_pass net bid.path s way by))
         × IsBestRest w net bid (after_pass net bid.path s way by) AnyLeg (rest_at table (after_pass net bid.path s way by))
-    pass_later = let d = ready.placed.done in later_rest (after_pass net bid.path s way by) by.pass_later by.station (omega (arith, d))
+    pass_later = let d = ready.placed.done in later_rest (leg_by s way.track Pass) (after_pass net bid.path s way by) (move_by net bid.path s way by Pass tt) (is_after_pass net bid.path s way by) by.station (omega (arith, d))
 
     pub pass_best : IfSome (worth_by w (leg_by s way.track Pass) (pos 0) (rest_at table (after_pass net bid.path s way by))) (IsRestSize s.minute)
         → IsBestRest w net bid s (IsLegBy s way.track Pass) (worth_by w (leg_by s way.track Pass) (pos 0) (rest_at table (after_pass net bid.path s way by)))
@@ -213,7 +213,7 @@ module _ (w : Weights) (net : Net) (bid : Bid) (table : RestTable) (s : State) (
       pub halt_later : (way.halt + d < table.layout.first + table.layout.minutes → IsPlaced table.layout (after_halt net bid.path s way by d))
           × IsBestRest w net bid (after_halt net bid.path s way by d) AnyLeg (rest_at table (after_halt net bid.path s way by d))
       halt_later = let e = ready.setting.laid.slots in let l = by.halt_later in let more = halt_done in
-          later_rest (after_halt net bid.path s way by d) (omega arith) by.station (omega (arith, e, more))
+          later_rest (leg_by s way.track (Halt d)) (after_halt net bid.path s way by d) move (is_after_halt net bid.path s way by d) by.station (omega (arith, e, more))
 
       pub halt_best : IfSome (worth_by w (leg_by s way.track (Halt d)) (pos 0) (rest_at table (after_halt net bid.path s way by d))) (IsRestSize s.minute)
           → IsBestRest w net bid s (IsLegBy s way.track (Halt d)) (worth_by w (leg_by s way.track (Halt d)) (pos 0) (rest_at table (after_halt net bid.path s way by d)))
@@ -231,7 +231,7 @@ module _ (w : Weights) (net : Net) (bid : Bid) (table : RestTable) (s : State) (
 
       pub wait_later : (way.halt + d < table.layout.first + table.layout.minutes → IsPlaced table.layout (after_wait net bid.path s way by d))
           × IsBestRest w net bid (after_wait net bid.path s way by d) AnyLeg (rest_at table (after_wait net bid.path s way by d))
-      wait_later = let l = by.halt_later in later_rest (after_wait net bid.path s way by d) (omega arith) by.station slots_room
+      wait_later = let l = by.halt_later in later_rest (leg_by s way.track (Wait d)) (after_wait net bid.path s way by d) move (is_after_wait net bid.path s way by d) by.station slots_room
 
       pub wait_best : IfSome (worth_by w (leg_by s way.track (Wait d)) (wait_price bid d) (rest_at table (after_wait net bid.path s way by d))) (IsRestSize s.minute)
           → IsBestRest w net bid s (IsLegBy s way.track (Wait d)) (worth_by w (leg_by s way.track (Wait d)) (wait_price bid d) (rest_at table (after_wait net bid.path s way by d)))

@@ -18,6 +18,7 @@ use Rattle.optra_checker.specs.Starts.{IsStartWorth, IsBestStart, IsAt, IsBefore
 use Rattle.optra_checker.specs.Tables.{IsFilled, rest_at, entry_at}
 use Rattle.optra_checker.proofs.BestLemmas.{same_greatest, both_greatest, greater_has}
 use Rattle.optra_checker.proofs.HorizonLemmas.{rest_before}
+use Rattle.optra_checker.proofs.ReachLemmas.{reached_start}
 use Rattle.optra_checker.proofs.RestLemmas.{rest_of_walk, walk_of_rest}
 use Rattle.optra_checker.proofs.ValueLemmas.{walk_sum}
 
@@ -38,7 +39,7 @@ module _ (w : Weights) (net : Net) (bid : Bid) where
 
       by : (minute < table.layout.first + table.layout.minutes) ⊎ (table.layout.first + table.layout.minutes ≤ minute) → IsBestRest w net bid (start_state bid.path minute) AnyLeg (rest_at table (start_state bid.path minute))
       by (inl l) = subst (λ (b : Bool). IsBestRest w net bid (start_state bid.path minute) AnyLeg (if b then entry_at table (place_of table.layout (start_state bid.path minute)) else None))
-          (sym (lt-ltb minute (table.layout.first + table.layout.minutes) l)) (h.each (start_state bid.path minute) (placed l) (omega arith))
+          (sym (lt-ltb minute (table.layout.first + table.layout.minutes) l)) (h.each (start_state bid.path minute) (placed l) (omega arith) (reached_start net bid.path table.reach h.reach (start_state bid.path minute) refl within.0))
       by (inr l) =
           let f = h.setting.laid.first in
           let m = h.setting.laid.minutes in

@@ -5,6 +5,7 @@ use Rattle.std.specs.List.{list_all}
 use Rattle.std.specs.Option.{option_map_or}
 use Rattle.std.specs.declared.cmp.Ordering.{Ordering}
 use Rattle.std.proofs.lemmas.Bool.{cases_lt, false≢true}
+use mathlib.Core.Bool.{beq}
 use Rattle.std.proofs.lemmas.Bool.Decides.{nat_tests}
 use Rattle.std.proofs.lemmas.List.Elements.{All-contains}
 use Rattle.std.proofs.lemmas.List.Sums.{AllPass-from_list_all, list_all-from_AllPass}
@@ -14,10 +15,12 @@ use Rattle.optra_bid.specs.declared.bids.Bid.{Bid}
 use Rattle.optra_walk.specs.declared.Action.{Action}
 use Rattle.optra_walk.specs.declared.Action.TheVariants.{Pass, Halt, Wait, Finish}
 use Rattle.optra_walk.specs.declared.Leg.{Leg}
-use Rattle.optra_walk.specs.Families.{Rows, ListsRows}
+use Rattle.optra_walk.specs.Families.{Rows, ListsRows, UseAlike}
 use Rattle.optra_walk.specs.Legs.{next_depart_of}
 use Rattle.optra_node.specs.declared.Decision.{Decision}
+use Rattle.std.specs.Prelude.{pos, ◌*ℤ◌}
 use Rattle.optra_node.specs.Nodes.{IsBlocked, others_load}
+use Rattle.optra_node.specs.Duals.{PriceList, sum_of, leg_price}
 use Rattle.optra_node.specs.Spans.{HoldsMinute, Lets, IsLetBy, IsStartOk, IsLegOk}
 use Rattle.optra_node.proofs.LeastLemmas.{at_contains}
 use Rattle.optra_checker.specs.Tests.{may_start_at, same_action, same_leg, spans_minute, lets_leg, all_let, has_room, may_have_leg}
@@ -127,7 +130,7 @@ module _ (net : Net) (kind : TypeId) where
       by false true false e f g = ((λ t. record { yes = λ _ m. absurd (false≢true (sym g ∙ (spans_tested leg d.leg.depart).1 m)); no = λ _. differ e }), (λ l. refl))
       by false false h e f g = ((λ t. record { yes = λ y. absurd (false≢true (sym f ∙ y)); no = λ _. differ e }), (λ l. refl))
 
-  all_tested : (node : List Decision) (number : ℕ) (leg : Leg) → (all_let net node number kind leg ≡ true) ↔ IsLetBy net node number kind leg
+  pub all_tested : (node : List Decision) (number : ℕ) (leg : Leg) → (all_let net node number kind leg ≡ true) ↔ IsLetBy net node number kind leg
   all_tested node number leg = all_by (λ d. not (nat_eq d.bid number) || lets_leg net kind d leg) (λ d. d.bid ≡ number → Lets net kind d leg) (λ d. by d (nat_eq d.bid number) refl) node
     where
       by : (d : Decision) (n : Bool) → nat_eq d.bid number ≡ n → ((not n || lets_leg net kind d leg) ≡ true) ↔ (d.bid ≡ number → Lets net kind d leg)
@@ -161,3 +164,19 @@ module _ (net : Net) (kind : TypeId) where
     leg_tested =
         let both = both_by (all_let net node number kind leg) (has_room rows used bids node number kind leg) (IsLetBy net node number kind leg) (IsBlocked rows bids node number kind leg → ⊥) (all_tested node number leg) room_tested in
         ((λ e. let h = both.0 e in record { let_by = h.0; free = h.1 }), (λ h. both.1 (h.let_by, h.free)))
+
+-- a walk of the bid may have two legs that use alike, at one price, or neither, where the decisions let it have both or neither
+pub alike_by : {R : Type 0} (net : Net) (rows : Rows R) (used : TypeId → Leg → List R) (bids : List Bid) (node : List Decision) (number : ℕ) (kind : TypeId) (first second : Leg) → UseAlike rows used kind first second
+    → all_let net node number kind first ≡ all_let net node number kind second → (prices : PriceList R)
+    → (may_have_leg net rows used bids node number kind first ≡ may_have_leg net rows used bids node number kind second) × (leg_price rows prices kind first ≡ leg_price rows prices kind second)
+alike_by net rows used bids node number kind first second (uses, listed) lets prices = (
+  (λ i. lets i && list_all (λ row. nat_le (uses row i + others_load rows bids node number row) (rows.capacity row)) (listed i)),
+  (λ i. sum_of (λ e. e.1 *ℤ pos (uses e.0 i)) prices),
+)
+
+-- two answers that a test finds equal
+pub same_answer : (a b : Bool) → beq a b ≡ true → a ≡ b
+same_answer true true h = refl
+same_answer true false h = absurd (false≢true h)
+same_answer false true h = absurd (false≢true h)
+same_answer false false h = refl

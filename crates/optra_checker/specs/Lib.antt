@@ -16,3 +16,5 @@ pub mod Sizes
 pub mod Starts
 pub mod Leaves
 pub mod Bounds
+pub mod Reaches
+pub mod Asks

@@ -24,6 +24,10 @@ abbrev pub TellsCost : Weights → Leg → Option ℤ → Type 0
 TellsCost w leg None = w.may_have leg ≡ false
 TellsCost w leg (Some n) = (w.may_have leg ≡ true) × (n ≡ w.cost_of leg) × IsBetween (pos 0) (pos 1152921504606846976) n
 
+-- a walk may have both legs at one cost, or neither
+abbrev pub AreAlike : Weights → Leg → Leg → Type 0
+AreAlike w first second = (w.may_have first ≡ w.may_have second) × (w.cost_of first ≡ w.cost_of second)
+
 -- the weights are of legs for the path on the network
 pub record AreWeightsFor (w : Weights) (net : Net) (path : Path) : Type 0 where
   pub net_is : w.net ≡ net

@@ -34,6 +34,10 @@ impl<'a, 'b, F: RowFamily> Weighing for LeafWeights<'a, 'b, F> {
         }
     }
 
+    fn alike(&self, first: Leg, second: Leg) -> bool {
+        self.node.are_alike(self.bid, first, second)
+    }
+
     fn may_start(&self, minute: Minute) -> bool {
         self.node.may_start(self.bid, minute)
     }

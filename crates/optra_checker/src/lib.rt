@@ -7,6 +7,7 @@
 
 use optra_network::Cents;
 
+mod asks;
 mod bounding;
 mod checking;
 mod fitting;
@@ -16,6 +17,7 @@ mod leaves;
 mod open_node;
 mod own_lists;
 mod pricing;
+mod reach;
 mod rest_table;
 mod rests;
 mod shares;

@@ -1,5 +1,5 @@
 //! The node at hand while a tree is gone through.
-ghost use Rattle.std.specs.Prelude.{◌≡◌, ◌<◌, ◌↔◌, ◌++◌, ◌∷◌, [], IsTrue, IfOk, length, pos};
+ghost use Rattle.std.specs.Prelude.{◌≡◌, ◌<◌, ◌↔◌, ◌++◌, ◌∷◌, [], IsTrue, IfOk, length, pos, true};
 ghost use Rattle.std.specs.List.{list_any};
 ghost use Rattle.optra_node.specs.Nodes.{IsFormedLeg, IsFormedDecision, IsUndecided, IsOverfull, IsBlocked, kind_at, has_yes};
 ghost use Rattle.optra_node.specs.Spans.{IsLegOk, IsLetBy, IsStartOk};
@@ -7,9 +7,11 @@ ghost use Rattle.optra_node.specs.Summaries.{decisions_for};
 ghost use Rattle.optra_node.specs.Trees.{children};
 ghost use Rattle.optra_bid.specs.Specs.{IsBetween};
 ghost use Rattle.optra_walk.specs.Families.{IsUsable};
-ghost use Rattle.optra_node.specs.Duals.{ArePrices, leg_price, capacity_price};
+ghost use Rattle.optra_node.specs.Duals.{PriceList, ArePrices, leg_price, capacity_price};
 ghost use Rattle.optra_node.specs.Certificates.{IsFormedItem, SplitsUndecided, AreAscending};
+ghost use Rattle.optra_checker.specs.Leaves.{leaf_weights};
 ghost use Rattle.optra_checker.specs.Tests.{may_have_leg, may_start_at};
+ghost use Rattle.optra_checker.specs.Weights.{AreAlike};
 ghost use Rattle.optra_checker.specs.ToCome.{to_come, IsNextWay};
 
 use crate::leaf_prices::{capacity_price, leg_price};
@@ -265,6 +267,22 @@ impl<'a, F: RowFamily> OpenNode<'a, F> {
     {
         let _ = self.inst.net.track_count();
         self.leg_ok(bid, leg)
+    }
+
+    /// Whether it is seen at once that a walk of the bid may have both legs, at one price, or neither. It is never true of
+    /// others.
+    pub(crate) fn are_alike(&self, bid: u32, first: Leg, second: Leg) -> bool
+        requires bid { bid < length self.now.bids }
+        requires first { IsUsable self.now.net (kind_at self.now.bids bid) first }
+        requires second { IsUsable self.now.net (kind_at self.now.bids bid) second }
+        ensures { result ≡ true → (prices : PriceList F.Row) → AreAlike (leaf_weights self.now.net (F.rows_of self.now.family self.now.net) (F.rows_used self.now.family self.now.net) self.now.bids self.now.node bid prices (kind_at self.now.bids bid)) first second }
+    {
+        let inst = self.inst;
+        let kind = kind_at(inst, bid);
+        if !self.rows.use_alike(inst.net, kind, first, second) {
+            return false;
+        }
+        self.let_by(bid, first) == self.let_by(bid, second)
     }
 
     /// Whether the bid may start at the minute, as a test.

@@ -3,6 +3,7 @@ ghost use Rattle.std.specs.Prelude.{◌≡◌, ◌+◌, ◌<◌, length, IfOk, s
 ghost use Rattle.optra_checker.specs.Places.{IsPlaced, IsSmall};
 ghost use Rattle.optra_checker.specs.Tables.{IsTable, rest_at};
 
+use crate::reach::Reach;
 use crate::states::{Layout, State};
 use optra_network::NoMemory;
 use std::alloc::Global;
@@ -12,17 +13,27 @@ use std::alloc::Global;
 #[derive(Drop)]
 pub(crate) struct RestTable {
     pub layout: Layout,
+    pub reach: Reach,
     pub rests: Vec<Option<i128>>,
 }
 
 /// A table without a rest.
-pub(crate) fn empty_table(alloc: Global, layout: Layout) -> Result<RestTable, NoMemory>
+pub(crate) fn empty_table(
+    alloc: Global,
+    layout: Layout,
+    reach: Reach,
+) -> Result<RestTable, NoMemory>
     requires { IsSmall layout }
     ensures table { IfOk result IsTable }
     ensures laid_out { IfOk result (λ table. table.layout ≡ layout) }
+    ensures reach { IfOk result (λ table. table.reach ≡ reach) }
 {
     let rests = vec![in alloc; None; layout.places() as usize]?;
-    Ok(RestTable { layout, rests })
+    Ok(RestTable {
+        layout,
+        reach,
+        rests,
+    })
 }
 
 impl RestTable {
@@ -44,6 +55,7 @@ impl RestTable {
         requires { place < length self.old.rests.items }
         ensures rests { self.new.rests.items ≡ slice_set self.old.rests.items place rest }
         ensures layout { self.new.layout ≡ self.old.layout }
+        ensures reach { self.new.reach ≡ self.old.reach }
     {
         self.rests[place as usize] = rest;
     }

@@ -1,8 +1,9 @@
 //! The best rest of a walk from a state on, by what a table has for the states that come later.
-ghost use Rattle.std.specs.Prelude.{◌≡◌, ◌+◌, ◌≤◌, ◌↔◌, length, pos, ◌-ℤ◌, IfSome, IsTrue, Some, slice_get};
+ghost use Rattle.std.specs.Prelude.{◌≡◌, ◌+◌, ◌<◌, ◌≤◌, ◌↔◌, length, pos, ◌-ℤ◌, IfSome, IsTrue, Some, slice_get};
 ghost use Rattle.optra_bid.specs.Specs.{IsBetween};
 ghost use Rattle.optra_walk.specs.Families.{IsUsable};
 ghost use Rattle.optra_walk.specs.Walks.{tail_of};
+ghost use Rattle.optra_checker.specs.Asks.{AreAsked};
 ghost use Rattle.optra_checker.specs.Rests.{IsMove, IsBestRest, IsRestSize, AnyLeg, greater_of, worth_by};
 ghost use Rattle.optra_checker.specs.Shares.{IsShare};
 ghost use Rattle.optra_checker.specs.Sizes.{IsWholeRest, IsCost};
@@ -10,6 +11,7 @@ ghost use Rattle.optra_checker.specs.Tables.{IsReadyFor};
 ghost use Rattle.optra_checker.specs.Ways.{IsWay, IsOn, IsLegBy, IsHaltBy, IsWaitBy, leg_by};
 ghost use Rattle.optra_checker.specs.Weights.{AreWeightsFor};
 
+use crate::asks::{Ask, leg_cost};
 use crate::rest_table::RestTable;
 use crate::shares::{end_price, wait_price};
 use crate::states::State;
@@ -41,15 +43,24 @@ fn less(rest: i128, share: i64, cost: i128) -> i128
 }
 
 /// What the best rest that begins with the leg is worth, by the leg's share of the value and the best rest behind it.
-fn begin_with<W: Weighing>(weighing: &W, leg: Leg, share: i64, rest: Option<i128>) -> Option<i128>
+fn begin_with<W: Weighing>(
+    weighing: &W,
+    asks: &mut [Option<Ask>],
+    leg: Leg,
+    share: i64,
+    rest: Option<i128>,
+) -> Option<i128>
+    requires asks { AreAsked (W.weights weighing.now) asks.old }
+    requires track { leg.track.0 < length asks.old }
     requires usable { IsUsable (W.weights weighing.now).net (W.weights weighing.now).kind leg }
     requires share { IsShare share }
     requires rest { IfSome rest (IsRestSize (leg.depart + 1)) }
     ensures value { result ≡ worth_by (W.weights weighing.now) leg share rest }
     ensures size { IfSome result (IsRestSize leg.depart) }
+    ensures asks { AreAsked (W.weights weighing.now) asks.new }
 {
     let rest = rest?;
-    let cost = weighing.cost(leg)?;
+    let cost = leg_cost(weighing, asks, leg)?;
     Some(less(rest, share, cost))
 }
 
@@ -58,22 +69,24 @@ fn pass_rest<W: Weighing>(
     net: &Network,
     bid: &Bid,
     weighing: &W,
+    asks: &mut [Option<Ask>],
     table: &RestTable,
-    state: State,
     way: Way,
 ) -> Option<i128>
+    requires asks { AreAsked (W.weights weighing.now) asks.old }
     requires weights { AreWeightsFor (W.weights weighing.now) net.now bid.now.path }
-    requires ready { IsReadyFor (W.weights weighing.now) net.now bid.now table.now state }
-    requires way { IsWay net.now bid.now.path state way }
-    ensures { IsBestRest (W.weights weighing.now) net.now bid.now state (IsLegBy state way.track Action.Pass) result }
+    requires ready { IsReadyFor (W.weights weighing.now) net.now bid.now table.now way.from }
+    requires way { IsWay net.now bid.now.path way.from way }
+    ensures best { IsBestRest (W.weights weighing.now) net.now bid.now way.from (IsLegBy way.from way.track Action.Pass) result }
+    ensures asks { AreAsked (W.weights weighing.now) asks.new }
 {
     let rest = table.rest(State {
         station: way.head,
         minute: way.pass,
         halted: false,
-        done: state.done,
+        done: way.from.done,
     });
-    begin_with(weighing, way.leg(state, Action::Pass), 0, rest)
+    begin_with(weighing, asks, way.leg(Action::Pass), 0, rest)
 }
 
 /// The best rest that begins by the way and halts at its end for so many minutes.
@@ -81,24 +94,26 @@ fn halt_rest<W: Weighing>(
     net: &Network,
     bid: &Bid,
     weighing: &W,
+    asks: &mut [Option<Ask>],
     table: &RestTable,
-    state: State,
     way: Way,
     dwell: u16,
 ) -> Option<i128>
+    requires asks { AreAsked (W.weights weighing.now) asks.old }
     requires weights { AreWeightsFor (W.weights weighing.now) net.now bid.now.path }
-    requires ready { IsReadyFor (W.weights weighing.now) net.now bid.now table.now state }
-    requires way { IsWay net.now bid.now.path state way }
-    requires halt { IsMove net.now bid.now.path state (leg_by state way.track (Action.Halt dwell)) }
-    ensures { IsBestRest (W.weights weighing.now) net.now bid.now state (IsLegBy state way.track (Action.Halt dwell)) result }
+    requires ready { IsReadyFor (W.weights weighing.now) net.now bid.now table.now way.from }
+    requires way { IsWay net.now bid.now.path way.from way }
+    requires halt { IsMove net.now bid.now.path way.from (leg_by way.from way.track (Action.Halt dwell)) }
+    ensures best { IsBestRest (W.weights weighing.now) net.now bid.now way.from (IsLegBy way.from way.track (Action.Halt dwell)) result }
+    ensures asks { AreAsked (W.weights weighing.now) asks.new }
 {
     let rest = table.rest(State {
         station: way.head,
         minute: way.halt + dwell,
         halted: true,
-        done: state.done + 1,
+        done: way.from.done + 1,
     });
-    begin_with(weighing, way.leg(state, Action::Halt(dwell)), 0, rest)
+    begin_with(weighing, asks, way.leg(Action::Halt(dwell)), 0, rest)
 }
 
 /// The best rest that begins by the way and waits at its end for so many minutes.
@@ -106,25 +121,27 @@ fn wait_rest<W: Weighing>(
     net: &Network,
     bid: &Bid,
     weighing: &W,
+    asks: &mut [Option<Ask>],
     table: &RestTable,
-    state: State,
     way: Way,
     dwell: u16,
 ) -> Option<i128>
+    requires asks { AreAsked (W.weights weighing.now) asks.old }
     requires weights { AreWeightsFor (W.weights weighing.now) net.now bid.now.path }
-    requires ready { IsReadyFor (W.weights weighing.now) net.now bid.now table.now state }
-    requires way { IsWay net.now bid.now.path state way }
-    requires wait { IsMove net.now bid.now.path state (leg_by state way.track (Action.Wait dwell)) }
-    ensures { IsBestRest (W.weights weighing.now) net.now bid.now state (IsLegBy state way.track (Action.Wait dwell)) result }
+    requires ready { IsReadyFor (W.weights weighing.now) net.now bid.now table.now way.from }
+    requires way { IsWay net.now bid.now.path way.from way }
+    requires wait { IsMove net.now bid.now.path way.from (leg_by way.from way.track (Action.Wait dwell)) }
+    ensures best { IsBestRest (W.weights weighing.now) net.now bid.now way.from (IsLegBy way.from way.track (Action.Wait dwell)) result }
+    ensures asks { AreAsked (W.weights weighing.now) asks.new }
 {
     let rest = table.rest(State {
         station: way.head,
         minute: way.halt + dwell,
         halted: true,
-        done: state.done,
+        done: way.from.done,
     });
-    let leg = way.leg(state, Action::Wait(dwell));
-    begin_with(weighing, leg, wait_price(bid, dwell), rest)
+    let leg = way.leg(Action::Wait(dwell));
+    begin_with(weighing, asks, leg, wait_price(bid, dwell), rest)
 }
 
 /// The stop that comes after so many.
@@ -146,22 +163,24 @@ fn halts_rest<W: Weighing>(
     net: &Network,
     bid: &Bid,
     weighing: &W,
+    asks: &mut [Option<Ask>],
     table: &RestTable,
-    state: State,
     way: Way,
 ) -> Option<i128>
+    requires asks { AreAsked (W.weights weighing.now) asks.old }
     requires weights { AreWeightsFor (W.weights weighing.now) net.now bid.now.path }
-    requires ready { IsReadyFor (W.weights weighing.now) net.now bid.now table.now state }
-    requires way { IsWay net.now bid.now.path state way }
-    ensures { IsBestRest (W.weights weighing.now) net.now bid.now state (IsHaltBy state way.track) result }
+    requires ready { IsReadyFor (W.weights weighing.now) net.now bid.now table.now way.from }
+    requires way { IsWay net.now bid.now.path way.from way }
+    ensures best { IsBestRest (W.weights weighing.now) net.now bid.now way.from (IsHaltBy way.from way.track) result }
+    ensures asks { AreAsked (W.weights weighing.now) asks.new }
 {
-    let stop = next_stop(bid, state.done)?;
+    let stop = next_stop(bid, way.from.done)?;
     if !may_halt(stop, way) {
         return None;
     }
     let mut best = None;
     for dwell in stop.min_dwell..stop.max_dwell + 1 {
-        let rest = halt_rest(net, bid, weighing, table, state, way, dwell);
+        let rest = halt_rest(net, bid, weighing, asks, table, way, dwell);
         best = greater(best, rest);
     }
     best
@@ -179,29 +198,31 @@ fn waits_rest<W: Weighing>(
     net: &Network,
     bid: &Bid,
     weighing: &W,
+    asks: &mut [Option<Ask>],
     table: &RestTable,
-    state: State,
     way: Way,
 ) -> Option<i128>
+    requires asks { AreAsked (W.weights weighing.now) asks.old }
     requires weights { AreWeightsFor (W.weights weighing.now) net.now bid.now.path }
-    requires ready { IsReadyFor (W.weights weighing.now) net.now bid.now table.now state }
-    requires way { IsWay net.now bid.now.path state way }
-    ensures { IsBestRest (W.weights weighing.now) net.now bid.now state (IsWaitBy state way.track) result }
+    requires ready { IsReadyFor (W.weights weighing.now) net.now bid.now table.now way.from }
+    requires way { IsWay net.now bid.now.path way.from way }
+    ensures best { IsBestRest (W.weights weighing.now) net.now bid.now way.from (IsWaitBy way.from way.track) result }
+    ensures asks { AreAsked (W.weights weighing.now) asks.new }
 {
     let mut best = None;
     for dwell in 1..wait_max(bid) + 1 {
-        let rest = wait_rest(net, bid, weighing, table, state, way, dwell);
+        let rest = wait_rest(net, bid, weighing, asks, table, way, dwell);
         best = greater(best, rest);
     }
     best
 }
 
 /// Whether the walk may end when the train arrives by the way.
-fn may_finish(bid: &Bid, state: State, way: Way) -> bool
-    ensures { IsTrue result ↔ ((state.done ≡ length bid.now.path.stops) × (way.head ≡ bid.now.path.destination) × (bid.now.path.arrive.from ≤ way.halt) × (way.halt ≤ bid.now.path.arrive.to)) }
+fn may_finish(bid: &Bid, way: Way) -> bool
+    ensures { IsTrue result ↔ ((way.from.done ≡ length bid.now.path.stops) × (way.head ≡ bid.now.path.destination) × (bid.now.path.arrive.from ≤ way.halt) × (way.halt ≤ bid.now.path.arrive.to)) }
 {
     let path = &bid.path;
-    usize::from(state.done) == path.stops.len()
+    usize::from(way.from.done) == path.stops.len()
         && way.head == path.destination
         && path.arrive.from <= way.halt
         && way.halt <= path.arrive.to
@@ -213,20 +234,22 @@ fn finish_rest<W: Weighing>(
     net: &Network,
     bid: &Bid,
     weighing: &W,
+    asks: &mut [Option<Ask>],
     table: &RestTable,
-    state: State,
     way: Way,
 ) -> Option<i128>
+    requires asks { AreAsked (W.weights weighing.now) asks.old }
     requires weights { AreWeightsFor (W.weights weighing.now) net.now bid.now.path }
-    requires ready { IsReadyFor (W.weights weighing.now) net.now bid.now table.now state }
-    requires way { IsWay net.now bid.now.path state way }
-    ensures { IsBestRest (W.weights weighing.now) net.now bid.now state (IsLegBy state way.track Action.Finish) result }
+    requires ready { IsReadyFor (W.weights weighing.now) net.now bid.now table.now way.from }
+    requires way { IsWay net.now bid.now.path way.from way }
+    ensures best { IsBestRest (W.weights weighing.now) net.now bid.now way.from (IsLegBy way.from way.track Action.Finish) result }
+    ensures asks { AreAsked (W.weights weighing.now) asks.new }
 {
-    if !may_finish(bid, state, way) {
+    if !may_finish(bid, way) {
         return None;
     }
-    let leg = way.leg(state, Action::Finish);
-    begin_with(weighing, leg, end_price(bid, way.halt), Some(0))
+    let leg = way.leg(Action::Finish);
+    begin_with(weighing, asks, leg, end_price(bid, way.halt), Some(0))
 }
 
 /// The best rest that begins by the way.
@@ -234,19 +257,21 @@ fn way_rest<W: Weighing>(
     net: &Network,
     bid: &Bid,
     weighing: &W,
+    asks: &mut [Option<Ask>],
     table: &RestTable,
-    state: State,
     way: Way,
 ) -> Option<i128>
+    requires asks { AreAsked (W.weights weighing.now) asks.old }
     requires weights { AreWeightsFor (W.weights weighing.now) net.now bid.now.path }
-    requires ready { IsReadyFor (W.weights weighing.now) net.now bid.now table.now state }
-    requires way { IsWay net.now bid.now.path state way }
-    ensures { IsBestRest (W.weights weighing.now) net.now bid.now state (IsOn way.track) result }
+    requires ready { IsReadyFor (W.weights weighing.now) net.now bid.now table.now way.from }
+    requires way { IsWay net.now bid.now.path way.from way }
+    ensures best { IsBestRest (W.weights weighing.now) net.now bid.now way.from (IsOn way.track) result }
+    ensures asks { AreAsked (W.weights weighing.now) asks.new }
 {
-    let pass = pass_rest(net, bid, weighing, table, state, way);
-    let halts = halts_rest(net, bid, weighing, table, state, way);
-    let waits = waits_rest(net, bid, weighing, table, state, way);
-    let finish = finish_rest(net, bid, weighing, table, state, way);
+    let pass = pass_rest(net, bid, weighing, asks, table, way);
+    let halts = halts_rest(net, bid, weighing, asks, table, way);
+    let waits = waits_rest(net, bid, weighing, asks, table, way);
+    let finish = finish_rest(net, bid, weighing, asks, table, way);
     greater(greater(pass, halts), greater(waits, finish))
 }
 
@@ -255,17 +280,20 @@ fn track_rest<W: Weighing>(
     net: &Network,
     bid: &Bid,
     weighing: &W,
+    asks: &mut [Option<Ask>],
     table: &RestTable,
     state: State,
     track: TrackId,
 ) -> Option<i128>
+    requires asks { AreAsked (W.weights weighing.now) asks.old }
     requires weights { AreWeightsFor (W.weights weighing.now) net.now bid.now.path }
     requires ready { IsReadyFor (W.weights weighing.now) net.now bid.now table.now state }
     requires tail { tail_of net.now (leg_by state track Action.Pass) ≡ Some state.station }
-    ensures { IsBestRest (W.weights weighing.now) net.now bid.now state (IsOn track) result }
+    ensures best { IsBestRest (W.weights weighing.now) net.now bid.now state (IsOn track) result }
+    ensures asks { AreAsked (W.weights weighing.now) asks.new }
 {
     let way = find_way(net, bid, state, track)?;
-    way_rest(net, bid, weighing, table, state, way)
+    way_rest(net, bid, weighing, asks, table, way)
 }
 
 /// The best rest from the state on.
@@ -273,16 +301,19 @@ pub(crate) fn state_rest<W: Weighing>(
     net: &Network,
     bid: &Bid,
     weighing: &W,
+    asks: &mut [Option<Ask>],
     table: &RestTable,
     state: State,
 ) -> Option<i128>
+    requires asks { AreAsked (W.weights weighing.now) asks.old }
     requires weights { AreWeightsFor (W.weights weighing.now) net.now bid.now.path }
     requires ready { IsReadyFor (W.weights weighing.now) net.now bid.now table.now state }
-    ensures { IsBestRest (W.weights weighing.now) net.now bid.now state AnyLeg result }
+    ensures best { IsBestRest (W.weights weighing.now) net.now bid.now state AnyLeg result }
+    ensures asks { AreAsked (W.weights weighing.now) asks.new }
 {
     let mut best = None;
     for track in net.out_tracks(state.station) {
-        let rest = track_rest(net, bid, weighing, table, state, *track);
+        let rest = track_rest(net, bid, weighing, asks, table, state, *track);
         best = greater(best, rest);
     }
     best

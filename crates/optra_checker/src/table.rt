@@ -1,8 +1,11 @@
 //! The best walk of a bid, by a table over the minutes that is filled in one pass from late to early.
-ghost use Rattle.std.specs.Prelude.{◌≡◌, ◌≤◌, IfOk, IfSome, ◌+ℤ◌};
+ghost use Rattle.std.specs.Prelude.{◌≡◌, ◌+◌, ◌≤◌, IfOk, IfSome, ◌+ℤ◌};
 ghost use Rattle.optra_bid.specs.Specs.{IsPathOn};
 ghost use Rattle.optra_network.specs.Net.{IsFromTo};
-ghost use Rattle.optra_checker.specs.Rests.{start_state};
+ghost use Rattle.optra_checker.specs.Asks.{AreAsked};
+ghost use Rattle.optra_checker.specs.Places.{IsPlaced, place_of};
+ghost use Rattle.optra_checker.specs.Reaches.{IsReach, IsReached};
+ghost use Rattle.optra_checker.specs.Rests.{IsBestRest, AnyLeg, start_state};
 ghost use Rattle.optra_checker.specs.Shares.{IsStartValue};
 ghost use Rattle.optra_checker.specs.Sizes.{IsWholeRest};
 ghost use Rattle.optra_checker.specs.Settings.{IsSetting};
@@ -10,6 +13,8 @@ ghost use Rattle.optra_checker.specs.Starts.{IsBestStart, IsAt};
 ghost use Rattle.optra_checker.specs.Tables.{IsTable, IsFilled};
 ghost use Rattle.optra_checker.specs.Weights.{AreWeightsFor, IsBestWorth, IsWorthSize};
 
+use crate::asks::Ask;
+use crate::reach::make_reach;
 use crate::rest_table::{RestTable, empty_table};
 use crate::rests::{greater, state_rest};
 use crate::shares::start_value;
@@ -19,18 +24,48 @@ use optra_bid::{Bid, Window};
 use optra_network::{Minute, Network, NoMemory};
 use std::alloc::Global;
 
+/// The best rest of a state in which a train may be, behind whose place the table is filled; `None` for any other state.
+fn place_rest<W: Weighing>(
+    net: &Network,
+    bid: &Bid,
+    weighing: &W,
+    asks: &mut [Option<Ask>],
+    table: &RestTable,
+    state: State,
+) -> Option<i128>
+    requires asks { AreAsked (W.weights weighing.now) asks.old }
+    requires weights { AreWeightsFor (W.weights weighing.now) net.now bid.now.path }
+    requires placed { IsPlaced table.now.layout state }
+    requires filled { IsFilled (W.weights weighing.now) net.now bid.now table.now (place_of table.now.layout state + 1) }
+    ensures best { IsReached bid.now.path table.now.reach state → IsBestRest (W.weights weighing.now) net.now bid.now state AnyLeg result }
+    ensures asks { AreAsked (W.weights weighing.now) asks.new }
+{
+    if !table.reach.has(bid, state) {
+        return None;
+    }
+    state_rest(net, bid, weighing, asks, table, state)
+}
+
 /// Fills the table, from the last place to the first.
-fn fill<W: Weighing>(net: &Network, bid: &Bid, weighing: &W, table: &mut RestTable)
+fn fill<W: Weighing>(
+    net: &Network,
+    bid: &Bid,
+    weighing: &W,
+    asks: &mut [Option<Ask>],
+    table: &mut RestTable,
+)
+    requires asks { AreAsked (W.weights weighing.now) asks.old }
     requires weights { AreWeightsFor (W.weights weighing.now) net.now bid.now.path }
     requires table { IsTable table.old }
     requires setting { IsSetting net.now bid.now.path table.old.layout }
+    requires reach { IsReach net.now bid.now.path table.old.reach }
     ensures { IsFilled (W.weights weighing.now) net.now bid.now table.new 0 }
 {
     let mut left = table.layout.places();
     while left > 0 {
         left -= 1;
         let state = table.layout.state(left);
-        let rest = state_rest(net, bid, weighing, table, state);
+        let rest = place_rest(net, bid, weighing, asks, table, state);
         table.put(left, rest);
     }
 }
@@ -121,7 +156,9 @@ pub(crate) fn best_walk<W: Weighing>(
     ensures best { IfOk result (IsBestWorth (W.weights weighing.now) net.now bid.now) }
     ensures size { IfOk result (λ best. IfSome best IsWorthSize) }
 {
-    let mut table = empty_table(alloc, make_layout(net, bid))?;
-    fill(net, bid, weighing, &mut table);
+    let reach = make_reach(alloc, net, bid)?;
+    let mut table = empty_table(alloc, make_layout(net, bid), reach)?;
+    let mut asks = vec![in alloc; None; net.track_count() as usize]?;
+    fill(net, bid, weighing, &mut asks, &mut table);
     Ok(best_start(net, bid, weighing, &table))
 }

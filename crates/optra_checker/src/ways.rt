@@ -9,9 +9,10 @@ use optra_bid::Bid;
 use optra_network::{Minute, Network, StationId, TrackId, TypeId};
 use optra_walk::{Action, Leg};
 
-/// A track by which the train may leave, and when it arrives at its head, passing or halting there.
+/// A track by which the train may leave a state, and when it arrives at its head, passing or halting there.
 #[derive(Clone, Copy, Debug, PartialEq, Eq)]
 pub(crate) struct Way {
+    pub from: State,
     pub track: TrackId,
     pub head: StationId,
     pub pass: Minute,
@@ -19,14 +20,14 @@ pub(crate) struct Way {
 }
 
 impl Way {
-    /// The leg by the way from the state, with the action at its end.
-    pub(crate) fn leg(self, state: State, action: Action) -> Leg
-        ensures { result ≡ leg_by state self.track action }
+    /// The leg by the way, with the action at its end.
+    pub(crate) fn leg(self, action: Action) -> Leg
+        ensures { result ≡ leg_by self.from self.track action }
     {
         Leg {
             track: self.track,
-            depart: state.minute,
-            from_halt: state.halted,
+            depart: self.from.minute,
+            from_halt: self.from.halted,
             action,
         }
     }
@@ -43,12 +44,13 @@ pub(crate) fn find_way(net: &Network, bid: &Bid, state: State, track: TrackId) -
     requires proper { IsProper net.now }
     requires tail { tail_of net.now (leg_by state track Action.Pass) ≡ Some state.station }
     requires minute { state.minute ≤ 2879 }
-    ensures { MatchOption result (¬ MayUse net.now track bid.now.path.kind) (λ way. (way.track ≡ track) × IsWay net.now bid.now.path state way) }
+    ensures { MatchOption result (¬ MayUse net.now track bid.now.path.kind) (λ way. (way.track ≡ track) × (way.from ≡ state) × IsWay net.now bid.now.path state way) }
 {
     let kind = kind_of(bid);
     let pass = net.run(track, kind, state.halted, false)?;
     let halt = net.run(track, kind, state.halted, true)?;
     Some(Way {
+        from: state,
         track,
         head: net.head(track),
         pass: state.minute + pass,

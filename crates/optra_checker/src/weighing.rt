@@ -1,7 +1,7 @@
 //! What legs cost a walk, and which legs and starts it may have.
-ghost use Rattle.std.specs.Prelude.{◌≡◌};
+ghost use Rattle.std.specs.Prelude.{◌≡◌, true};
 ghost use Rattle.optra_walk.specs.Families.{IsUsable};
-ghost use Rattle.optra_checker.specs.Weights.{Weights, TellsCost};
+ghost use Rattle.optra_checker.specs.Weights.{Weights, TellsCost, AreAlike};
 
 use optra_network::Minute;
 use optra_walk::Leg;
@@ -17,6 +17,18 @@ pub(crate) trait Weighing {
     fn cost(&self, leg: Leg) -> Option<i128>
         requires { IsUsable (weights self.now).net (weights self.now).kind leg }
         ensures { TellsCost (weights self.now) leg result };
+
+    /// Whether it sees at once that both legs cost the same, or that a walk may have neither. It is never true of others; a
+    /// weighing that doesn't see it says no, and is then asked of each leg.
+    fn alike(&self, first: Leg, second: Leg) -> bool
+        requires first { IsUsable (weights self.now).net (weights self.now).kind first }
+        requires second { IsUsable (weights self.now).net (weights self.now).kind second }
+        ensures { result ≡ true → AreAlike (weights self.now) first second }
+    {
+        let _ = first;
+        let _ = second;
+        false
+    }
 
     /// Whether a walk may start at the minute.
     fn may_start(&self, minute: Minute) -> bool

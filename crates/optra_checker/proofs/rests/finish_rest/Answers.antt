@@ -7,18 +7,18 @@ use Rattle.optra_checker.specs.Ways.{leg_by, IsLegBy}
 use Rattle.optra_checker.proofs.MoveLemmas.{finish_none, finish_best, finish_move, named_best}
 use Rattle.optra_checker.proofs.rests.finish_rest.Goals as goal
 
-pub returns-then-not-may_finish : goal.returns-then-not-may_finish
-returns-then-not-may_finish g c =
+pub returns-then-not-may_finish-clause-best : goal.returns-then-not-may_finish-clause-best
+returns-then-not-may_finish-clause-best g c =
     let w = g.W.Weighing.weights c.args.weighing.now in
-    finish_none w c.args.net.now c.args.bid.now c.args.table.now c.args.state c.requires.ready c.args.way c.requires.way c.requires.weights (λ h. let t = c.may_finish.ensures.1 h in cc)
+    finish_none w c.args.net.now c.args.bid.now c.args.table.now c.args.way.from c.requires.ready c.args.way c.requires.way c.requires.weights (λ h. let t = c.may_finish.ensures.1 h in cc)
 
-pub returns : goal.returns
-returns g c =
+pub returns-clause-best : goal.returns-clause-best
+returns-clause-best g c =
     let w = g.W.Weighing.weights c.args.weighing.now in
     let net = c.args.net.now in
     let bid = c.args.bid.now in
     let fits = c.may_finish.ensures.0 c.if-not-may_finish.false in
-    named_best w net bid c.args.state (IsLegBy c.args.state c.args.way.track Finish) (leg_by c.args.state c.args.way.track Finish) c.leg-leg.result (end_price bid c.args.way.halt) (to_z w64 (of_z w64 c.end_price.result)) (Some (pos 0)) (Some (pos 0))
+    named_best w net bid c.args.way.from (IsLegBy c.args.way.from c.args.way.track Finish) (leg_by c.args.way.from c.args.way.track Finish) c.leg-leg.result (end_price bid c.args.way.halt) (to_z w64 (of_z w64 c.end_price.result)) (Some (pos 0)) (Some (pos 0))
     c.begin_with.result c.leg-leg.ensures (let e = c.end_price.ensures.value in let a = c.end_price.ensures.range.0 in let b = c.end_price.ensures.range.1 in omega (arith, ints)) refl
     c.begin_with.ensures.value c.begin_with.ensures.size refl
-    (finish_best w net bid c.args.table.now c.args.state c.requires.ready c.args.way c.requires.way c.requires.weights (finish_move net bid.path c.args.state c.args.way c.requires.way fits))
+    (finish_best w net bid c.args.table.now c.args.way.from c.requires.ready c.args.way c.requires.way c.requires.weights (finish_move net bid.path c.args.way.from c.args.way c.requires.way fits))

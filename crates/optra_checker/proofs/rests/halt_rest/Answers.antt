@@ -13,22 +13,22 @@ begin_with-requires-clause-rest g c =
     let w = g.W.Weighing.weights c.args.weighing.now in
     let net = c.args.net.now in
     let bid = c.args.bid.now in
-    let after = after_halt net bid.path c.args.state c.args.way c.requires.way c.args.dwell in
-    let best = halt_later w net bid c.args.table.now c.args.state c.requires.ready c.args.way c.requires.way c.requires.weights c.args.dwell c.requires.halt in
-    named_size (leg_by c.args.state c.args.way.track (Halt c.args.dwell)) c.leg.result after (rest_at c.args.table.now after) c.rest-rest.result (let l = c.requires.way.halt_later in omega arith) best.1.size c.leg.ensures c.rest-rest.ensures
+    let after = after_halt net bid.path c.args.way.from c.args.way c.requires.way c.args.dwell in
+    let best = halt_later w net bid c.args.table.now c.args.way.from c.requires.ready c.args.way c.requires.way c.requires.weights c.args.dwell c.requires.halt in
+    named_size (leg_by c.args.way.from c.args.way.track (Halt c.args.dwell)) c.leg.result after (rest_at c.args.table.now after) c.rest-rest.result (let l = c.requires.way.halt_later in omega arith) best.1.size c.leg.ensures c.rest-rest.ensures
 
-pub returns : goal.returns
-returns g c =
+pub returns-clause-best : goal.returns-clause-best
+returns-clause-best g c =
     let w = g.W.Weighing.weights c.args.weighing.now in
     let net = c.args.net.now in
     let bid = c.args.bid.now in
-    let after = after_halt net bid.path c.args.state c.args.way c.requires.way c.args.dwell in
-    named_best w net bid c.args.state (IsLegBy c.args.state c.args.way.track (Halt c.args.dwell)) (leg_by c.args.state c.args.way.track (Halt c.args.dwell)) c.leg.result (pos 0) (pos 0) (rest_at c.args.table.now after) c.rest-rest.result
+    let after = after_halt net bid.path c.args.way.from c.args.way c.requires.way c.args.dwell in
+    named_best w net bid c.args.way.from (IsLegBy c.args.way.from c.args.way.track (Halt c.args.dwell)) (leg_by c.args.way.from c.args.way.track (Halt c.args.dwell)) c.leg.result (pos 0) (pos 0) (rest_at c.args.table.now after) c.rest-rest.result
     c.begin_with.result c.leg.ensures refl c.rest-rest.ensures c.begin_with.ensures.value c.begin_with.ensures.size refl
-    (halt_best w net bid c.args.table.now c.args.state c.requires.ready c.args.way c.requires.way c.requires.weights c.args.dwell c.requires.halt)
+    (halt_best w net bid c.args.table.now c.args.way.from c.requires.ready c.args.way c.requires.way c.requires.weights c.args.dwell c.requires.halt)
 
 pub begin_with-requires-clause-usable : goal.begin_with-requires-clause-usable
 begin_with-requires-clause-usable g c =
     let w = g.W.Weighing.weights c.args.weighing.now in
     subst (λ (leg : Leg). IsUsable w.net w.kind leg) (sym c.leg.ensures)
-    (halt_usable w c.args.net.now c.args.bid.now c.args.table.now c.args.state c.requires.ready c.args.way c.requires.way c.requires.weights c.args.dwell c.requires.halt)
+    (halt_usable w c.args.net.now c.args.bid.now c.args.table.now c.args.way.from c.requires.ready c.args.way c.requires.way c.requires.weights c.args.dwell c.requires.halt)

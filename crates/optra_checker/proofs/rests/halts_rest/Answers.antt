@@ -6,29 +6,35 @@ use Rattle.optra_checker.proofs.MoveLemmas.{halt_no_stop, halt_none, halt_start,
 use Rattle.optra_checker.proofs.rests.halts_rest.Goals as goal
 
 pub loop-dwell-init : goal.loop-dwell-init
-loop-dwell-init g c = halt_start (g.W.Weighing.weights c.args.weighing.now) c.args.net.now c.args.bid.now c.args.table.now c.args.state c.requires.ready c.args.way c.requires.way c.requires.weights c.in_ok-stop.stop (sym c.in_ok-stop.ensures)
+loop-dwell-init g c = record {
+  best = halt_start (g.W.Weighing.weights c.args.weighing.now) c.args.net.now c.args.bid.now c.args.table.now c.args.way.from c.requires.ready c.args.way c.requires.way c.requires.weights c.in_ok-stop.stop (sym c.in_ok-stop.ensures);
+  asks = c.requires.asks;
+}
 
 pub halt_rest-rest-requires-clause-halt : goal.halt_rest-rest-requires-clause-halt
 halt_rest-rest-requires-clause-halt g c =
     let fits = c.may_halt.ensures.0 c.if-not-may_halt.false in
-    halt_move c.args.net.now c.args.bid.now.path c.args.state c.args.way c.requires.way c.loop-dwell.dwell c.in_ok-stop.stop (sym c.in_ok-stop.ensures) fits.0 fits.1 fits.2 (omega arith) (omega arith)
+    halt_move c.args.net.now c.args.bid.now.path c.args.way.from c.args.way c.requires.way c.loop-dwell.dwell c.in_ok-stop.stop (sym c.in_ok-stop.ensures) fits.0 fits.1 fits.2 (omega arith) (omega arith)
 
 pub loop-dwell-preserved : goal.loop-dwell-preserved
 loop-dwell-preserved g c =
     let w = g.W.Weighing.weights c.args.weighing.now in
-    subst (λ (o : Option ℤ). IsBestRest w c.args.net.now c.args.bid.now c.args.state (IsHaltBelow c.args.state c.args.way.track (c.loop-dwell.dwell + 1)) o) (sym c.greater-best.ensures)
-    (halt_push w c.args.net.now c.args.bid.now c.args.table.now c.args.state c.requires.ready c.args.way c.requires.way c.requires.weights c.loop-dwell.dwell c.loop-dwell.best c.halt_rest-rest.result c.loop-dwell.invariant c.halt_rest-rest.ensures)
+    record {
+      best = subst (λ (o : Option ℤ). IsBestRest w c.args.net.now c.args.bid.now c.args.way.from (IsHaltBelow c.args.way.from c.args.way.track (c.loop-dwell.dwell + 1)) o) (sym c.greater-best.ensures)
+          (halt_push w c.args.net.now c.args.bid.now c.args.table.now c.args.way.from c.requires.ready c.args.way c.requires.way c.requires.weights c.loop-dwell.dwell c.loop-dwell.best c.halt_rest-rest.result c.loop-dwell.invariant.best c.halt_rest-rest.ensures.best);
+      asks = c.halt_rest-rest.ensures.asks;
+    }
 
-pub returns : goal.returns
-returns g c = halt_end (g.W.Weighing.weights c.args.weighing.now) c.args.net.now c.args.bid.now c.args.table.now c.args.state c.requires.ready c.args.way c.requires.way c.requires.weights
-    c.in_ok-stop.stop c.loop-dwell.dwell c.loop-dwell.best (sym c.in_ok-stop.ensures) (omega arith) c.loop-dwell.invariant
+pub returns-clause-best : goal.returns-clause-best
+returns-clause-best g c = halt_end (g.W.Weighing.weights c.args.weighing.now) c.args.net.now c.args.bid.now c.args.table.now c.args.way.from c.requires.ready c.args.way c.requires.way c.requires.weights
+    c.in_ok-stop.stop c.loop-dwell.dwell c.loop-dwell.best (sym c.in_ok-stop.ensures) (omega arith) c.loop-dwell.invariant.best
 
-pub returns-in_err-stop : goal.returns-in_err-stop
-returns-in_err-stop g c =
+pub returns-in_err-stop-clause-best : goal.returns-in_err-stop-clause-best
+returns-in_err-stop-clause-best g c =
     let w = g.W.Weighing.weights c.args.weighing.now in
-    subst (IsBestRest w c.args.net.now c.args.bid.now c.args.state (IsHaltBy c.args.state c.args.way.track)) (sym c.from_residual.ensures)
-    (halt_no_stop w c.args.net.now c.args.bid.now c.args.table.now c.args.state c.requires.ready c.args.way c.requires.way c.requires.weights (sym c.in_err-stop.ensures))
+    subst (IsBestRest w c.args.net.now c.args.bid.now c.args.way.from (IsHaltBy c.args.way.from c.args.way.track)) (sym c.from_residual.ensures)
+    (halt_no_stop w c.args.net.now c.args.bid.now c.args.table.now c.args.way.from c.requires.ready c.args.way c.requires.way c.requires.weights (sym c.in_err-stop.ensures))
 
-pub returns-then-not-may_halt : goal.returns-then-not-may_halt
-returns-then-not-may_halt g c = halt_none (g.W.Weighing.weights c.args.weighing.now) c.args.net.now c.args.bid.now c.args.table.now c.args.state c.requires.ready c.args.way c.requires.way c.requires.weights
+pub returns-then-not-may_halt-clause-best : goal.returns-then-not-may_halt-clause-best
+returns-then-not-may_halt-clause-best g c = halt_none (g.W.Weighing.weights c.args.weighing.now) c.args.net.now c.args.bid.now c.args.table.now c.args.way.from c.requires.ready c.args.way c.requires.way c.requires.weights
     c.in_ok-stop.stop (sym c.in_ok-stop.ensures) (λ h. let t = c.may_halt.ensures.1 h in cc)

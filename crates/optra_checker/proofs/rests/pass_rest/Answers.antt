@@ -11,16 +11,16 @@ begin_with-requires-clause-rest g c =
     let w = g.W.Weighing.weights c.args.weighing.now in
     let net = c.args.net.now in
     let bid = c.args.bid.now in
-    let after = after_pass net bid.path c.args.state c.args.way c.requires.way in
-    let best = pass_later w net bid c.args.table.now c.args.state c.requires.ready c.args.way c.requires.way c.requires.weights in
-    named_size (leg_by c.args.state c.args.way.track Pass) c.leg.result after (rest_at c.args.table.now after) c.rest-rest.result c.requires.way.pass_later best.1.size c.leg.ensures c.rest-rest.ensures
+    let after = after_pass net bid.path c.args.way.from c.args.way c.requires.way in
+    let best = pass_later w net bid c.args.table.now c.args.way.from c.requires.ready c.args.way c.requires.way c.requires.weights in
+    named_size (leg_by c.args.way.from c.args.way.track Pass) c.leg.result after (rest_at c.args.table.now after) c.rest-rest.result c.requires.way.pass_later best.1.size c.leg.ensures c.rest-rest.ensures
 
-pub returns : goal.returns
-returns g c =
+pub returns-clause-best : goal.returns-clause-best
+returns-clause-best g c =
     let w = g.W.Weighing.weights c.args.weighing.now in
     let net = c.args.net.now in
     let bid = c.args.bid.now in
-    let after = after_pass net bid.path c.args.state c.args.way c.requires.way in
-    named_best w net bid c.args.state (IsLegBy c.args.state c.args.way.track Pass) (leg_by c.args.state c.args.way.track Pass) c.leg.result (pos 0) (pos 0) (rest_at c.args.table.now after) c.rest-rest.result
+    let after = after_pass net bid.path c.args.way.from c.args.way c.requires.way in
+    named_best w net bid c.args.way.from (IsLegBy c.args.way.from c.args.way.track Pass) (leg_by c.args.way.from c.args.way.track Pass) c.leg.result (pos 0) (pos 0) (rest_at c.args.table.now after) c.rest-rest.result
     c.begin_with.result c.leg.ensures refl c.rest-rest.ensures c.begin_with.ensures.value c.begin_with.ensures.size refl
-    (pass_best w net bid c.args.table.now c.args.state c.requires.ready c.args.way c.requires.way c.requires.weights)
+    (pass_best w net bid c.args.table.now c.args.way.from c.requires.ready c.args.way c.requires.way c.requires.weights)

@@ -13,16 +13,16 @@ begin_with-requires-clause-rest g c =
     let w = g.W.Weighing.weights c.args.weighing.now in
     let net = c.args.net.now in
     let bid = c.args.bid.now in
-    let after = after_wait net bid.path c.args.state c.args.way c.requires.way c.args.dwell in
-    let best = wait_later w net bid c.args.table.now c.args.state c.requires.ready c.args.way c.requires.way c.requires.weights c.args.dwell c.requires.wait in
-    named_size (leg_by c.args.state c.args.way.track (Wait c.args.dwell)) c.leg-leg.result after (rest_at c.args.table.now after) c.rest-rest.result (let l = c.requires.way.halt_later in omega arith) best.1.size c.leg-leg.ensures c.rest-rest.ensures
+    let after = after_wait net bid.path c.args.way.from c.args.way c.requires.way c.args.dwell in
+    let best = wait_later w net bid c.args.table.now c.args.way.from c.requires.ready c.args.way c.requires.way c.requires.weights c.args.dwell c.requires.wait in
+    named_size (leg_by c.args.way.from c.args.way.track (Wait c.args.dwell)) c.leg-leg.result after (rest_at c.args.table.now after) c.rest-rest.result (let l = c.requires.way.halt_later in omega arith) best.1.size c.leg-leg.ensures c.rest-rest.ensures
 
-pub returns : goal.returns
-returns g c =
+pub returns-clause-best : goal.returns-clause-best
+returns-clause-best g c =
     let w = g.W.Weighing.weights c.args.weighing.now in
     let net = c.args.net.now in
     let bid = c.args.bid.now in
-    let after = after_wait net bid.path c.args.state c.args.way c.requires.way c.args.dwell in
-    named_best w net bid c.args.state (IsLegBy c.args.state c.args.way.track (Wait c.args.dwell)) (leg_by c.args.state c.args.way.track (Wait c.args.dwell)) c.leg-leg.result (wait_price bid c.args.dwell) _ (rest_at c.args.table.now after) c.rest-rest.result
+    let after = after_wait net bid.path c.args.way.from c.args.way c.requires.way c.args.dwell in
+    named_best w net bid c.args.way.from (IsLegBy c.args.way.from c.args.way.track (Wait c.args.dwell)) (leg_by c.args.way.from c.args.way.track (Wait c.args.dwell)) c.leg-leg.result (wait_price bid c.args.dwell) _ (rest_at c.args.table.now after) c.rest-rest.result
     c.begin_with.result c.leg-leg.ensures (let e = c.wait_price.ensures.value in let a = c.wait_price.ensures.range.0 in let b = c.wait_price.ensures.range.1 in omega (arith, ints)) c.rest-rest.ensures c.begin_with.ensures.value c.begin_with.ensures.size refl
-    (wait_best w net bid c.args.table.now c.args.state c.requires.ready c.args.way c.requires.way c.requires.weights c.args.dwell c.requires.wait)
+    (wait_best w net bid c.args.table.now c.args.way.from c.requires.ready c.args.way c.requires.way c.requires.weights c.args.dwell c.requires.wait)

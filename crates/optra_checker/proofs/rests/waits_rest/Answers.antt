@@ -6,16 +6,22 @@ use Rattle.optra_checker.proofs.MoveLemmas.{wait_start, wait_push, wait_end, wai
 use Rattle.optra_checker.proofs.rests.waits_rest.Goals as goal
 
 pub loop-dwell-init : goal.loop-dwell-init
-loop-dwell-init g c = wait_start (g.W.Weighing.weights c.args.weighing.now) c.args.net.now c.args.bid.now c.args.table.now c.args.state c.requires.ready c.args.way c.requires.way c.requires.weights
+loop-dwell-init g c = record {
+  best = wait_start (g.W.Weighing.weights c.args.weighing.now) c.args.net.now c.args.bid.now c.args.table.now c.args.way.from c.requires.ready c.args.way c.requires.way c.requires.weights;
+  asks = c.requires.asks;
+}
 
 pub wait_rest-rest-requires-clause-wait : goal.wait_rest-rest-requires-clause-wait
-wait_rest-rest-requires-clause-wait g c = wait_move c.args.net.now c.args.bid.now.path c.args.state c.args.way c.requires.way c.loop-dwell.dwell (omega arith) (omega arith)
+wait_rest-rest-requires-clause-wait g c = wait_move c.args.net.now c.args.bid.now.path c.args.way.from c.args.way c.requires.way c.loop-dwell.dwell (omega arith) (omega arith)
 
 pub loop-dwell-preserved : goal.loop-dwell-preserved
 loop-dwell-preserved g c =
     let w = g.W.Weighing.weights c.args.weighing.now in
-    subst (λ (o : Option ℤ). IsBestRest w c.args.net.now c.args.bid.now c.args.state (IsWaitBelow c.args.state c.args.way.track (c.loop-dwell.dwell + 1)) o) (sym c.greater-best.ensures)
-    (wait_push w c.args.net.now c.args.bid.now c.args.table.now c.args.state c.requires.ready c.args.way c.requires.way c.requires.weights c.loop-dwell.dwell c.loop-dwell.best c.wait_rest-rest.result c.loop-dwell.invariant c.wait_rest-rest.ensures)
+    record {
+      best = subst (λ (o : Option ℤ). IsBestRest w c.args.net.now c.args.bid.now c.args.way.from (IsWaitBelow c.args.way.from c.args.way.track (c.loop-dwell.dwell + 1)) o) (sym c.greater-best.ensures)
+          (wait_push w c.args.net.now c.args.bid.now c.args.table.now c.args.way.from c.requires.ready c.args.way c.requires.way c.requires.weights c.loop-dwell.dwell c.loop-dwell.best c.wait_rest-rest.result c.loop-dwell.invariant.best c.wait_rest-rest.ensures.best);
+      asks = c.wait_rest-rest.ensures.asks;
+    }
 
-pub returns : goal.returns
-returns g c = wait_end (g.W.Weighing.weights c.args.weighing.now) c.args.net.now c.args.bid.now c.args.table.now c.args.state c.requires.ready c.args.way c.requires.way c.requires.weights c.loop-dwell.dwell c.loop-dwell.best (omega arith) c.loop-dwell.invariant
+pub returns-clause-best : goal.returns-clause-best
+returns-clause-best g c = wait_end (g.W.Weighing.weights c.args.weighing.now) c.args.net.now c.args.bid.now c.args.table.now c.args.way.from c.requires.ready c.args.way c.requires.way c.requires.weights c.loop-dwell.dwell c.loop-dwell.best (omega arith) c.loop-dwell.invariant.best

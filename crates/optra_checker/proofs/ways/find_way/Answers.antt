@@ -24,6 +24,7 @@ returns c =
     let w = run_within c.args.net.now c.args.track c.args.bid.now.path.kind c.args.state.halted false c.in_ok-pass.pass c.requires.proper e in
     let v = run_within c.args.net.now c.args.track c.args.bid.now.path.kind c.args.state.halted true c.in_ok-halt.halt c.requires.proper f in (
       refl,
+      refl,
       record {
         tail = c.requires.tail;
         head = c.head.ensures.head;

@@ -1,0 +1,112 @@
+-- Which states come into walks: those that are reached lead to such, and a state that is too late has no rest.
+use Rattle.std.proofs.Common.{◌≡◌, ℕ, ◌+◌, ◌≤◌, inl, inr, Bool, not, List, [], ◌∷◌, Option, None, Some, IsSomeAnd, slice_get, slice_index, refl, ap, subst, arith}
+use Rattle.std.specs.Option.{option_map}
+use Rattle.std.proofs.lemmas.Option.{slice_get_within}
+use Rattle.optra_network.specs.Net.{Net, IsFromTo, times_of, minutes_by}
+use Rattle.optra_network.specs.declared.StationId.{StationId}
+use Rattle.optra_network.specs.declared.TypeId.{TypeId}
+use Rattle.optra_network.specs.declared.Track.{Track}
+use Rattle.optra_network.specs.declared.Times.{Times}
+use Rattle.optra_bid.specs.Specs.{Path}
+use Rattle.optra_walk.specs.declared.Action.{Action}
+use Rattle.optra_walk.specs.declared.Action.TheVariants.{Pass, Halt, Wait, Finish}
+use Rattle.optra_walk.specs.declared.Leg.{Leg}
+use Rattle.optra_walk.specs.Legs.{is_pass, arrival_of, next_depart_of, after_action}
+use Rattle.optra_walk.specs.Walks.{tail_of, head_of}
+use Rattle.optra_checker.specs.declared.states.State.{State}
+use Rattle.optra_checker.specs.declared.reach.Reach.{Reach}
+use Rattle.optra_checker.specs.Reaches.{IsReach, IsReached, IsInTime}
+use Rattle.optra_checker.specs.Rests.{FitsAction, IsMove, IsAfter, IsRest}
+
+track_there : (tracks : List Track) (n : ℕ) (s : StationId) → option_map (λ (t : Track). t.tail) (slice_get tracks n) ≡ Some s → (t : Track) × (slice_get tracks n ≡ Some t) × (t.tail ≡ s)
+track_there tracks n s e = by (slice_get tracks n) refl e
+  where
+    by : (o : Option Track) → slice_get tracks n ≡ o → option_map (λ (t : Track). t.tail) o ≡ Some s → (t : Track) × (slice_get tracks n ≡ Some t) × (t.tail ≡ s)
+    by None at f = cc
+    by (Some t) at f = (t, at, cc)
+
+head_is : (tracks : List Track) (n : ℕ) (s : StationId) (t : Track) → slice_get tracks n ≡ Some t → option_map (λ (t : Track). t.head) (slice_get tracks n) ≡ Some s → t.head ≡ s
+head_is tracks n s t at e = cc
+
+-- an arrival is a running time after the departure
+ran : (net : Net) (kind : TypeId) (leg : Leg) (n : ℕ) → arrival_of net kind leg ≡ Some n
+    → (times : Times) × (times_of net leg.track kind ≡ Some times) × (leg.depart + minutes_by leg.from_halt (not (is_pass leg.action)) times ≡ n)
+ran net kind leg n e = by (times_of net leg.track kind) refl e
+  where
+    by : (o : Option Times) → times_of net leg.track kind ≡ o → option_map (λ times. leg.depart + minutes_by leg.from_halt (not (is_pass leg.action)) times) o ≡ Some n
+        → (times : Times) × (times_of net leg.track kind ≡ Some times) × (leg.depart + minutes_by leg.from_halt (not (is_pass leg.action)) times ≡ n)
+    by None at f = cc
+    by (Some times) at f = (times, at, cc)
+
+-- the next departure is not before the arrival
+arrived : (net : Net) (kind : TypeId) (leg : Leg) (n : ℕ) → next_depart_of net kind leg ≡ Some n → (m : ℕ) × (arrival_of net kind leg ≡ Some m) × (m ≤ n)
+arrived net kind leg n e = by (arrival_of net kind leg) leg.action refl e
+  where
+    by : (o : Option ℕ) (a : Action) → arrival_of net kind leg ≡ o → after_action a o ≡ Some n → (m : ℕ) × (arrival_of net kind leg ≡ Some m) × (m ≤ n)
+    by None Pass at f = cc
+    by None (Halt d) at f = cc
+    by None (Wait d) at f = cc
+    by None Finish at f = cc
+    by (Some m) Pass at f = let s : m ≡ n = cc in (m, at, omega arith)
+    by (Some m) (Halt d) at f = let s : m + d ≡ n = cc in (m, at, omega arith)
+    by (Some m) (Wait d) at f = let s : m + d ≡ n = cc in (m, at, omega arith)
+    by (Some m) Finish at f = cc
+
+arrival_within : (o : Option ℕ) (from to : ℕ) → IsSomeAnd o (IsFromTo from to) → (n : ℕ) × (o ≡ Some n) × (n ≤ to)
+arrival_within None from to h = absurd h
+arrival_within (Some n) from to h = (n, refl, h.1)
+
+module _ (net : Net) (path : Path) (reach : Reach) (is : IsReach net path reach) where
+  -- from a station to the next one along a leg
+  ahead : (leg : Leg) (near far : StationId) (times : Times) (a b : Bool) → tail_of net leg ≡ Some near → head_of net leg ≡ Some far → times_of net leg.track path.kind ≡ Some times
+      → (slice_index reach.from_origin.items far.0 ≤ slice_index reach.from_origin.items near.0 + minutes_by a b times)
+      × (slice_index reach.to_destination.items near.0 ≤ slice_index reach.to_destination.items far.0 + minutes_by a b times)
+  ahead leg near far times a b e f g =
+      let t = track_there net.tracks leg.track.0 near e in
+      let h = head_is net.tracks leg.track.0 far t.0 t.1 f in
+      let l = slice_get_within net.tracks leg.track.0 t.0 t.1 in
+      let from = is.from.each leg.track.0 l t.0 times a b t.1 g in
+      let on = is.on.each leg.track.0 l t.0 times a b t.1 g in
+      let p = ap (λ (s : StationId). slice_index reach.from_origin.items s.0) t.2 in
+      let q = ap (λ (s : StationId). slice_index reach.from_origin.items s.0) h in
+      let u = ap (λ (s : StationId). slice_index reach.to_destination.items s.0) t.2 in
+      let v = ap (λ (s : StationId). slice_index reach.to_destination.items s.0) h in
+      (omega (arith, from, p, q), omega (arith, on, u, v))
+
+  pub reached_start : (s : State) → s.station ≡ path.origin → path.depart.from ≤ s.minute → IsReached path reach s
+  reached_start s e l = let z = is.from.zero in let p = ap (λ (x : StationId). slice_index reach.from_origin.items x.0) e in omega arith
+
+  pub reached_after : (s after : State) (leg : Leg) → IsMove net path s leg → IsAfter net path s leg after → IsReached path reach s → IsReached path reach after
+  reached_after s after leg move is_after h =
+      let at = arrived net path.kind leg after.minute is_after.time in
+      let t = ran net path.kind leg at.0 at.1 in
+      let m = ahead leg s.station after.station t.0 leg.from_halt (not (is_pass leg.action)) move.place is_after.place t.1 in
+      let d = move.time in
+      let e = t.2 in
+      let l = at.2 in
+      let k = m.0 in
+      omega arith
+
+  pub rest_in_time : (s : State) (legs : List Leg) → IsRest net path s legs → IsInTime path reach s
+  rest_in_time s [] h = absurd h
+  rest_in_time s (leg ∷ rest) (m, inl f) =
+      let fits : FitsAction net path s.done leg Finish = subst (λ a. FitsAction net path s.done leg a) f.0 m.action in
+      let at = arrival_within (arrival_of net path.kind leg) path.arrive.from path.arrive.to fits.1.time in
+      let t = ran net path.kind leg at.0 at.1 in
+      let k = ahead leg s.station path.destination t.0 leg.from_halt (not (is_pass leg.action)) m.place fits.1.place t.1 in
+      let z = is.on.zero in
+      let d = m.time in
+      let e = t.2 in
+      let l = at.2 in
+      let n = k.1 in
+      omega arith
+  rest_in_time s (leg ∷ rest) (m, inr f) =
+      let i = rest_in_time f.0 rest f.2 in
+      let at = arrived net path.kind leg f.0.minute f.1.time in
+      let t = ran net path.kind leg at.0 at.1 in
+      let k = ahead leg s.station f.0.station t.0 leg.from_halt (not (is_pass leg.action)) m.place f.1.place t.1 in
+      let d = m.time in
+      let e = t.2 in
+      let l = at.2 in
+      let n = k.1 in
+      omega arith

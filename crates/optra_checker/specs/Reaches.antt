@@ -1,0 +1,48 @@
+-- How many minutes trains take at least between stations, and which states may come into a walk.
+use Rattle.std.specs.Prelude.{◌≡◌, ℕ, ◌+◌, ◌<◌, ◌≤◌, Bool, false, true, List, length, slice_get, slice_index, Option, None, Some, if◌then◌else◌}
+use Rattle.optra_network.specs.Net.{Net, times_of, minutes_by, track_id}
+use Rattle.optra_network.specs.declared.StationId.{StationId}
+use Rattle.optra_network.specs.declared.TrackId.{TrackId}
+use Rattle.optra_network.specs.declared.TypeId.{TypeId}
+use Rattle.optra_network.specs.declared.Track.{Track}
+use Rattle.optra_network.specs.declared.Times.{Times}
+use Rattle.optra_bid.specs.Specs.{Path}
+use Rattle.optra_checker.specs.declared.states.State.{State}
+use Rattle.optra_checker.specs.declared.reach.Reach.{Reach}
+
+-- the end at which a track begins, and the other one; going back it begins at its head
+abbrev pub near_of : Bool → Track → StationId
+near_of back track = if back then track.head else track.tail
+
+abbrev pub far_of : Bool → Track → StationId
+far_of back track = if back then track.tail else track.head
+
+-- at most the minutes of the type on the track, by whatever modes; none where the type may not use it
+abbrev pub IsQuickest : Net → TrackId → TypeId → Option ℕ → Type 0
+IsQuickest net track kind None = times_of net track kind ≡ None
+IsQuickest net track kind (Some minutes) = (times : Times) (a b : Bool) → times_of net track kind ≡ Some times → minutes ≤ minutes_by a b times
+
+-- the far end of the track has no more minutes than the near end and those of the type on the track
+abbrev pub Follows : Net → TypeId → Bool → List ℕ → TrackId → Type 0
+Follows net kind back least n =
+    (t : Track) (times : Times) (a b : Bool) → slice_get net.tracks n.0 ≡ Some t → times_of net n kind ≡ Some times
+    → slice_index least (far_of back t).0 ≤ slice_index least (near_of back t).0 + minutes_by a b times
+
+-- no more minutes at each station than trains of the type take from one station, or back to it
+pub record AreLeast (net : Net) (kind : TypeId) (back : Bool) (at : StationId) (least : List ℕ) : Type 0 where
+  pub len : length least ≡ length net.stations
+  pub zero : slice_index least at.0 ≡ 0
+  pub each : (n : ℕ) → n < length net.tracks → Follows net kind back least (track_id n)
+
+-- from the origin of the path, and on to its destination
+pub record IsReach (net : Net) (path : Path) (reach : Reach) : Type 0 where
+  pub from : AreLeast net path.kind false path.origin reach.from_origin.items
+  pub on : AreLeast net path.kind true path.destination reach.to_destination.items
+
+-- a train may be there by then
+abbrev pub IsReached : Path → Reach → State → Type 0
+IsReached path reach s = path.depart.from + slice_index reach.from_origin.items s.station.0 ≤ s.minute
+
+-- and it may still end its walk in time
+abbrev pub IsInTime : Path → Reach → State → Type 0
+IsInTime path reach s = s.minute + slice_index reach.to_destination.items s.station.0 ≤ path.arrive.to

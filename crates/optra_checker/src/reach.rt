@@ -1,0 +1,127 @@
+//! Which states may come into a walk, by the minutes that trains take at least between stations.
+ghost use Rattle.std.specs.Prelude.{◌≡◌, ◌≤◌, ◌<◌, ◌↔◌, length, sum, ℕ, false, true, Some, slice_get, slice_index, IfOk, IsTrue};
+ghost use Rattle.optra_network.specs.Net.{IsStation, track_id};
+ghost use Rattle.std.specs.Option.{option_map};
+ghost use Rattle.optra_bid.specs.Specs.{IsPathOn};
+ghost use Rattle.optra_checker.specs.Reaches.{near_of, far_of, IsQuickest, Follows, AreLeast, IsReach, IsReached, IsInTime};
+
+use crate::states::State;
+use optra_bid::Bid;
+use optra_network::{Network, NoMemory, StationId, TrackId, TypeId};
+use std::alloc::Global;
+
+/// No train comes to the station.
+const NEVER: u16 = u16::MAX;
+
+/// How many minutes the bid's trains take at least from its origin to each station, and from there to its destination.
+#[derive(Drop)]
+pub(crate) struct Reach {
+    pub from_origin: Vec<u16>,
+    pub to_destination: Vec<u16>,
+}
+
+/// The least minutes of the type on the track, over the modes at its ends.
+fn quickest(net: &Network, track: TrackId, kind: TypeId) -> Option<u16>
+    ensures { IsQuickest net.now track kind result }
+{
+    let pass_pass = net.run(track, kind, false, false)?;
+    let pass_halt = net.run(track, kind, false, true)?;
+    let halt_pass = net.run(track, kind, true, false)?;
+    let halt_halt = net.run(track, kind, true, true)?;
+    Some(pass_pass.min(pass_halt).min(halt_pass.min(halt_halt)))
+}
+
+/// The end at which the track begins, and the other one; going back it begins at its head.
+fn ends(net: &Network, track: TrackId, back: bool) -> (StationId, StationId)
+    requires { track.0 < length net.now.tracks }
+    ensures near { option_map (near_of back) (slice_get net.now.tracks track.0) ≡ Some result.0 }
+    ensures far { option_map (far_of back) (slice_get net.now.tracks track.0) ≡ Some result.1 }
+    ensures near_in { IsStation net.now result.0 }
+    ensures far_in { IsStation net.now result.1 }
+{
+    let (tail, head) = (net.tail(track), net.head(track));
+    if back { (head, tail) } else { (tail, head) }
+}
+
+/// Lowers the minutes of the track's far end to those by the track, where they are fewer. Says whether they were.
+fn lower_by(net: &Network, kind: TypeId, back: bool, least: &mut [u16], track: TrackId) -> bool
+    requires len { length least.old ≡ length net.now.stations }
+    requires track { track.0 < length net.now.tracks }
+    ensures lowered { IsTrue result → sum least.new < sum least.old }
+    ensures stays { result ≡ false → (least.new ≡ least.old) × Follows net.now kind back least.new track }
+    ensures no_more { (k : ℕ) → slice_index least.new k ≤ slice_index least.old k }
+{
+    let (near, far) = ends(net, track, back);
+    let Some(minutes) = quickest(net, track, kind) else {
+        return false;
+    };
+    let there = least[near.0 as usize].saturating_add(minutes);
+    if least[far.0 as usize] <= there {
+        return false;
+    }
+    least[far.0 as usize] = there;
+    true
+}
+
+/// One pass over all tracks. Says whether it lowered a number.
+fn lower(net: &Network, kind: TypeId, back: bool, least: &mut [u16]) -> bool
+    requires len { length least.old ≡ length net.now.stations }
+    ensures lowered { IsTrue result → sum least.new < sum least.old }
+    ensures stays { result ≡ false → (n : ℕ) → n < length net.now.tracks → Follows net.now kind back least.new (track_id n) }
+    ensures no_more { (k : ℕ) → slice_index least.new k ≤ slice_index least.old k }
+{
+    let mut lowered = false;
+    for n in 0..net.track_count() {
+        if lower_by(net, kind, back, least, TrackId(n)) {
+            lowered = true;
+        }
+    }
+    lowered
+}
+
+/// For each station the least minutes of trains of the type from a station to it, or back from it.
+fn least_minutes(
+    alloc: Global,
+    net: &Network,
+    kind: TypeId,
+    back: bool,
+    at: StationId,
+) -> Result<Vec<u16>, NoMemory>
+    requires { IsStation net.now at }
+    ensures { IfOk result (λ least. AreLeast net.now kind back at least.items) }
+{
+    let mut least = vec![in alloc; NEVER; net.station_count() as usize]?;
+    least[at.0 as usize] = 0;
+    'passes: while lower(net, kind, back, &mut least) {}
+    Ok(least)
+}
+
+/// The least minutes between the bid's ends and each station.
+pub(crate) fn make_reach(alloc: Global, net: &Network, bid: &Bid) -> Result<Reach, NoMemory>
+    requires { IsPathOn net.now bid.now.path }
+    ensures { IfOk result (IsReach net.now bid.now.path) }
+{
+    let path = &bid.path;
+    let from_origin = least_minutes(alloc, net, path.kind, false, path.origin)?;
+    let to_destination = least_minutes(alloc, net, path.kind, true, path.destination)?;
+    Ok(Reach {
+        from_origin,
+        to_destination,
+    })
+}
+
+impl Reach {
+    /// Whether a train of the bid may be in the state, and from there still end its walk in time.
+    pub(crate) fn has(&self, bid: &Bid, state: State) -> bool
+        requires from { state.station.0 < length self.now.from_origin.items }
+        requires on { state.station.0 < length self.now.to_destination.items }
+        ensures { IsTrue result ↔ (IsReached bid.now.path self.now state × IsInTime bid.now.path self.now state) }
+    {
+        let station = state.station.0 as usize;
+        let minute = u32::from(state.minute);
+        let from = u32::from(self.from_origin[station]);
+        let on = u32::from(self.to_destination[station]);
+        u32::from(bid.path.depart.from) + from <= minute
+            && minute + on <= u32::from(bid.path.arrive.to)
+    }
+}
