@@ -6,10 +6,13 @@ use Rattle.optra_cert.specs.CertLaws.{IsTextOf, TextTellsCert, TextHasNoFault}
 use Rattle.optra_cert.specs.CertTexts.{cert_text}
 use Rattle.optra_cert.specs.Certs.{Cert, IsWritable}
 use Rattle.optra_cert.specs.Headways.{headway_texts}
-use Rattle.optra_checker.specs.Verdicts.{IsFirstReason}
+use Rattle.optra_checker.specs.Verdicts.{IsFirstReason, IsVerdict}
 use Rattle.optra_checker.specs.declared.Reason.{Reason}
 use Rattle.optra_checker.specs.declared.Reason.TheVariants.{Walk, Conflict, Revenue, Decision, DeadLeaf, Price, Bound}
+use Rattle.optra_checker.specs.declared.Verdict.{Verdict}
+use Rattle.optra_checker.specs.declared.Verdict.TheVariants as verdicts
 use Rattle.optra_node.specs.Certificates.{IsValid}
+use Rattle.optra_node.specs.Laws.{BoundHolds}
 use Rattle.optra_rows.specs.Headways.{headway_rows, KeepsHeadwayRule}
 use Rattle.optra_rows.specs.TouchedLemmas.{row_cmp}
 use Rattle.optra_rows.specs.declared.HRow.{HRow}
@@ -17,13 +20,36 @@ use Rattle.optra_text.specs.VerdictTexts.{verdict_text_of}
 use Rattle.optra_text.specs.declared.verdicts.VerdictView.{VerdictView}
 use Rattle.optra_text.specs.declared.verdicts.VerdictView.TheVariants.{Yes, No, Unreadable}
 use Rattle.optra_walk.specs.Families.{Rows, Entry}
-use Rattle.optra_top.specs.CheckCommand.{IsVerdictOn, verdict_status}
+use Rattle.optra_top.specs.CheckCommand.{IsVerdictOn, verdict_status, view_of}
 use Rattle.optra_top.specs.CheckLaws.{ConfirmsPlan}
-use Rattle.optra_top.specs.Families.{headway_family}
+use Rattle.optra_top.specs.Families.{FamilyOf, headway_family}
 use Rattle.optra_top.specs.PlanCommand.{PlanAsked, PrintsHeadwayPlan, certificate_of, certificate_puts}
 use Rattle.optra_top.specs.PlanLaws.{tables_of}
+use Rattle.optra_top.specs.Plans.{KeepsPromise, TellsConflicts}
 use Rattle.optra_top.specs.Statuses.{valid_status}
+use Rattle.optra_top.proofs.PlanLemmas.{promise-from_valid}
 use Rattle.optra_top.proofs.BidLemmas.{bids-from_parts}
+
+-- what the check of a certificate says, as it is printed, is the verdict on its text
+pub verdict-told : {R : Type 0} (family : FamilyOf R) (net : Net) (Keeps : List Entry → Type 0) (bids : List Bid) → TellsConflicts net bids Keeps → BoundHolds net family.rows Keeps bids
+    → (bytes : List ℕ) (cert : Cert R) (verdict : Verdict) → IsTextOf family.cmp family.texts net (length bids) bytes cert → IsVerdict net family.rows Keeps bids cert verdict
+    → IsVerdictOn family Keeps net bids bytes (view_of verdict)
+verdict-told family net Keeps bids tells holds bytes cert (verdicts.Yes revenue bound) text says = record {
+  cert = cert;
+  text = text;
+  valid = says.0;
+  revenue_is = says.1;
+  bound_is = says.2;
+  promise = subst (λ r. KeepsPromise net bids cert.choice r bound) (sym says.1) (subst (λ b. KeepsPromise net bids cert.choice cert.revenue b) (sym says.2)
+      (promise-from_valid family.cmp net family.rows Keeps bids tells holds cert.revenue cert.bound cert.choice cert.tree text.writable.formed.whole says.0));
+}
+verdict-told family net Keeps bids tells holds bytes cert (verdicts.No reason) text says = record {
+  cert = cert;
+  text = text;
+  reason = reason;
+  fails = says;
+  number_is = refl;
+}
 
 -- a valid certificate has no reason against it
 pub valid-no_reason : {R : Type 0} (net : Net) (rows : Rows R) (Keeps : List Entry → Type 0) (bids : List Bid) (cert : Cert R) (reason : Reason)

@@ -11,6 +11,8 @@ use Rattle.optra_cert.specs.declared.CertFault.{CertFault}
 use Rattle.optra_checker.specs.Verdicts.{IsFirstReason}
 use Rattle.optra_checker.specs.declared.Reason.{Reason}
 use Rattle.optra_checker.specs.declared.Reason.TheVariants as reasons
+use Rattle.optra_checker.specs.declared.Verdict.{Verdict}
+use Rattle.optra_checker.specs.declared.Verdict.TheVariants as verdicts
 use Rattle.optra_node.specs.Certificates.{IsValid}
 use Rattle.optra_rows.specs.Headways.{KeepsHeadwayRule}
 use Rattle.optra_tables.specs.Bids.{parts_of}
@@ -93,6 +95,11 @@ abbrev pub IsVerdictOn : {R : Type 0} → FamilyOf R → (List Entry → Type 0)
 IsVerdictOn family Keeps net bids bytes (Yes revenue bound) = IsConfirmed family Keeps net bids bytes revenue bound
 IsVerdictOn family Keeps net bids bytes (No reason) = IsDenied family Keeps net bids bytes reason
 IsVerdictOn family Keeps net bids bytes (Unreadable row fault) = IsUnreadable family net bids bytes row fault
+
+-- a verdict as it is printed
+abbrev pub view_of : Verdict → VerdictView
+view_of (verdicts.Yes revenue bound) = Yes revenue bound
+view_of (verdicts.No reason) = No (reason_number reason)
 
 -- ---- the reply
 

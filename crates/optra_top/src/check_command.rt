@@ -3,7 +3,7 @@ ghost use Rattle.std.specs.Prelude.{◌≡◌, ◌<◌, [], length, map, option_
 ghost use Rattle.optra_bid.specs.Instances.{IsInstance};
 ghost use Rattle.optra_cert.specs.RowTexts.{AreApart};
 ghost use Rattle.optra_checker.specs.Verdicts.{IsVerdict};
-ghost use Rattle.optra_top.specs.CheckCommand.{CheckReplies, IsVerdictOn, fault_number, next_check_file, reason_number, verdict_status};
+ghost use Rattle.optra_top.specs.CheckCommand.{CheckReplies, IsVerdictOn, fault_number, next_check_file, reason_number, verdict_status, view_of};
 ghost use Rattle.optra_top.specs.Faults.{EndsReply};
 ghost use Rattle.optra_top.specs.Files.{file_asked, files_got};
 ghost use Rattle.optra_top.specs.Plans.{TellsConflicts};
@@ -96,11 +96,19 @@ fn verdict_on<F: RowText>(
         }
     };
     bound_holds(inst, rows);
-    match check(alloc, inst, rows, &cert)? {
-        Verdict::Yes { revenue, bound } => Ok(VerdictView::Yes { revenue, bound }),
-        Verdict::No(reason) => Ok(VerdictView::No {
+    let verdict = check(alloc, inst, rows, &cert)?;
+    Ok(view_of(verdict))
+}
+
+/// A verdict as it is printed.
+fn view_of(verdict: Verdict) -> VerdictView
+    ensures { result ≡ view_of verdict }
+{
+    match verdict {
+        Verdict::Yes { revenue, bound } => VerdictView::Yes { revenue, bound },
+        Verdict::No(reason) => VerdictView::No {
             reason: reason_number(reason),
-        }),
+        },
     }
 }
 
