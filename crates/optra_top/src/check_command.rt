@@ -3,10 +3,12 @@ ghost use Rattle.std.specs.Prelude.{◌≡◌, ◌<◌, [], length, map, option_
 ghost use Rattle.optra_bid.specs.Instances.{IsInstance};
 ghost use Rattle.optra_cert.specs.RowTexts.{AreApart};
 ghost use Rattle.optra_checker.specs.Verdicts.{IsVerdict};
-ghost use Rattle.optra_top.specs.CheckCommand.{CheckReplies, IsVerdictOn, fault_number, next_check_file, reason_number, verdict_status, view_of};
+ghost use Rattle.optra_top.specs.CheckCommand.{CheckReplies, IsVerdictOn, PrintsVerdict, fault_number, next_check_file, reason_number, verdict_status, view_of};
 ghost use Rattle.optra_top.specs.Faults.{EndsReply};
 ghost use Rattle.optra_top.specs.Files.{file_asked, files_got};
+ghost use Rattle.optra_top.specs.PlanLaws.{tables_of};
 ghost use Rattle.optra_top.specs.Plans.{TellsConflicts};
+ghost use Rattle.optra_top.specs.Puts.{texts_of};
 ghost use Rattle.optra_top.specs.Replies.{reply_of};
 
 use crate::faults::Fault;
@@ -61,7 +63,31 @@ pub fn reply(alloc: Global, files: &[Got]) -> Result<Answer, Fault>
     headways_tell_conflicts(inst);
     headway_kinds_are_apart();
     let bytes = content_of(files, Role::Certificate);
-    let view = verdict_on(alloc, inst, &HeadwayRows::new(), bytes)?;
+    let Ok(answer) = answer_by(alloc, inst, &HeadwayRows::new(), bytes) else {
+        return Err(Fault::NoMemory);
+    };
+    Ok(answer)
+}
+
+/// Prints the verdict on bytes, by a family of rows. Nothing is put.
+fn answer_by<F: RowText>(
+    alloc: Global,
+    inst: Instance<'_>,
+    rows: &F,
+    bytes: &[u8],
+) -> Result<Answer, NoMemory>
+    requires instance { IsInstance inst.net.now inst.bids.now }
+    requires rule { TellsConflicts inst.net.now inst.bids.now (F.KeepsRule rows.now inst.net.now) }
+    requires apart { AreApart (F.texts_of rows.now).kinds }
+    ensures { IfOk result (λ answer. let net = inst.entry.net.now in
+        PrintsVerdict (record {
+          cmp = F.Row.cmp;
+          rows = F.rows_of rows.now net;
+          texts = F.texts_of rows.now;
+        }) (F.KeepsRule rows.now net) bytes.now (tables_of net inst.entry.bids.now)
+        answer.status answer.text.items (texts_of answer.puts.items)) }
+{
+    let view = verdict_on(alloc, inst, rows, bytes)?;
     let text = verdict_text(alloc, view)?;
     let status = status(view);
     let puts = Vec::new(alloc);
