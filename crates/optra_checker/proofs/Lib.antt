@@ -21,3 +21,4 @@ pub mod UsedLemmas
 pub mod LeafLemmas
 pub mod BoundLemmas
 pub mod ReachLemmas
+pub mod VerdictLemmas

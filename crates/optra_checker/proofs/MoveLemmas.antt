@@ -54,9 +54,6 @@ pub sizes_before : (m n : ℕ) (o : Option ℤ) → n ≤ m → IfSome o (IsRest
 sizes_before m n None l h = tt
 sizes_before m n (Some z) l h = size_before m n z l h
 
-pub no_worth : (n : ℕ) → IsRestSize n (pos 0)
-no_worth n = (omega (arith, ints), omega (arith, ints))
-
 module _ (net : Net) (path : Path) (s : State) where
   -- a leg that may be next, by its track and its action
   pub leg_is : (leg : Leg) → IsMove net path s leg → (track : TrackId) → leg.track ≡ track → (a : Action) → leg.action ≡ a → leg ≡ leg_by s track a
@@ -178,9 +175,6 @@ module _ (w : Weights) (net : Net) (bid : Bid) (table : RestTable) (s : State) (
 
     -- ---- passing
 
-    pub pass_usable : IsUsable w.net w.kind (leg_by s way.track Pass)
-    pass_usable = usable way by for Pass (omega arith)
-
     pub pass_later : (way.pass < table.layout.first + table.layout.minutes → IsPlaced table.layout (after_pass net bid.path s way by))
         × IsBestRest w net bid (after_pass net bid.path s way by) AnyLeg (rest_at table (after_pass net bid.path s way by))
     pass_later = let d = ready.placed.done in later_rest (leg_by s way.track Pass) (after_pass net bid.path s way by) (move_by net bid.path s way by Pass tt) (is_after_pass net bid.path s way by) by.station (omega (arith, d))
@@ -226,9 +220,6 @@ module _ (w : Weights) (net : Net) (bid : Bid) (table : RestTable) (s : State) (
       pub wait_few : d ≤ 240
       wait_few = let most = ready.setting.wait_max in let within = move.action.1 in omega arith
 
-      pub wait_usable : IsUsable w.net w.kind (leg_by s way.track (Wait d))
-      wait_usable = usable way by for (Wait d) wait_few
-
       pub wait_later : (way.halt + d < table.layout.first + table.layout.minutes → IsPlaced table.layout (after_wait net bid.path s way by d))
           × IsBestRest w net bid (after_wait net bid.path s way by d) AnyLeg (rest_at table (after_wait net bid.path s way by d))
       wait_later = let l = by.halt_later in later_rest (leg_by s way.track (Wait d)) (after_wait net bid.path s way by d) move (is_after_wait net bid.path s way by d) by.station slots_room
@@ -239,9 +230,6 @@ module _ (w : Weights) (net : Net) (bid : Bid) (table : RestTable) (s : State) (
           move (is_after_wait net bid.path s way by d) refl wait_later.1 size
 
     -- ---- the end
-
-    pub finish_usable : IsUsable w.net w.kind (leg_by s way.track Finish)
-    finish_usable = usable way by for Finish (omega arith)
 
     pub finish_best : IsMove net bid.path s (leg_by s way.track Finish) → IfSome (worth_by w (leg_by s way.track Finish) (end_price bid way.halt) (Some (pos 0))) (IsRestSize s.minute)
         → IsBestRest w net bid s (IsLegBy s way.track Finish) (worth_by w (leg_by s way.track Finish) (end_price bid way.halt) (Some (pos 0)))

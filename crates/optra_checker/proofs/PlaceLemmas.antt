@@ -93,6 +93,3 @@ place_back layout place =
     let first : layout.first + place / layout.stations / layout.slots - layout.first ≡ place / layout.stations / layout.slots = omega arith in
     let slot : slot_of layout (state_of layout place) ≡ place / layout.stations = (λ i. first i * layout.slots + m i) ∙ e in
     ap (λ t. t * layout.stations + place % layout.stations) slot ∙ d
-
-pub column_of : (row n column : ℕ) → column < n → (row * n + column) % n ≡ column
-column_of row n column l = mod_part row n column l

@@ -32,9 +32,6 @@ pub record LeavesAs (net : Net) (s : State) (leg : Leg) : Type 0 where
   pub time : leg.depart ≡ s.minute
   pub mode : leg.from_halt ≡ s.halted
 
-get_suc : {X : Type 0} (x : X) (xs : List X) (k : ℕ) → slice_get (x ∷ xs) (suc k) ≡ slice_get xs k
-get_suc x xs k = refl
-
 pub all_tail : {X : Type 0} (P : X → Type 0) (x : X) (xs : List X) → All P (x ∷ xs) → All P xs
 all_tail P x xs h k d l = h (suc k) d (omega arith)
 
@@ -59,9 +56,6 @@ pub last_suc : (x y : Leg) (r : List Leg) → last_leg (x ∷ y ∷ r) ≡ last_
 last_suc x y r =
     let e : suc (suc (length r)) - 1 ≡ suc (suc (length r) - 1) = omega arith in
     ap (slice_get (x ∷ y ∷ r)) e
-
-last_one : (x : Leg) → last_leg (x ∷ []) ≡ Some x
-last_one x = refl
 
 finishes_tail : (x : Leg) (xs : List Leg) → FinishesLast (x ∷ xs) → FinishesLast xs
 finishes_tail x xs h k l = h (suc k) (omega arith)

@@ -1,8 +1,7 @@
 -- What a network tells of the ways that leave a station.
-use Rattle.std.proofs.Common.{◌≡◌, ℕ, zero, suc, ◌+◌, ◌≤◌, ◌<◌, Bool, true, false, List, [], ◌∷◌, length, get_or, map, filter, Option, None, Some, IsSome, IfSome, slice_get, refl, sym, ap, ◌∙◌, subst, arith, All, Contains, nat_eq, eq-eqb, cond, zero-add}
-use Rattle.std.specs.List.{AllPairs, range_with_len}
+use Rattle.std.proofs.Common.{◌≡◌, ℕ, zero, suc, ◌+◌, ◌≤◌, ◌<◌, Bool, true, false, List, [], ◌∷◌, length, get_or, map, filter, Option, None, Some, IsSome, IfSome, slice_get, refl, sym, ap, ◌∙◌, subst, arith, Contains, nat_eq, eq-eqb, cond, zero-add}
+use Rattle.std.specs.List.{range_with_len}
 use Rattle.std.specs.Option.{option_map, option_map_or}
-use Rattle.std.proofs.lemmas.List.Kept.{AllPairs-filter}
 use Rattle.std.proofs.lemmas.Option.{slice_get_within, get_or_from_slice_get}
 use Rattle.optra_network.specs.Net.{Net, IsProper, IsRunningRow, AreTimes, times_of, minutes_by, leaves, track_id, out_tracks_of}
 use Rattle.optra_network.specs.declared.StationId.{StationId}
@@ -53,21 +52,6 @@ track_within net track s e = by (slice_get net.tracks track.0) refl e
     by (Some t) n e = slice_get_within net.tracks track.0 t n
 
 -- ---- the tracks that leave a station ascend, and are all of them
-
-range_from : (a n : ℕ) → All (λ (t : TrackId). a ≤ t.0) (map track_id (range_with_len a n))
-range_from a zero k d l = absurd (omega arith)
-range_from a (suc n) zero d l = omega arith
-range_from a (suc n) (suc k) d l = let h = range_from (a + 1) n k d (omega arith) in omega arith
-
-range_rises : (a n : ℕ) → AllPairs (λ (t u : TrackId). t.0 < u.0) (map track_id (range_with_len a n))
-range_rises a zero i j d l m = absurd (omega arith)
-range_rises a (suc n) zero zero d l m = absurd (omega arith)
-range_rises a (suc n) zero (suc j) d l m = let h = range_from (a + 1) n j d (omega arith) in omega arith
-range_rises a (suc n) (suc i) zero d l m = absurd (omega arith)
-range_rises a (suc n) (suc i) (suc j) d l m = range_rises (a + 1) n i j d (omega arith) (omega arith)
-
-pub out_rises : (tracks : List Track) (s : StationId) → AllPairs (λ (t u : TrackId). t.0 < u.0) (out_tracks_of tracks s)
-out_rises tracks s = AllPairs-filter (λ (t u : TrackId). t.0 < u.0) (leaves tracks s) (map track_id (range_with_len 0 (length tracks))) (range_rises 0 (length tracks))
 
 -- the head of a track is a station
 pub head_within : (net : Net) (n : ℕ) (h : StationId) → IsProper net → option_map (λ (t : Track). t.head) (slice_get net.tracks n) ≡ Some h → h.0 < length net.stations

@@ -23,8 +23,8 @@ IsQuickest net track kind None = times_of net track kind ≡ None
 IsQuickest net track kind (Some minutes) = (times : Times) (a b : Bool) → times_of net track kind ≡ Some times → minutes ≤ minutes_by a b times
 
 -- the far end of the track has no more minutes than the near end and those of the type on the track
-abbrev pub Follows : Net → TypeId → Bool → List ℕ → TrackId → Type 0
-Follows net kind back least n =
+abbrev pub IsLeastAlong : Net → TypeId → Bool → List ℕ → TrackId → Type 0
+IsLeastAlong net kind back least n =
     (t : Track) (times : Times) (a b : Bool) → slice_get net.tracks n.0 ≡ Some t → times_of net n kind ≡ Some times
     → slice_index least (far_of back t).0 ≤ slice_index least (near_of back t).0 + minutes_by a b times
 
@@ -32,7 +32,7 @@ Follows net kind back least n =
 pub record AreLeast (net : Net) (kind : TypeId) (back : Bool) (at : StationId) (least : List ℕ) : Type 0 where
   pub len : length least ≡ length net.stations
   pub zero : slice_index least at.0 ≡ 0
-  pub each : (n : ℕ) → n < length net.tracks → Follows net kind back least (track_id n)
+  pub each : (n : ℕ) → n < length net.tracks → IsLeastAlong net kind back least (track_id n)
 
 -- from the origin of the path, and on to its destination
 pub record IsReach (net : Net) (path : Path) (reach : Reach) : Type 0 where

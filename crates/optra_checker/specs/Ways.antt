@@ -3,6 +3,7 @@ use Rattle.std.specs.Prelude.{◌≡◌, ℕ, ◌+◌, ◌<◌, ◌≤◌, List,
 use Rattle.optra_network.specs.Net.{Net, MayUse}
 use Rattle.optra_network.specs.declared.TrackId.{TrackId}
 use Rattle.optra_bid.specs.Specs.{Path}
+use Rattle.optra_bid.specs.declared.Stop.{Stop}
 use Rattle.optra_walk.specs.declared.Action.{Action}
 use Rattle.optra_walk.specs.declared.Action.TheVariants.{Pass, Halt, Wait, Finish}
 use Rattle.optra_walk.specs.declared.Leg.{Leg}
@@ -27,6 +28,14 @@ pub record IsWay (net : Net) (path : Path) (s : State) (way : Way) : Type 0 wher
   pub halt_later : s.minute < way.halt
   pub pass_bound : way.pass ≤ s.minute + 240
   pub halt_bound : way.halt ≤ s.minute + 240
+
+-- the train arrives at the stop's station within its span when it halts at the head of the way
+abbrev pub IsAtStop : Stop → Way → Type 0
+IsAtStop stop way = (stop.station ≡ way.head) × (stop.arrive.from ≤ way.halt) × (way.halt ≤ stop.arrive.to)
+
+-- all stops are done, and the train arrives at the destination within the arrival window when it halts at the head of the way
+abbrev pub IsAtEnd : Path → Way → Type 0
+IsAtEnd path way = (way.from.done ≡ length path.stops) × (way.head ≡ path.destination) × (path.arrive.from ≤ way.halt) × (way.halt ≤ path.arrive.to)
 
 -- a leg on the track
 abbrev pub IsOn : TrackId → Leg → Type 0

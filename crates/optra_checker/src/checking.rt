@@ -1,7 +1,7 @@
 //! The check of a certificate.
-ghost use Rattle.std.specs.Prelude.{◌≡◌, IfOk, MatchOption, length};
+ghost use Rattle.std.specs.Prelude.{◌≡◌, ◌↔◌, IfOk, MatchOption, length};
 ghost use Rattle.optra_bid.specs.Instances.{IsInstance};
-ghost use Rattle.optra_node.specs.Certificates.{IsFormed};
+ghost use Rattle.optra_node.specs.Certificates.{IsFormed, IsValid};
 ghost use Rattle.optra_checker.specs.Verdicts.{ChoiceHolds, TreeHolds, IsFirstReason, IsVerdict};
 
 use crate::bounding::bound_holds;
@@ -86,12 +86,8 @@ fn tree_fault<F: RowFamily>(
     Ok(None)
 }
 
-/// Whether a certificate of an instance is valid: Yes with its revenue and its bound exactly where it is, and else No with
-/// the first reason, K1 to K7, that holds somewhere in it. [`Reason`] says when each comes.
-///
-/// It needs an instance of at most 1,000 bids whose paths are on its network, and a formed certificate. What it computes
-/// rests on the laws of the family alone. `NoMemory` is its only refusal.
-pub fn check<F: RowFamily>(
+/// The verdict on a certificate.
+fn verdict_on<F: RowFamily>(
     alloc: Global,
     inst: Instance<'_>,
     rows: &F,
@@ -111,4 +107,23 @@ pub fn check<F: RowFamily>(
         revenue: cert.revenue,
         bound: cert.bound,
     })
+}
+
+/// Whether a certificate of an instance is valid: Yes with its revenue and its bound exactly where it is, and else No with
+/// the first reason, K1 to K7, that holds somewhere in it. [`Reason`] says when each comes.
+///
+/// It needs an instance of at most 1,000 bids whose paths are on its network, and a formed certificate. What it computes
+/// rests on the laws of the family alone. `NoMemory` is its only refusal.
+pub fn check<F: RowFamily>(
+    alloc: Global,
+    inst: Instance<'_>,
+    rows: &F,
+    cert: &Certificate<F::Row>,
+) -> Result<Verdict, NoMemory>
+    requires instance { IsInstance inst.net.now inst.bids.now }
+    requires formed { IsFormed F.Row.cmp inst.net.now (length inst.bids.now) cert.now.choice cert.now.tree }
+    ensures yes { IfOk result (λ verdict. (verdict ≡ Verdict.Yes cert.now.revenue cert.now.bound) ↔ IsValid inst.entry.net.now (F.rows_of rows.now inst.entry.net.now) (F.KeepsRule rows.now inst.entry.net.now) inst.entry.bids.now cert.now.revenue cert.now.bound cert.now.choice cert.now.tree) }
+    ensures verdict { IfOk result (IsVerdict inst.entry.net.now (F.rows_of rows.now inst.entry.net.now) (F.KeepsRule rows.now inst.entry.net.now) inst.entry.bids.now cert.now) }
+{
+    verdict_on(alloc, inst, rows, cert)
 }

@@ -3,7 +3,7 @@ ghost use Rattle.std.specs.Prelude.{◌≡◌, ◌≤◌, ◌<◌, ◌↔◌, le
 ghost use Rattle.optra_network.specs.Net.{IsStation, track_id};
 ghost use Rattle.std.specs.Option.{option_map};
 ghost use Rattle.optra_bid.specs.Specs.{IsPathOn};
-ghost use Rattle.optra_checker.specs.Reaches.{near_of, far_of, IsQuickest, Follows, AreLeast, IsReach, IsReached, IsInTime};
+ghost use Rattle.optra_checker.specs.Reaches.{near_of, far_of, IsQuickest, IsLeastAlong, AreLeast, IsReach, IsReached, IsInTime};
 
 use crate::states::State;
 use optra_bid::Bid;
@@ -48,7 +48,7 @@ fn lower_by(net: &Network, kind: TypeId, back: bool, least: &mut [u16], track: T
     requires len { length least.old ≡ length net.now.stations }
     requires track { track.0 < length net.now.tracks }
     ensures lowered { IsTrue result → sum least.new < sum least.old }
-    ensures stays { result ≡ false → (least.new ≡ least.old) × Follows net.now kind back least.new track }
+    ensures stays { result ≡ false → (least.new ≡ least.old) × IsLeastAlong net.now kind back least.new track }
     ensures no_more { (k : ℕ) → slice_index least.new k ≤ slice_index least.old k }
 {
     let (near, far) = ends(net, track, back);
@@ -67,7 +67,7 @@ fn lower_by(net: &Network, kind: TypeId, back: bool, least: &mut [u16], track: T
 fn lower(net: &Network, kind: TypeId, back: bool, least: &mut [u16]) -> bool
     requires len { length least.old ≡ length net.now.stations }
     ensures lowered { IsTrue result → sum least.new < sum least.old }
-    ensures stays { result ≡ false → (n : ℕ) → n < length net.now.tracks → Follows net.now kind back least.new (track_id n) }
+    ensures stays { result ≡ false → (n : ℕ) → n < length net.now.tracks → IsLeastAlong net.now kind back least.new (track_id n) }
     ensures no_more { (k : ℕ) → slice_index least.new k ≤ slice_index least.old k }
 {
     let mut lowered = false;

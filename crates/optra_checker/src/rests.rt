@@ -8,7 +8,7 @@ ghost use Rattle.optra_checker.specs.Rests.{IsMove, IsBestRest, IsRestSize, AnyL
 ghost use Rattle.optra_checker.specs.Shares.{IsShare};
 ghost use Rattle.optra_checker.specs.Sizes.{IsWholeRest, IsCost};
 ghost use Rattle.optra_checker.specs.Tables.{IsReadyFor};
-ghost use Rattle.optra_checker.specs.Ways.{IsWay, IsOn, IsLegBy, IsHaltBy, IsWaitBy, leg_by};
+ghost use Rattle.optra_checker.specs.Ways.{IsWay, IsAtStop, IsAtEnd, IsOn, IsLegBy, IsHaltBy, IsWaitBy, leg_by};
 ghost use Rattle.optra_checker.specs.Weights.{AreWeightsFor};
 
 use crate::asks::{Ask, leg_cost};
@@ -153,7 +153,7 @@ fn next_stop(bid: &Bid, done: u16) -> Option<Stop>
 
 /// Whether the train halts right for the stop when it arrives by the way.
 fn may_halt(stop: Stop, way: Way) -> bool
-    ensures { IsTrue result ↔ ((stop.station ≡ way.head) × (stop.arrive.from ≤ way.halt) × (way.halt ≤ stop.arrive.to)) }
+    ensures { IsTrue result ↔ IsAtStop stop way }
 {
     stop.station == way.head && stop.arrive.from <= way.halt && way.halt <= stop.arrive.to
 }
@@ -219,7 +219,7 @@ fn waits_rest<W: Weighing>(
 
 /// Whether the walk may end when the train arrives by the way.
 fn may_finish(bid: &Bid, way: Way) -> bool
-    ensures { IsTrue result ↔ ((way.from.done ≡ length bid.now.path.stops) × (way.head ≡ bid.now.path.destination) × (bid.now.path.arrive.from ≤ way.halt) × (way.halt ≤ bid.now.path.arrive.to)) }
+    ensures { IsTrue result ↔ IsAtEnd bid.now.path way }
 {
     let path = &bid.path;
     usize::from(way.from.done) == path.stops.len()
