@@ -1,6 +1,6 @@
 -- What a plan can be worth at most.
-use Rattle.std.proofs.Common.{◌≡◌, ◌+◌, ◌*◌, ◌≤◌, ◌^◌, ℕ, List, [], ◌∷◌, length, arith}
-use Rattle.std.specs.Prelude.{ℤ, pos, ◌≤ℤ◌, ◌<ℤ◌, ◌+ℤ◌}
+use Rattle.std.proofs.Common.{◌*◌, ◌≤◌, ◌^◌, ℕ, List, [], ◌∷◌, length, arith}
+use Rattle.std.specs.Prelude.{ℤ, pos, ◌≤ℤ◌, ◌<ℤ◌}
 use Rattle.std.proofs.lemmas.Int.{ints}
 use Rattle.std.specs.declared.cmp.Ordering.{Ordering}
 use Rattle.optra_network.specs.Net.{Net}

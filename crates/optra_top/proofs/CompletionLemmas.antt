@@ -1,8 +1,6 @@
 -- What valid or refused contents leave, where nothing outside failed: want of memory alone.
-use Rattle.std.proofs.Common.{◌≡◌, ◌⊎◌, inl, inr, ℕ, ◌<◌, ◌≤◌, List, length, refl, sym, ◌∙◌, subst, arith, Option, Some, None, true, IsSomeAnd}
-use Rattle.std.specs.FinMap.{get}
+use Rattle.std.proofs.Common.{◌≡◌, ◌⊎◌, inl, inr, ℕ, ◌<◌, List, length, refl, sym, ◌∙◌, subst, arith, Option, Some, None, IsSomeAnd}
 use Rattle.optra_outside.specs.Disk.{DiskState}
-use Rattle.optra_outside.specs.Shelf.{ShelfState}
 use Rattle.optra_outside.specs.declared.shelves.ShelfError.TheVariants.{Absent as NotThere, TooLong as Overlong}
 use Rattle.optra_top.specs.declared.faults.Fault.{Fault}
 use Rattle.optra_top.specs.declared.faults.Fault.TheVariants.{Refused, Read, Absent, TooLong, Write, NoMemory}

@@ -1,7 +1,7 @@
 -- The content of a role among files, from one of them on.
-use Rattle.std.proofs.Common.{◌≡◌, ℕ, ◌+◌, ◌<◌, List, [], ◌∷◌, map, length, drop, get_or, true, false, Bool, if◌then◌else◌, ap, sym, ◌∙◌}
+use Rattle.std.proofs.Common.{◌≡◌, ℕ, ◌+◌, ◌<◌, List, ◌∷◌, length, drop, get_or, true, false, Bool, if◌then◌else◌, ap, sym, ◌∙◌}
 use Rattle.std.proofs.lemmas.List.{at_drop_more}
-use Rattle.optra_top.specs.Files.{same_role, content_of, file_got, files_got}
+use Rattle.optra_top.specs.Files.{same_role, content_of, files_got}
 use Rattle.optra_top.specs.declared.files.Role.{Role}
 use Rattle.optra_top.specs.declared.files.Got.{Got}
 

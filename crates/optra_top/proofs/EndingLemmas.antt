@@ -1,5 +1,5 @@
 -- What each status of a run says, by how it ended.
-use Rattle.std.proofs.Common.{◌≡◌, ◌⊎◌, inl, inr, ℕ, refl, arith, Option, Some, None, string_bytes}
+use Rattle.std.proofs.Common.{◌≡◌, inl, inr, ℕ, refl, arith, Option, Some, None, string_bytes}
 use Rattle.optra_outside.specs.Shelf.{GetLeaves}
 use Rattle.optra_top.specs.declared.faults.Fault.{Fault}
 use Rattle.optra_top.specs.declared.faults.Fault.TheVariants.{Refused, Read, Absent, TooLong, Write, NoMemory}

@@ -1,5 +1,5 @@
 -- Lemmas on gets, one after the other.
-use Rattle.std.proofs.Common.{◌≡◌, ℕ, ◌+◌, ◌<◌, List, [], ◌∷◌, ◌++◌, length, true, ap, ◌∙◌, subst, arith, refl, Some, None, sym, append_assoc, append-nil, Result, Err, string_bytes, IsSomeAnd, ◌≤◌}
+use Rattle.std.proofs.Common.{◌≡◌, ℕ, ◌<◌, List, [], ◌∷◌, ◌++◌, length, true, ap, ◌∙◌, subst, arith, refl, Some, None, sym, append_assoc, append-nil, Err, string_bytes, IsSomeAnd, ◌≤◌}
 use Rattle.std.proofs.lemmas.List.{map-append}
 use Rattle.std.specs.FinMap.{get}
 use Rattle.optra_outside.specs.Shelf.{ShelfState, GetLeaves, GetCause, Answers}
@@ -9,7 +9,7 @@ use Rattle.optra_top.specs.declared.files.Asked.{Asked}
 use Rattle.optra_top.specs.declared.files.Got.{Got}
 use Rattle.optra_top.specs.Commands.{Command, next_file}
 use Rattle.optra_top.specs.Files.{File, Held, Contents, HoldsFile, HoldsAll, file_asked, file_got, files_got}
-use Rattle.optra_top.specs.Gets.{Follows, AreAsked, AreWhole, IsNext, Refuses}
+use Rattle.optra_top.specs.Gets.{Follows, AreAsked, AreWhole, IsNext}
 use Rattle.optra_top.specs.Faults.{fault_of, EndsGets}
 
 pub GetLeaves-itself : (a : ShelfState) → GetLeaves a a

@@ -1,11 +1,11 @@
 -- The plan of the search is the plan of its bids, by any rows whose rule is freedom of conflict.
-use Rattle.std.proofs.Common.{◌≡◌, ◌≤ℤ◌, ℕ, ℤ, List, Option, sym, ◌∙◌, subst}
+use Rattle.std.proofs.Common.{◌≤ℤ◌, ℕ, ℤ, List, Option, sym, ◌∙◌, subst}
 use Rattle.std.specs.declared.cmp.Ordering.{Ordering}
 use Rattle.optra_network.specs.Net.{Net}
 use Rattle.optra_bid.specs.declared.bids.Bid.{Bid}
 use Rattle.optra_walk.specs.declared.Leg.{Leg}
-use Rattle.optra_walk.specs.Choices.{IsChoice, uses_of, KeepsHeadways, IsConflictFree, revenue_of}
-use Rattle.optra_walk.specs.Families.{Rows, Entry, entries_of}
+use Rattle.optra_walk.specs.Choices.{KeepsHeadways, IsConflictFree, revenue_of}
+use Rattle.optra_walk.specs.Families.{Rows, Entry}
 use Rattle.optra_rows.specs.Headways.{KeepsHeadwayRule}
 use Rattle.optra_rows.specs.RuleLemmas.{uses_of_entries}
 use Rattle.optra_node.specs.Certificates.{IsValid}

@@ -1,5 +1,5 @@
 -- What a command over tables refuses: contents that are refused have no other reply, and what the tables' faults are.
-use Rattle.std.proofs.Common.{◌≡◌, ℕ, List, [], Result, Ok, Err, refl, sym, ap, ◌∙◌, subst}
+use Rattle.std.proofs.Common.{◌≡◌, ℕ, List, Result, Ok, Err, refl, sym, ◌∙◌, subst}
 use Rattle.std.specs.Prelude.{IsErrAnd}
 use Rattle.optra_network.specs.Net.{Net}
 use Rattle.optra_tables.specs.declared.ReadError.{ReadError}

@@ -1,5 +1,5 @@
 -- The verdict on bytes; and that what a plan puts is confirmed.
-use Rattle.std.proofs.Common.{◌≡◌, ◌≤◌, ℕ, ℤ, List, [], ◌∷◌, length, Option, None, Some, refl, sym, ap, ◌∙◌, subst, arith}
+use Rattle.std.proofs.Common.{◌≡◌, ℕ, List, [], ◌∷◌, length, Option, None, Some, refl, sym, ap, ◌∙◌, subst, arith}
 use Rattle.optra_network.specs.Net.{Net}
 use Rattle.optra_bid.specs.declared.bids.Bid.{Bid}
 use Rattle.optra_cert.specs.CertLaws.{IsTextOf, TextTellsCert, TextHasNoFault}
@@ -23,10 +23,8 @@ use Rattle.optra_walk.specs.Families.{Rows, Entry}
 use Rattle.optra_top.specs.CheckCommand.{IsVerdictOn, verdict_status, view_of}
 use Rattle.optra_top.specs.CheckLaws.{ConfirmsPlan}
 use Rattle.optra_top.specs.Families.{FamilyOf, headway_family}
-use Rattle.optra_top.specs.PlanCommand.{PlanAsked, PrintsHeadwayPlan, certificate_of, certificate_puts}
-use Rattle.optra_top.specs.PlanLaws.{tables_of}
+use Rattle.optra_top.specs.PlanCommand.{certificate_of, certificate_puts}
 use Rattle.optra_top.specs.Plans.{KeepsPromise, TellsConflicts}
-use Rattle.optra_top.specs.Statuses.{valid_status}
 use Rattle.optra_top.proofs.PlanLemmas.{promise-from_valid}
 use Rattle.optra_top.proofs.BidLemmas.{bids-from_parts}
 

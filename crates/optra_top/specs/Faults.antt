@@ -1,5 +1,5 @@
 -- The faults that end a command: the status and the line of each, and how the run has gone.
-use Rattle.std.specs.Prelude.{◌≡◌, ℕ, List, String, string_bytes, ⊤}
+use Rattle.std.specs.Prelude.{ℕ, List, String, string_bytes, ⊤}
 use Rattle.std.specs.declared.alloc.Global.{Global}
 use Rattle.optra_outside.specs.Shelf.{ShelfState}
 use Rattle.optra_outside.specs.declared.shelves.ShelfError.{ShelfError}

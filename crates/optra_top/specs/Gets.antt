@@ -6,7 +6,7 @@ use Rattle.optra_outside.specs.Shelf.{ShelfState}
 use Rattle.optra_outside.specs.declared.shelves.ShelfError.{ShelfError}
 use Rattle.optra_outside.specs.declared.shelves.ShelfError.TheVariants.{Absent, Failed, TooLong}
 use Rattle.optra_top.specs.declared.files.Role.{Role}
-use Rattle.optra_top.specs.Files.{File, Held, Contents, HoldsAll}
+use Rattle.optra_top.specs.Files.{Contents, HoldsAll}
 use Rattle.optra_top.specs.Commands.{Command, next_file}
 
 -- After the first contents, the files of the others were asked for, one after the other.

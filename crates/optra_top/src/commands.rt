@@ -7,12 +7,11 @@ ghost use Rattle.optra_top.specs.Faults.{EndsReply};
 ghost use Rattle.optra_top.specs.Files.{file_asked, files_got};
 ghost use Rattle.optra_top.specs.Replies.{reply_of};
 
-use crate::check_command;
 use crate::faults::Fault;
 use crate::files::{Asked, Got};
-use crate::plan_command;
 use crate::replies::Answer;
 use crate::table_files::next_table_file;
+use crate::{check_command, plan_command};
 use optra_outside::Disk;
 use optra_search::Limits;
 use optra_text::Words;

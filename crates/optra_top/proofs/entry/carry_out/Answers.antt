@@ -1,6 +1,6 @@
 -- What each status says, by how the command ended.
-use Rattle.std.proofs.Common.{inl, inr}
-use Rattle.optra_top.proofs.EndingLemmas.{Ends-done, Ends-fault, fault-status}
+use Rattle.std.proofs.Common.{inr}
+use Rattle.optra_top.proofs.EndingLemmas.{Ends-done, Ends-fault}
 use Rattle.optra_top.proofs.CompletionLemmas.{Completes-done, Completes-fault}
 use Rattle.optra_top.proofs.entry.carry_out.Goals as goal
 
