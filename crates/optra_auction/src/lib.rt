@@ -7,10 +7,7 @@
 use optra_bid::Name;
 use optra_network::Cents;
 
-mod auctions;
 mod standing_bids;
-
-pub use auctions::Auction;
 
 /// The rules of an auction.
 #[derive(Clone, Copy, Debug, PartialEq, Eq)]

@@ -103,7 +103,7 @@ impl StandingBids {
     pub(crate) fn push(&mut self, name: Name, terms: Terms)
         requires room { length self.old < 500 }
         requires new { place_of name (map (λ (b : Standing). b.name) self.old) ≡ None }
-        ensures { self.new ≡ self.old ++ named name.entry terms ∷ [] }
+        ensures { self.new ≡ self.old ++ named name terms ∷ [] }
     {
         let _ = self.terms.insert(name.into_text(), terms).unwrap();
     }
