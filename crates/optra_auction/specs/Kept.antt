@@ -1,8 +1,7 @@
--- How the bids that stand are kept.
-use Rattle.std.specs.Prelude.{◌≡◌, ℕ, ◌+◌, ◌≤◌, true, List, All, String, string_bytes}
+-- How the bids that stand are kept: before those that were withdrawn, in one map by name.
+use Rattle.std.specs.Prelude.{ℕ, ◌+◌, ◌≤◌, List, take, map, String, string_bytes}
 use Rattle.std.specs.declared.alloc.Global.{Global}
-use Rattle.indexmap.specs.IndexMap.{IndexMap, keys, index_map_len, spare}
-use Rattle.optra_network.specs.Names.{is_name}
+use Rattle.indexmap.specs.IndexMap.{IndexMap, index_map_len, spare}
 use Rattle.optra_auction.specs.Machine.{Standing}
 use Rattle.optra_auction.specs.declared.standing_bids.Terms.{Terms}
 
@@ -14,8 +13,12 @@ named name terms = record { name = name; bidder = terms.bidder; spec = terms.spe
 abbrev pub standing_of : String Global × Terms → Standing
 standing_of entry = named (string_bytes entry.0) entry.1
 
--- each key is a name, and there is room for 500 bids in all
-pub record AreKept {S : Type 0} (terms : IndexMap (String Global) Terms S) : Type 0 where
-  pub names : All (λ key. is_name (string_bytes key) ≡ true) (keys terms)
-  pub room : 500 ≤ index_map_len terms + spare terms
-  pub few : index_map_len terms ≤ 500
+-- the first of the entries, as many as stand, are the standing bids
+abbrev pub standing_in : List (String Global × Terms) → ℕ → List Standing
+standing_in entries count = map standing_of (take count entries)
+
+-- the bids that stand are among the entries, at most 500, and there is room for 1,000 entries in all
+pub record HaveRoom {S : Type 0} (terms : IndexMap (String Global) Terms S) (count : ℕ) : Type 0 where
+  pub within : count ≤ index_map_len terms
+  pub few : count ≤ 500
+  pub room : 1000 ≤ index_map_len terms + spare terms

@@ -1,10 +1,12 @@
 -- The auction machine: what stands, which actions are refused, what an accepted one changes, and what the close of a round leaves.
-use Rattle.std.specs.Prelude.{◌≡◌, ℕ, ◌+◌, not, Bool, true, false, List, [], ◌∷◌, ◌++◌, length, map, slice_get, slice_set, remove, nat_le, bytes_eq, Option, None, Some, is_some, is_none, if◌then◌else◌}
+use Rattle.std.specs.Prelude.{◌≡◌, ℕ, ◌+◌, ◌≤◌, not, Bool, true, false, List, [], ◌∷◌, ◌++◌, length, map, slice_get, slice_set, remove, nat_le, bytes_eq, All, Option, None, Some, is_some, is_none, option_map, if◌then◌else◌, ⊤}
 use Rattle.std.specs.Prelude.{ℤ, pos, int_lt, ◌+ℤ◌, ◌*ℤ◌}
 use Rattle.std.specs.Int.{int_div_euclid, int_max}
 use Rattle.std.specs.Option.{option_map_or, option_and_then}
-use Rattle.optra_network.specs.Names.{place_of}
+use Rattle.optra_network.specs.Names.{AllDiffer, AreNames, place_of}
 use Rattle.optra_network.specs.Refusals.{first_of}
+use Rattle.optra_bid.specs.Specs.{IsBetween, Path}
+use Rattle.optra_bid.specs.declared.Money.{Money}
 use Rattle.optra_bid.specs.declared.bids.Bid.{Bid}
 use Rattle.optra_auction.specs.declared.Act.{Act}
 use Rattle.optra_auction.specs.declared.Act.TheVariants.{Opening, Raise, Amend, Withdraw}
@@ -38,31 +40,35 @@ pub record State : Type 0 where
 abbrev pub opened : List Bid → Rules → State
 opened specs rules = record { specs = specs; rules = rules; round = 1; standing = []; moved = false; closed = false }
 
--- at most so many bids stand
-abbrev pub most_standing : ℕ
-most_standing = 500
+-- the names of specifications
+abbrev pub spec_names : List Bid → List (List ℕ)
+spec_names specs = map (λ (spec : Bid). spec.name) specs
+
+-- the names of standing bids
+abbrev pub standing_names : List Standing → List (List ℕ)
+standing_names bids = map (λ (b : Standing). b.name) bids
 
 -- ---- by name
 
 -- the place of the specification of a name
 abbrev pub spec_named : State → List ℕ → Option ℕ
-spec_named s name = place_of name (map (λ (b : Bid). b.name) s.specs)
+spec_named s name = place_of name (spec_names s.specs)
 
 -- the place of the standing bid of a name
 abbrev pub place_named : State → List ℕ → Option ℕ
-place_named s name = place_of name (map (λ (b : Standing). b.name) s.standing)
+place_named s name = place_of name (standing_names s.standing)
 
 -- the standing bid of a name
 abbrev pub standing_named : State → List ℕ → Option Standing
 standing_named s name = option_and_then (slice_get s.standing) (place_named s name)
 
--- the reserve of the specification at a place: its base
-abbrev pub reserve_at : State → ℕ → ℤ
-reserve_at s place = option_map_or (λ (b : Bid). b.money.base) (slice_get s.specs place) (pos 0)
+-- the reserve of the specification at a place, which is its base
+abbrev pub reserve_at : List Bid → ℕ → ℤ
+reserve_at specs place = option_map_or (λ (spec : Bid). spec.money.base) (slice_get specs place) (pos 0)
 
 -- the reserve of the specification of a name
-abbrev pub reserve_of : State → List ℕ → ℤ
-reserve_of s name = option_map_or (reserve_at s) (spec_named s name) (pos 0)
+abbrev pub reserve_named : State → List ℕ → ℤ
+reserve_named s name = option_map_or (reserve_at s.specs) (spec_named s name) (pos 0)
 
 -- ---- raises
 
@@ -72,18 +78,33 @@ least_raise_of rules amount = int_max rules.min_increment (int_div_euclid (amoun
 
 -- ---- refusals
 
--- a test of the standing bid of a name; there is nothing to test where there is none
-abbrev pub if_standing : State → List ℕ → (Standing → Bool) → Bool
-if_standing s name test = option_map_or test (standing_named s name) false
+-- a test of the standing bid of a name; it does not hold where there is none
+abbrev pub standing_is : State → List ℕ → (Standing → Bool) → Bool
+standing_is s name test = option_map_or test (standing_named s name) false
 
+-- whether a bidder is not the one of a standing bid
 abbrev pub is_anothers : List ℕ → Standing → Bool
 is_anothers bidder b = not (bytes_eq bidder b.bidder)
 
+-- whether an amount is below that of a standing bid and its least raise
 abbrev pub is_below_raise : Rules → ℤ → Standing → Bool
 is_below_raise rules amount b = int_lt amount (b.amount +ℤ least_raise_of rules b.amount)
 
+-- whether a standing bid won the last planned round
 abbrev pub is_winning : Standing → Bool
 is_winning b = is_some b.won
+
+-- whether a standing bid was opened, raised or amended in this round
+abbrev pub has_acted : Standing → Bool
+has_acted b = b.acted
+
+-- whether the amount of a standing bid is below a reserve
+abbrev pub is_below : ℤ → Standing → Bool
+is_below reserve b = int_lt b.amount reserve
+
+-- whether as many bids stand as may
+abbrev pub is_full : List Standing → Bool
+is_full bids = nat_le 500 (length bids)
 
 -- Why an action is refused: the first of its tests that holds.
 unfoldable pub refusal_of : State → Act → Option Refusal
@@ -92,60 +113,66 @@ refusal_of s (Opening bidder bid spec amount) =
     (s.closed, A9)
     ∷ (is_none (spec_named s spec), A1)
     ∷ (is_some (place_named s bid), A2)
-    ∷ (int_lt amount (reserve_of s spec), A3)
-    ∷ (nat_le most_standing (length s.standing), A10)
+    ∷ (int_lt amount (reserve_named s spec), A3)
+    ∷ (is_full s.standing, A10)
     ∷ [])
 refusal_of s (Raise bidder bid amount) =
     first_of (
     (s.closed, A9)
     ∷ (is_none (place_named s bid), A4)
-    ∷ (if_standing s bid (is_anothers bidder), A5)
-    ∷ (if_standing s bid (is_below_raise s.rules amount), A6)
-    ∷ (if_standing s bid is_winning, A7)
-    ∷ (if_standing s bid (λ b. b.acted), A8)
+    ∷ (standing_is s bid (is_anothers bidder), A5)
+    ∷ (standing_is s bid (is_below_raise s.rules amount), A6)
+    ∷ (standing_is s bid is_winning, A7)
+    ∷ (standing_is s bid has_acted, A8)
     ∷ [])
 refusal_of s (Amend bidder bid spec) =
     first_of (
     (s.closed, A9)
     ∷ (is_none (spec_named s spec), A1)
     ∷ (is_none (place_named s bid), A4)
-    ∷ (if_standing s bid (is_anothers bidder), A5)
-    ∷ (if_standing s bid is_winning, A7)
-    ∷ (if_standing s bid (λ b. b.acted), A8)
-    ∷ (if_standing s bid (λ b. int_lt b.amount (reserve_of s spec)), A3)
+    ∷ (standing_is s bid (is_anothers bidder), A5)
+    ∷ (standing_is s bid is_winning, A7)
+    ∷ (standing_is s bid has_acted, A8)
+    ∷ (standing_is s bid (is_below (reserve_named s spec)), A3)
     ∷ [])
 refusal_of s (Withdraw bidder bid) =
     first_of (
     (s.closed, A9)
     ∷ (is_none (place_named s bid), A4)
-    ∷ (if_standing s bid (is_anothers bidder), A5)
-    ∷ (if_standing s bid is_winning, A7)
-    ∷ (if_standing s bid (λ b. b.acted), A8)
+    ∷ (standing_is s bid (is_anothers bidder), A5)
+    ∷ (standing_is s bid is_winning, A7)
+    ∷ (standing_is s bid has_acted, A8)
     ∷ [])
 
 -- ---- what an accepted action changes
 
--- the bids that stand, where the one of a name is another one
-abbrev pub with_standing : State → List ℕ → (Standing → Standing) → List Standing
-with_standing s name change =
-    option_map_or (λ place. option_map_or (λ b. slice_set s.standing place (change b)) (slice_get s.standing place) s.standing) (place_named s name) s.standing
-
--- the bids that stand without the one of a name; the others keep their order
-abbrev pub without_standing : State → List ℕ → List Standing
-without_standing s name = option_map_or (remove s.standing) (place_named s name) s.standing
+-- a list of standing bids with a change of the one at a place
+abbrev pub with_change : List Standing → ℕ → (Standing → Standing) → List Standing
+with_change bids place change = option_map_or (λ b. slice_set bids place (change b)) (slice_get bids place) bids
 
 -- a bid that was opened
 abbrev pub opened_bid : List ℕ → List ℕ → ℕ → ℤ → Standing
 opened_bid bidder bid spec amount = record { name = bid; bidder = bidder; spec = spec; amount = amount; won = None; acted = true }
 
--- the bids that stand after an action that is not refused
+-- a bid that was raised
+abbrev pub raised_bid : ℤ → Standing → Standing
+raised_bid amount b = record b { amount = amount; acted = true }
+
+-- a bid that was amended
+abbrev pub amended_bid : ℕ → Standing → Standing
+amended_bid spec b = record b { spec = spec; acted = true }
+
+-- The bids that stand after an action that is not refused: an opened bid comes last, a raised or amended one keeps its
+-- place, and without a withdrawn one the others keep their order.
 abbrev pub standing_after : State → Act → List Standing
 standing_after s (Opening bidder bid spec amount) =
     option_map_or (λ place. s.standing ++ opened_bid bidder bid place amount ∷ []) (spec_named s spec) s.standing
-standing_after s (Raise bidder bid amount) = with_standing s bid (λ b. record b { amount = amount; acted = true })
+standing_after s (Raise bidder bid amount) =
+    option_map_or (λ place. with_change s.standing place (raised_bid amount)) (place_named s bid) s.standing
 standing_after s (Amend bidder bid spec) =
-    option_map_or (λ place. with_standing s bid (λ b. record b { spec = place; acted = true })) (spec_named s spec) s.standing
-standing_after s (Withdraw bidder bid) = without_standing s bid
+    option_map_or (λ place. option_map_or (λ new. with_change s.standing place (amended_bid new)) (spec_named s spec) s.standing) (place_named s bid) s.standing
+standing_after s (Withdraw bidder bid) =
+    option_map_or (remove s.standing) (place_named s bid) s.standing
 
 -- The auction after an action that is not refused.
 unfoldable pub after_act : State → Act → State
@@ -159,25 +186,79 @@ with_values [] values = []
 with_values (b ∷ bids) [] = b ∷ bids
 with_values (b ∷ bids) (value ∷ values) = record b { won = value } ∷ with_values bids values
 
--- nobody has acted
-abbrev pub at_rest : List Standing → List Standing
-at_rest bids = map (λ b. record b { acted = false }) bids
+-- a standing bid at the start of a round
+abbrev pub rested : Standing → Standing
+rested b = record b { acted = false }
 
--- the auction closes where no action of the round was accepted, or where it was the last round by the rules
+-- whether the auction closes with this round: no action of it was accepted, or it is the last one by the rules
 abbrev pub is_last_round : State → Bool
 is_last_round s = if s.moved then nat_le s.rules.rounds s.round else true
 
 -- The auction after the close of a round with these values of the bids that stand: it is closed, or the next round opens.
 unfoldable pub after_round : State → List (Option ℤ) → State
 after_round s values =
-    let bids = with_values s.standing values in
-    if is_last_round s then record s { standing = bids; closed = true }
-    else record s { round = s.round + 1; standing = at_rest bids; moved = false }
+    if is_last_round s
+    then record s { standing = with_values s.standing values; closed = true }
+    else record s { standing = map rested (with_values s.standing values); round = s.round + 1; moved = false }
 
 -- ---- the bids that are planned
 
--- a standing bid as it is planned: its specification with its own name and bidder, and with the amount as base
-abbrev pub bid_of : State → Standing → Bid → Type 0
-bid_of s b bid =
-    option_map_or (λ (spec : Bid). (bid.name ≡ b.name) × (bid.bidder ≡ b.bidder) × (bid.path ≡ spec.path) × (bid.money ≡ record spec.money { base = b.amount }))
-    (slice_get s.specs b.spec) ⊥
+-- a bid by its names, its path and its money; the bounds that it keeps follow from these
+pub record Offer : Type 0 where
+  pub name : List ℕ
+  pub bidder : List ℕ
+  pub path : Path
+  pub money : Money
+
+abbrev pub offer_of : Bid → Offer
+offer_of bid = record { name = bid.name; bidder = bid.bidder; path = bid.path; money = bid.money }
+
+-- a standing bid as it is planned: its specification with its own name and bidder, and with its amount as base
+abbrev pub planned_of : List Bid → Standing → Option Offer
+planned_of specs b =
+    option_map (λ (spec : Bid). record { name = b.name; bidder = b.bidder; path = spec.path; money = record spec.money { base = b.amount } }) (slice_get specs b.spec)
+
+-- these bids are the standing ones as they are planned, in order
+abbrev pub ArePlanned : State → List Bid → Type 0
+ArePlanned s bids = map (λ (bid : Bid). Some (offer_of bid)) bids ≡ map (planned_of s.specs) s.standing
+
+-- ---- what every auction keeps
+
+-- an amount of cents is 0 to 1,000,000,000
+abbrev pub IsAmount : ℤ → Type 0
+IsAmount amount = IsBetween (pos 0) (pos 1000000000) amount
+
+-- the amount of an action that has one is in range
+abbrev pub HasAmount : Act → Type 0
+HasAmount (Opening bidder bid spec amount) = IsAmount amount
+HasAmount (Raise bidder bid amount) = IsAmount amount
+HasAmount (Amend bidder bid spec) = ⊤
+HasAmount (Withdraw bidder bid) = ⊤
+
+-- the rules are in range
+pub record AreRules (rules : Rules) : Type 0 where
+  pub min_increment : IsBetween (pos 1) (pos 1000000000) rules.min_increment
+  pub permille : rules.permille ≤ 1000
+  pub rounds : 1 ≤ rules.rounds
+  pub rounds_max : rules.rounds ≤ 100
+
+-- at most 1,000 specifications, with different names
+pub record AreSpecs (specs : List Bid) : Type 0 where
+  pub few : length specs ≤ 1000
+  pub differ : AllDiffer (spec_names specs)
+
+-- a standing bid is on a specification, for an amount from its reserve to 1,000,000,000
+pub record IsOn (specs : List Bid) (b : Standing) : Type 0 where
+  pub spec : is_some (slice_get specs b.spec) ≡ true
+  pub reserve : int_lt b.amount (reserve_at specs b.spec) ≡ false
+  pub amount : IsAmount b.amount
+
+-- what every auction keeps
+pub record IsAuction (s : State) : Type 0 where
+  pub specs : AreSpecs s.specs
+  pub rules : AreRules s.rules
+  pub round : 1 ≤ s.round
+  pub round_max : s.round ≤ s.rules.rounds
+  pub few : length s.standing ≤ 500
+  pub names : AreNames (standing_names s.standing)
+  pub standing : All (IsOn s.specs) s.standing
