@@ -17,7 +17,7 @@ use Rattle.optra_network.specs.Names.{place_of}
 use Rattle.optra_network.proofs.NamesLemmas.{position-map}
 use Rattle.optra_auction.specs.Machine.{Standing, standing_names, with_change}
 use Rattle.optra_auction.specs.Kept.{HaveRoom, named, standing_in, standing_of}
-use Rattle.optra_auction.specs.declared.standing_bids.Terms.{Terms}
+use Rattle.optra_auction.specs.declared.terms.Terms.{Terms}
 
 abbrev Entry : Type 0
 Entry = String Global × Terms

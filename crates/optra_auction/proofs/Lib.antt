@@ -1,2 +1,3 @@
--- Lemmas on the bids that stand, as the map of names keeps them.
+-- Lemmas on the bids that stand, as the map of names keeps them, and on what an auction keeps.
 pub mod KeptLemmas
+pub mod MachineLemmas

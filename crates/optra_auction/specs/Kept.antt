@@ -3,7 +3,7 @@ use Rattle.std.specs.Prelude.{ℕ, ◌+◌, ◌≤◌, List, take, map, String, 
 use Rattle.std.specs.declared.alloc.Global.{Global}
 use Rattle.indexmap.specs.IndexMap.{IndexMap, index_map_len, spare}
 use Rattle.optra_auction.specs.Machine.{Standing}
-use Rattle.optra_auction.specs.declared.standing_bids.Terms.{Terms}
+use Rattle.optra_auction.specs.declared.terms.Terms.{Terms}
 
 -- terms with a name as a standing bid
 abbrev pub named : List ℕ → Terms → Standing

@@ -1,7 +1,7 @@
 -- The auction machine: what stands, which actions are refused, what an accepted one changes, and what the close of a round leaves.
-use Rattle.std.specs.Prelude.{◌≡◌, ℕ, ◌+◌, ◌≤◌, not, Bool, true, false, List, [], ◌∷◌, ◌++◌, length, map, slice_get, slice_set, remove, nat_le, bytes_eq, All, Option, None, Some, is_some, is_none, option_map, if◌then◌else◌, ⊤}
-use Rattle.std.specs.Prelude.{ℤ, pos, int_lt, ◌+ℤ◌, ◌*ℤ◌}
-use Rattle.std.specs.Int.{int_div_euclid, int_max}
+use Rattle.std.specs.Prelude.{◌≡◌, ℕ, ◌+◌, ◌≤◌, not, Bool, true, false, List, [], ◌∷◌, ◌++◌, length, map, slice_get, slice_set, remove, nat_le, bytes_eq, All, Option, None, Some, is_some, is_none, option_map, Result, MatchResult, if◌then◌else◌, ⊤}
+use Rattle.std.specs.Prelude.{ℤ, pos, int_lt, int_div, ◌≤ℤ◌, ◌+ℤ◌, ◌*ℤ◌}
+use Rattle.std.specs.Int.{int_max}
 use Rattle.std.specs.Option.{option_map_or, option_and_then}
 use Rattle.optra_network.specs.Names.{AllDiffer, AreNames, place_of}
 use Rattle.optra_network.specs.Refusals.{first_of}
@@ -12,6 +12,7 @@ use Rattle.optra_auction.specs.declared.Act.{Act}
 use Rattle.optra_auction.specs.declared.Act.TheVariants.{Opening, Raise, Amend, Withdraw}
 use Rattle.optra_auction.specs.declared.Refusal.{Refusal}
 use Rattle.optra_auction.specs.declared.Refusal.TheVariants.{A1, A2, A3, A4, A5, A6, A7, A8, A9, A10}
+use Rattle.optra_auction.specs.declared.Refused.{Refused}
 use Rattle.optra_auction.specs.declared.Rules.{Rules}
 
 -- ---- what stands
@@ -36,9 +37,12 @@ pub record State : Type 0 where
   pub moved : Bool
   pub closed : Bool
 
+abbrev pub state_of : List Bid → Rules → ℕ → List Standing → Bool → Bool → State
+state_of specs rules round standing moved closed = record { specs = specs; rules = rules; round = round; standing = standing; moved = moved; closed = closed }
+
 -- an auction before its first action
 abbrev pub opened : List Bid → Rules → State
-opened specs rules = record { specs = specs; rules = rules; round = 1; standing = []; moved = false; closed = false }
+opened specs rules = state_of specs rules 1 [] false false
 
 -- the names of specifications
 abbrev pub spec_names : List Bid → List (List ℕ)
@@ -74,7 +78,7 @@ reserve_named s name = option_map_or (reserve_at s.specs) (spec_named s name) (p
 
 -- the greater of the least increment and of so many thousandths of the amount, rounded up
 abbrev pub least_raise_of : Rules → ℤ → ℤ
-least_raise_of rules amount = int_max rules.min_increment (int_div_euclid (amount *ℤ pos rules.permille +ℤ pos 999) (pos 1000))
+least_raise_of rules amount = int_max rules.min_increment (int_div (amount *ℤ pos rules.permille +ℤ pos 999) (pos 1000))
 
 -- ---- refusals
 
@@ -106,9 +110,9 @@ is_below reserve b = int_lt b.amount reserve
 abbrev pub is_full : List Standing → Bool
 is_full bids = nat_le 500 (length bids)
 
--- Why an action is refused: the first of its tests that holds.
-unfoldable pub refusal_of : State → Act → Option Refusal
-refusal_of s (Opening bidder bid spec amount) =
+-- Why an opening is refused: the first of its tests that holds.
+unfoldable pub opening_refusal : State → List ℕ → List ℕ → ℤ → Option Refusal
+opening_refusal s bid spec amount =
     first_of (
     (s.closed, A9)
     ∷ (is_none (spec_named s spec), A1)
@@ -116,7 +120,10 @@ refusal_of s (Opening bidder bid spec amount) =
     ∷ (int_lt amount (reserve_named s spec), A3)
     ∷ (is_full s.standing, A10)
     ∷ [])
-refusal_of s (Raise bidder bid amount) =
+
+-- Why a raise is refused.
+unfoldable pub raise_refusal : State → List ℕ → List ℕ → ℤ → Option Refusal
+raise_refusal s bidder bid amount =
     first_of (
     (s.closed, A9)
     ∷ (is_none (place_named s bid), A4)
@@ -125,7 +132,10 @@ refusal_of s (Raise bidder bid amount) =
     ∷ (standing_is s bid is_winning, A7)
     ∷ (standing_is s bid has_acted, A8)
     ∷ [])
-refusal_of s (Amend bidder bid spec) =
+
+-- Why an amendment is refused.
+unfoldable pub amend_refusal : State → List ℕ → List ℕ → List ℕ → Option Refusal
+amend_refusal s bidder bid spec =
     first_of (
     (s.closed, A9)
     ∷ (is_none (spec_named s spec), A1)
@@ -135,7 +145,10 @@ refusal_of s (Amend bidder bid spec) =
     ∷ (standing_is s bid has_acted, A8)
     ∷ (standing_is s bid (is_below (reserve_named s spec)), A3)
     ∷ [])
-refusal_of s (Withdraw bidder bid) =
+
+-- Why a withdrawal is refused.
+unfoldable pub withdraw_refusal : State → List ℕ → List ℕ → Option Refusal
+withdraw_refusal s bidder bid =
     first_of (
     (s.closed, A9)
     ∷ (is_none (place_named s bid), A4)
@@ -143,6 +156,33 @@ refusal_of s (Withdraw bidder bid) =
     ∷ (standing_is s bid is_winning, A7)
     ∷ (standing_is s bid has_acted, A8)
     ∷ [])
+
+-- Why an action is refused, if it is.
+abbrev pub refusal_of : State → Act → Option Refusal
+refusal_of s (Opening bidder bid spec amount) = opening_refusal s bid spec amount
+refusal_of s (Raise bidder bid amount) = raise_refusal s bidder bid amount
+refusal_of s (Amend bidder bid spec) = amend_refusal s bidder bid spec
+refusal_of s (Withdraw bidder bid) = withdraw_refusal s bidder bid
+
+-- the tests of a standing bid by which its own bidder is refused
+abbrev pub own_tests : Standing → Option Refusal
+own_tests b = first_of ((is_winning b, A7) ∷ (has_acted b, A8) ∷ [])
+
+-- the tests of the standing bid that is to be raised
+abbrev pub raise_tests : Rules → List ℕ → ℤ → Standing → Option Refusal
+raise_tests rules bidder amount b = first_of ((is_anothers bidder b, A5) ∷ (is_below_raise rules amount b, A6) ∷ (is_winning b, A7) ∷ (has_acted b, A8) ∷ [])
+
+-- the tests of the standing bid that is to be amended
+abbrev pub amend_tests : List ℕ → ℤ → Standing → Option Refusal
+amend_tests bidder reserve b = first_of ((is_anothers bidder b, A5) ∷ (is_winning b, A7) ∷ (has_acted b, A8) ∷ (is_below reserve b, A3) ∷ [])
+
+-- the tests of the standing bid that is to be withdrawn
+abbrev pub withdraw_tests : List ℕ → Standing → Option Refusal
+withdraw_tests bidder b = first_of ((is_anothers bidder b, A5) ∷ (is_winning b, A7) ∷ (has_acted b, A8) ∷ [])
+
+-- the place that a name has, where nothing refuses, or the refusal
+abbrev pub FindsPlace : Option Refusal → Option ℕ → Result ℕ Refusal → Type 0
+FindsPlace refusal place result = MatchResult result (λ found. (refusal ≡ None) × (place ≡ Some found)) (λ why. refusal ≡ Some why)
 
 -- ---- what an accepted action changes
 
@@ -175,16 +215,31 @@ standing_after s (Withdraw bidder bid) =
     option_map_or (remove s.standing) (place_named s bid) s.standing
 
 -- The auction after an action that is not refused.
-unfoldable pub after_act : State → Act → State
+abbrev pub after_act : State → Act → State
 after_act s act = record s { standing = standing_after s act; moved = true }
+
+-- an action is accepted: nothing refuses it, and the auction is as it is after it
+pub record IsAccepted (old : State) (act : Act) (new : State) : Type 0 where
+  pub due : refusal_of old act ≡ None
+  pub after : new ≡ after_act old act
+
+-- an action is refused for the first reason, handed back as it was, and changes nothing
+pub record IsRefused (old : State) (act : Act) (refused : Refused) (new : State) : Type 0 where
+  pub why : refusal_of old act ≡ Some refused.why
+  pub back : refused.action ≡ act
+  pub same : new ≡ old
 
 -- ---- the close of a round
 
--- each standing bid with the value at which it won the round, if it did
+-- a standing bid with the value at which it won the round, if it did
+abbrev pub valued : Option ℤ → Standing → Standing
+valued value b = record b { won = value }
+
+-- each standing bid with its value
 abbrev pub with_values : List Standing → List (Option ℤ) → List Standing
 with_values [] values = []
 with_values (b ∷ bids) [] = b ∷ bids
-with_values (b ∷ bids) (value ∷ values) = record b { won = value } ∷ with_values bids values
+with_values (b ∷ bids) (value ∷ values) = valued value b ∷ with_values bids values
 
 -- a standing bid at the start of a round
 abbrev pub rested : Standing → Standing
@@ -195,7 +250,7 @@ abbrev pub is_last_round : State → Bool
 is_last_round s = if s.moved then nat_le s.rules.rounds s.round else true
 
 -- The auction after the close of a round with these values of the bids that stand: it is closed, or the next round opens.
-unfoldable pub after_round : State → List (Option ℤ) → State
+abbrev pub after_round : State → List (Option ℤ) → State
 after_round s values =
     if is_last_round s
     then record s { standing = with_values s.standing values; closed = true }
@@ -250,10 +305,11 @@ pub record AreSpecs (specs : List Bid) : Type 0 where
 -- a standing bid is on a specification, for an amount from its reserve to 1,000,000,000
 pub record IsOn (specs : List Bid) (b : Standing) : Type 0 where
   pub spec : is_some (slice_get specs b.spec) ≡ true
-  pub reserve : int_lt b.amount (reserve_at specs b.spec) ≡ false
+  pub reserve : reserve_at specs b.spec ≤ℤ b.amount
   pub amount : IsAmount b.amount
 
--- what every auction keeps
+-- what every auction keeps: its specifications and its rules as they were made, a round of these rules, at most 500 standing
+-- bids with different names, and each of them on its specification
 pub record IsAuction (s : State) : Type 0 where
   pub specs : AreSpecs s.specs
   pub rules : AreRules s.rules

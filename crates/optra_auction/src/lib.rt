@@ -4,10 +4,18 @@
 //! others propose it ("An auctioning approach to railway slot allocation", 2006). The exact rules are optra's own.
 #![tactic(auto)]
 
+ghost use Rattle.std.specs.Prelude.{◌≡◌};
+ghost use Rattle.optra_auction.specs.Machine.{AreRules, IsAmount, least_raise_of};
+
 use optra_bid::Name;
 use optra_network::Cents;
 
+mod auctions;
+mod spec_list;
 mod standing_bids;
+mod terms;
+
+pub use auctions::Auction;
 
 /// The rules of an auction.
 #[derive(Clone, Copy, Debug, PartialEq, Eq)]
@@ -18,6 +26,20 @@ pub struct Rules {
     pub permille: u16,
     /// The most rounds: 1 to 100.
     pub rounds: u16,
+}
+
+impl Rules {
+    /// The least raise of an amount, in cents: the least increment or so many thousandths of the amount, rounded up, whichever
+    /// is more.
+    pub(crate) fn least_raise(self, amount: Cents) -> Cents
+        requires rules { AreRules self }
+        requires amount { IsAmount amount }
+        ensures value { result ≡ least_raise_of self amount }
+        ensures amount { IsAmount result }
+    {
+        let share = (amount * i64::from(self.permille) + 999) / 1_000;
+        self.min_increment.max(share)
+    }
 }
 
 /// What a bidder asks for.

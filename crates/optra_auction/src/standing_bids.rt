@@ -2,9 +2,10 @@
 ghost use Rattle.std.specs.Prelude.{◌≡◌, ◌<◌, ◌≤◌, ◌++◌, ◌∷◌, [], length, map, option_map, remove, slice_get, IfOk, IfSome, None, Some};
 ghost use Rattle.indexmap.specs.IndexMap.{index_map_len, spare, with_value_at};
 ghost use Rattle.optra_network.specs.Names.{place_of};
-ghost use Rattle.optra_auction.specs.Machine.{amended_bid, raised_bid, rested, standing_names, with_change, with_values};
+ghost use Rattle.optra_auction.specs.Machine.{amended_bid, raised_bid, rested, standing_names, valued, with_change, with_values};
 ghost use Rattle.optra_auction.specs.Kept.{HaveRoom, named, standing_in, standing_of};
 
+use crate::terms::Terms;
 use indexmap::IndexMap;
 use optra_bid::Name;
 use optra_network::{Cents, NoMemory};
@@ -16,20 +17,6 @@ pub(crate) const MOST_STANDING: usize = 500;
 
 /// The most names that are kept: those of the bids that stand, and as many of withdrawn ones.
 const MOST_NAMES: usize = 1_000;
-
-/// What is known of a standing bid beside its name.
-#[derive(Drop)]
-pub(crate) struct Terms {
-    pub(crate) bidder: Name,
-    /// The place of its specification, from 0.
-    pub(crate) spec: u32,
-    /// In cents.
-    pub(crate) amount: Cents,
-    /// The value at which it won the last round, if it did, in cents.
-    pub(crate) won: Option<Cents>,
-    /// Whether it was opened, raised or amended in this round.
-    pub(crate) acted: bool,
-}
 
 /// The standing bids in order, each found by its name, by hash.
 ///
@@ -110,6 +97,41 @@ impl StandingBids {
         let terms = self.terms.get_index_mut(place).unwrap();
         terms.spec = spec;
         terms.acted = true;
+    }
+
+    /// Says of each bid at which value it won, if it did.
+    pub(crate) fn set_values(&mut self, values: &[Option<Cents>])
+        requires { length values.now ≡ length self.old }
+        ensures { self.new ≡ with_values self.old values.now }
+    {
+        for (place, value) in values.iter().enumerate() {
+            self.set_value(place, *value);
+        }
+    }
+
+    fn set_value(&mut self, place: usize, value: Option<Cents>)
+        requires { place < length self.old }
+        ensures { self.new ≡ with_change self.old place (valued value) }
+    {
+        let terms = self.terms.get_index_mut(place).unwrap();
+        terms.won = value;
+    }
+
+    /// Forgets of each bid that it was opened, raised or amended.
+    pub(crate) fn rest(&mut self)
+        ensures { self.new ≡ map rested self.old }
+    {
+        for place in 0..self.len() {
+            self.rest_at(place);
+        }
+    }
+
+    fn rest_at(&mut self, place: usize)
+        requires { place < length self.old }
+        ensures { self.new ≡ with_change self.old place rested }
+    {
+        let terms = self.terms.get_index_mut(place).unwrap();
+        terms.acted = false;
     }
 
     /// Adds a bid behind the others. Its name is a new one.

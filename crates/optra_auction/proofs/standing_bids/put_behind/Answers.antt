@@ -5,7 +5,7 @@ use Rattle.std.specs.declared.alloc.Global.{Global}
 use Rattle.indexmap.specs.IndexMap.{IndexMap, get_by}
 use Rattle.indexmap.proofs.CallerLemmas.{insert_entry-new}
 use Rattle.optra_auction.specs.Kept.{HaveRoom, standing_in, standing_of}
-use Rattle.optra_auction.specs.declared.standing_bids.Terms.{Terms}
+use Rattle.optra_auction.specs.declared.terms.Terms.{Terms}
 use Rattle.optra_auction.proofs.KeptLemmas.{HaveRoom-insert, HaveRoom-with_value_at, behind-from, more-at, none-from_is_some, replaced-at, standing-behind, standing-more}
 use Rattle.optra_auction.proofs.standing_bids.put_behind.Goals as goal
 
