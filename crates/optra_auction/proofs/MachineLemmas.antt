@@ -1,9 +1,11 @@
 -- The machine's lists of bids: changes one by one, and what every action and every close keeps.
-use Rattle.std.proofs.Common.{String, string_bytes, ◌≡◌, ◌<◌, ◌≤◌, ◌+◌, ◌++◌, ℕ, zero, suc, Bool, true, false, List, [], ◌∷◌, length, map, take, drop, set, get_or, slice_get, position, Option, Some, None, option_map, refl, sym, ap, ◌∙◌, subst, arith, bytes_eq, ℤ}
+use Rattle.std.proofs.Common.{All, String, string_bytes, ◌≡◌, ◌<◌, ◌≤◌, ◌+◌, ◌++◌, ℕ, zero, suc, Bool, true, false, List, [], ◌∷◌, length, map, take, drop, set, get_or, slice_get, position, Option, Some, None, option_map, refl, sym, ap, ◌∙◌, subst, arith, bytes_eq, ℤ, pos, negsuc, ◌*◌, ◌/◌}
 use Rattle.std.proofs.lemmas.List.{length-append, length-drop, length-map, length-take, get_or-take, take-map, map_push}
 use Rattle.std.proofs.lemmas.List.Edits.{map_over_more}
 use Rattle.std.proofs.lemmas.List.Quantifiers.{position-Some}
 use Rattle.std.proofs.lemmas.Option.{same_Some, get_or_from_slice_get, slice_get_within}
+use Rattle.std.proofs.lemmas.Int.{clamps, ints}
+use Rattle.std.proofs.Math.Nat.{mul-le-mul_left}
 use Rattle.std.proofs.lemmas.Slice.Eq.{bytes_eq-Decides}
 use Rattle.std.specs.Option.{option_map_or}
 use Rattle.optra_network.specs.Names.{AllDiffer, place_of}
@@ -14,7 +16,8 @@ use Rattle.optra_network.specs.Names.{texts}
 use Rattle.std.specs.String.{string_eq}
 use Rattle.std.proofs.lemmas.List.{take_more}
 use Rattle.std.proofs.lemmas.Option.{slice_get-map, slice_get_read}
-use Rattle.optra_auction.specs.Machine.{Standing, spec_names, rested, valued, with_change, with_values}
+use Rattle.optra_auction.specs.declared.Rules.{Rules}
+use Rattle.optra_auction.specs.Machine.{AreRules, IsAmount, Standing, least_raise_of, share_of, spec_names, rested, valued, with_change, with_values}
 
 -- ---- changes
 
@@ -97,3 +100,30 @@ spec_names-more bids i bid names new t differ within read so_far added same =
     texts-insert_key names new t bid.name added same none
     ∙ ap (λ (l : List (List ℕ)). l ++ bid.name ∷ []) so_far
     ∙ sym (ap spec_names (take_more bids i bid within ∙ ap (λ (b : Bid). take i bids ++ b ∷ []) (sym read)) ∙ map_push (λ (b : Bid). b.name) (take i bids) bid)
+
+-- ---- raises
+
+-- a share of an amount is an amount
+pub IsAmount-share_of : (amount : ℤ) (permille : ℕ) → IsAmount amount → permille ≤ 1000 → IsAmount (share_of amount permille)
+IsAmount-share_of (pos a) permille h few =
+    let top : a ≤ 1000000000 = let u = h.1 in omega (arith, ints) in
+    let product = mul-le-mul_left a few in
+    let share : (a * permille + 999) / 1000 ≤ a = omega (arith, product) in
+    (omega (arith, ints, clamps), omega (arith, ints, clamps))
+IsAmount-share_of (negsuc a) permille h few = absurd (let low = h.0 in omega (arith, ints))
+
+-- a least raise is an amount
+pub IsAmount-least_raise_of : (rules : Rules) (amount : ℤ) → AreRules rules → IsAmount (share_of amount rules.permille) → IsAmount (least_raise_of rules amount)
+IsAmount-least_raise_of rules amount are share =
+    let low = share.0 in
+    let high = share.1 in
+    let least = are.min_increment.0 in
+    let most = are.min_increment.1 in
+    (omega (arith, ints, clamps), omega (arith, ints, clamps))
+
+-- ---- what every auction keeps
+
+-- what holds of each element holds of the one at a place
+pub All-slice_get : {X : Type 0} (P : X → Type 0) (xs : List X) (i : ℕ) (x : X) → All P xs → slice_get xs i ≡ Some x → P x
+All-slice_get P xs i x all at = subst P (get_or_from_slice_get xs i x x at) (all i x (slice_get_within xs i x at))
+

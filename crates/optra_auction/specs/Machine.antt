@@ -1,7 +1,7 @@
 -- The auction machine: what stands, which actions are refused, what an accepted one changes, and what the close of a round leaves.
 use Rattle.std.specs.Prelude.{◌≡◌, ℕ, ◌+◌, ◌≤◌, not, Bool, true, false, List, [], ◌∷◌, ◌++◌, length, map, slice_get, slice_set, remove, nat_le, bytes_eq, All, Option, None, Some, is_some, is_none, option_map, Result, MatchResult, if◌then◌else◌, ⊤}
-use Rattle.std.specs.Prelude.{ℤ, pos, int_lt, int_div, ◌≤ℤ◌, ◌+ℤ◌, ◌*ℤ◌}
-use Rattle.std.specs.Int.{int_max}
+use Rattle.std.specs.Prelude.{ℤ, pos, int_lt, ◌≤ℤ◌, ◌+ℤ◌, ◌*ℤ◌}
+use Rattle.std.specs.Int.{int_div_euclid, int_max}
 use Rattle.std.specs.Option.{option_map_or, option_and_then}
 use Rattle.optra_network.specs.Names.{AllDiffer, AreNames, place_of}
 use Rattle.optra_network.specs.Refusals.{first_of}
@@ -76,9 +76,13 @@ reserve_named s name = option_map_or (reserve_at s.specs) (spec_named s name) (p
 
 -- ---- raises
 
--- the greater of the least increment and of so many thousandths of the amount, rounded up
+-- so many thousandths of an amount, rounded up
+abbrev pub share_of : ℤ → ℕ → ℤ
+share_of amount permille = int_div_euclid (amount *ℤ pos permille +ℤ pos 999) (pos 1000)
+
+-- the greater of the least increment and of so many thousandths of the amount
 abbrev pub least_raise_of : Rules → ℤ → ℤ
-least_raise_of rules amount = int_max rules.min_increment (int_div (amount *ℤ pos rules.permille +ℤ pos 999) (pos 1000))
+least_raise_of rules amount = int_max rules.min_increment (share_of amount rules.permille)
 
 -- ---- refusals
 
@@ -183,6 +187,10 @@ withdraw_tests bidder b = first_of ((is_anothers bidder b, A5) ∷ (is_winning b
 -- the place that a name has, where nothing refuses, or the refusal
 abbrev pub FindsPlace : Option Refusal → Option ℕ → Result ℕ Refusal → Type 0
 FindsPlace refusal place result = MatchResult result (λ found. (refusal ≡ None) × (place ≡ Some found)) (λ why. refusal ≡ Some why)
+
+-- the places that two names have, where nothing refuses, or the refusal
+abbrev pub FindsPlaces : Option Refusal → Option ℕ → Option ℕ → Result (ℕ × ℕ) Refusal → Type 0
+FindsPlaces refusal first second result = MatchResult result (λ found. (refusal ≡ None) × (first ≡ Some found.0) × (second ≡ Some found.1)) (λ why. refusal ≡ Some why)
 
 -- ---- what an accepted action changes
 

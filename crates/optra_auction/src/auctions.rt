@@ -1,6 +1,7 @@
 //! The auction: what each action changes or why it is refused, and the close of a round.
 ghost use Rattle.std.specs.Prelude.{◌≡◌, ◌<◌, length, slice_get, option_map, false, None, Some, IfOk, MatchResult};
-ghost use Rattle.optra_auction.specs.Machine.{AreRules, AreSpecs, FindsPlace, HasAmount, IsAccepted, IsAmount, IsAuction, IsRefused, after_round, least_raise_of, opened, opening_refusal, place_named, raise_refusal, spec_named, withdraw_refusal};
+ghost use Rattle.optra_auction.specs.declared.Act.TheVariants.{Opening, Raise, Amend, Withdraw};
+ghost use Rattle.optra_auction.specs.Machine.{AreRules, AreSpecs, FindsPlace, FindsPlaces, HasAmount, IsAccepted, IsAmount, IsAuction, IsRefused, after_round, amend_refusal, least_raise_of, opened, opening_refusal, place_named, raise_refusal, spec_named, withdraw_refusal};
 
 use crate::spec_list::SpecList;
 use crate::standing_bids::{MOST_STANDING, StandingBids};
@@ -99,5 +100,221 @@ impl Auction {
     {
         let (_, terms) = self.standing.at(standing as usize);
         terms.won
+    }
+
+    /// Takes an action, or refuses it and hands it back. A refused action changes nothing. The refusals are tested in this order:
+    ///
+    /// - an opening: `A9`, `A1`, `A2`, `A3`, `A10`;
+    /// - a raise: `A9`, `A4`, `A5`, `A6`, `A7`, `A8`;
+    /// - an amendment: `A9`, `A1`, `A4`, `A5`, `A7`, `A8`, `A3`;
+    /// - a withdrawal: `A9`, `A4`, `A5`, `A7`, `A8`.
+    pub fn act(&mut self, action: Act) -> Result<(), Refused>
+        requires { HasAmount action }
+        ensures step { MatchResult result (λ _. IsAccepted self.old action self.new) (λ refused. IsRefused self.old action refused self.new) }
+        ensures auction { IsAuction self.new }
+    {
+        match action {
+            Act::Opening {
+                bidder,
+                bid,
+                spec,
+                amount,
+            } => self.open(bidder, bid, spec, amount),
+            Act::Raise {
+                bidder,
+                bid,
+                amount,
+            } => self.raise(bidder, bid, amount),
+            Act::Amend { bidder, bid, spec } => self.amend(bidder, bid, spec),
+            Act::Withdraw { bidder, bid } => self.withdraw(bidder, bid),
+        }
+    }
+
+    fn open(
+        &mut self,
+        bidder: Name,
+        bid: Name,
+        spec: Name,
+        amount: Cents,
+    ) -> Result<(), Refused>
+        requires { IsAmount amount }
+        ensures step { MatchResult result (λ _. IsAccepted self.old (Opening bidder bid spec amount) self.new) (λ refused. IsRefused self.old (Opening bidder bid spec amount) refused self.new) }
+        ensures auction { IsAuction self.new }
+    {
+        let spec_place = match self.opening_place(&bid, &spec, amount) {
+            Ok(place) => place,
+            Err(why) => {
+                let action = Act::Opening {
+                    bidder,
+                    bid,
+                    spec,
+                    amount,
+                };
+                return Err(Refused { why, action });
+            }
+        };
+        let terms = Terms {
+            bidder,
+            spec: spec_place as u32,
+            amount,
+            won: None,
+            acted: true,
+        };
+        self.standing.push(bid, terms);
+        self.moved = true;
+        Ok(())
+    }
+
+    fn raise(&mut self, bidder: Name, bid: Name, amount: Cents) -> Result<(), Refused>
+        requires { IsAmount amount }
+        ensures step { MatchResult result (λ _. IsAccepted self.old (Raise bidder bid amount) self.new) (λ refused. IsRefused self.old (Raise bidder bid amount) refused self.new) }
+        ensures auction { IsAuction self.new }
+    {
+        let place = match self.raise_place(&bidder, &bid, amount) {
+            Ok(place) => place,
+            Err(why) => {
+                let action = Act::Raise {
+                    bidder,
+                    bid,
+                    amount,
+                };
+                return Err(Refused { why, action });
+            }
+        };
+        self.standing.raise(place, amount);
+        self.moved = true;
+        Ok(())
+    }
+
+    fn amend(&mut self, bidder: Name, bid: Name, spec: Name) -> Result<(), Refused>
+        ensures step { MatchResult result (λ _. IsAccepted self.old (Amend bidder bid spec) self.new) (λ refused. IsRefused self.old (Amend bidder bid spec) refused self.new) }
+        ensures auction { IsAuction self.new }
+    {
+        let (place, spec_place) = match self.amend_places(&bidder, &bid, &spec) {
+            Ok(places) => places,
+            Err(why) => {
+                let action = Act::Amend { bidder, bid, spec };
+                return Err(Refused { why, action });
+            }
+        };
+        self.standing.amend(place, spec_place as u32);
+        self.moved = true;
+        Ok(())
+    }
+
+    fn withdraw(&mut self, bidder: Name, bid: Name) -> Result<(), Refused>
+        ensures step { MatchResult result (λ _. IsAccepted self.old (Withdraw bidder bid) self.new) (λ refused. IsRefused self.old (Withdraw bidder bid) refused self.new) }
+        ensures auction { IsAuction self.new }
+    {
+        let place = match self.withdraw_place(&bidder, &bid) {
+            Ok(place) => place,
+            Err(why) => {
+                let action = Act::Withdraw { bidder, bid };
+                return Err(Refused { why, action });
+            }
+        };
+        self.standing.remove(place);
+        self.moved = true;
+        Ok(())
+    }
+
+    /// The place of the specification on which a bid may be opened, or why it is refused.
+    fn opening_place(&self, bid: &Name, spec: &Name, amount: Cents) -> Result<usize, Refusal>
+        ensures { FindsPlace (opening_refusal self.now bid.now spec.now amount) (spec_named self.now spec.now) result }
+    {
+        if self.closed {
+            return Err(Refusal::A9);
+        }
+        let Some(place) = self.specs.place(spec.text()) else {
+            return Err(Refusal::A1);
+        };
+        if self.standing.place(bid.text()).is_some() {
+            return Err(Refusal::A2);
+        }
+        if amount < self.specs.at(place).money.base {
+            return Err(Refusal::A3);
+        }
+        if self.standing.len() >= MOST_STANDING {
+            return Err(Refusal::A10);
+        }
+        Ok(place)
+    }
+
+    /// The place of the standing bid that may be raised, or why it is refused.
+    fn raise_place(&self, bidder: &Name, bid: &Name, amount: Cents) -> Result<usize, Refusal>
+        ensures { FindsPlace (raise_refusal self.now bidder.now bid.now amount) (place_named self.now bid.now) result }
+    {
+        if self.closed {
+            return Err(Refusal::A9);
+        }
+        let Some(place) = self.standing.place(bid.text()) else {
+            return Err(Refusal::A4);
+        };
+        let (_, terms) = self.standing.at(place);
+        match terms.raise_refusal(self.rules, bidder.text(), amount) {
+            Some(why) => Err(why),
+            None => Ok(place),
+        }
+    }
+
+    /// The places of the standing bid that may be amended and of its new specification, or why it is refused.
+    fn amend_places(
+        &self,
+        bidder: &Name,
+        bid: &Name,
+        spec: &Name,
+    ) -> Result<(usize, usize), Refusal>
+        ensures { FindsPlaces (amend_refusal self.now bidder.now bid.now spec.now) (place_named self.now bid.now) (spec_named self.now spec.now) result }
+    {
+        if self.closed {
+            return Err(Refusal::A9);
+        }
+        let Some(spec_place) = self.specs.place(spec.text()) else {
+            return Err(Refusal::A1);
+        };
+        let Some(place) = self.standing.place(bid.text()) else {
+            return Err(Refusal::A4);
+        };
+        let (_, terms) = self.standing.at(place);
+        let reserve = self.specs.at(spec_place).money.base;
+        match terms.amend_refusal(bidder.text(), reserve) {
+            Some(why) => Err(why),
+            None => Ok((place, spec_place)),
+        }
+    }
+
+    /// The place of the standing bid that may be withdrawn, or why it is refused.
+    fn withdraw_place(&self, bidder: &Name, bid: &Name) -> Result<usize, Refusal>
+        ensures { FindsPlace (withdraw_refusal self.now bidder.now bid.now) (place_named self.now bid.now) result }
+    {
+        if self.closed {
+            return Err(Refusal::A9);
+        }
+        let Some(place) = self.standing.place(bid.text()) else {
+            return Err(Refusal::A4);
+        };
+        let (_, terms) = self.standing.at(place);
+        match terms.withdraw_refusal(bidder.text()) {
+            Some(why) => Err(why),
+            None => Ok(place),
+        }
+    }
+
+    /// Closes the round, with the value in cents of each standing bid that its choice serves, and opens the next one or closes
+    /// the auction.
+    pub fn close_round(&mut self, values: &[Option<Cents>])
+        requires open { self.old.closed ≡ false }
+        requires values { length values.now ≡ length self.old.standing }
+        ensures round { self.new ≡ after_round self.old values.now }
+        ensures auction { IsAuction self.new }
+    {
+        self.standing.set_values(values);
+        if !self.moved || self.round >= self.rules.rounds {
+            self.closed = true;
+        } else {
+            self.standing.rest();
+            self.round += 1;
+            self.moved = false;
+        }
     }
 }

@@ -4,8 +4,8 @@
 //! others propose it ("An auctioning approach to railway slot allocation", 2006). The exact rules are optra's own.
 #![tactic(auto)]
 
-ghost use Rattle.std.specs.Prelude.{◌≡◌};
-ghost use Rattle.optra_auction.specs.Machine.{AreRules, IsAmount, least_raise_of};
+ghost use Rattle.std.specs.Prelude.{◌≡◌, ◌≤◌};
+ghost use Rattle.optra_auction.specs.Machine.{AreRules, IsAmount, least_raise_of, share_of};
 
 use optra_bid::Name;
 use optra_network::Cents;
@@ -34,12 +34,19 @@ impl Rules {
     pub(crate) fn least_raise(self, amount: Cents) -> Cents
         requires rules { AreRules self }
         requires amount { IsAmount amount }
-        ensures value { result ≡ least_raise_of self amount }
-        ensures amount { IsAmount result }
+        ensures { result ≡ least_raise_of self amount }
     {
-        let share = (amount * i64::from(self.permille) + 999) / 1_000;
-        self.min_increment.max(share)
+        self.min_increment.max(share(amount, self.permille))
     }
+}
+
+/// So many thousandths of an amount in cents, rounded up.
+fn share(amount: Cents, permille: u16) -> Cents
+    requires amount { IsAmount amount }
+    requires permille { permille ≤ 1000 }
+    ensures { result ≡ share_of amount permille }
+{
+    (amount * i64::from(permille) + 999).div_euclid(1_000)
 }
 
 /// What a bidder asks for.

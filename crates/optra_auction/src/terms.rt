@@ -1,6 +1,6 @@
 //! What is known of a standing bid beside its name, and why an action on it is refused.
 ghost use Rattle.std.specs.Prelude.{◌≡◌, []};
-ghost use Rattle.optra_auction.specs.Machine.{AreRules, IsAmount, amend_tests, own_tests, raise_tests, withdraw_tests};
+ghost use Rattle.optra_auction.specs.Machine.{AreRules, IsAmount, amend_tests, is_below_raise, own_tests, raise_tests, withdraw_tests};
 ghost use Rattle.optra_auction.specs.Kept.{named};
 
 use crate::{Refusal, Rules};
@@ -31,10 +31,20 @@ impl Terms {
         if self.bidder.text() != bidder {
             return Some(Refusal::A5);
         }
-        if amount < self.amount + rules.least_raise(self.amount) {
+        if self.is_below_raise(rules, amount) {
             return Some(Refusal::A6);
         }
         self.own_refusal()
+    }
+
+    /// Whether an amount is below the bid's own one and its least raise.
+    fn is_below_raise(&self, rules: Rules, amount: Cents) -> bool
+        requires rules { AreRules rules }
+        requires amount { IsAmount self.now.amount }
+        ensures { result ≡ is_below_raise rules amount (named [] self.now) }
+    {
+        let raise = rules.least_raise(self.amount);
+        amount < self.amount + raise
     }
 
     /// Why a change to a specification with a reserve is refused.
