@@ -37,12 +37,12 @@ module _ (s : State) (bidder bid : List ℕ) (amount : ℤ) where
 
   pub raise-unknown : s.closed ≡ false → place_named s bid ≡ None → raise_refusal s bidder bid amount ≡ Some A4
   unfolding raise_refusal
-  raise-unknown open none = λ j. raise_by s.rules bidder amount (open j) (none j) (standing_named s bid)
+  raise-unknown up none = λ j. raise_by s.rules bidder amount (up j) (none j) (standing_named s bid)
 
   pub raise-tested : (i : ℕ) (b : Standing) → s.closed ≡ false → place_named s bid ≡ Some i → slice_get s.standing i ≡ Some b
       → raise_refusal s bidder bid amount ≡ raise_tests s.rules bidder amount b
   unfolding raise_refusal
-  raise-tested i b open place at = λ j. raise_by s.rules bidder amount (open j) (place j) (standing-named s bid i b place at j)
+  raise-tested i b up place at = λ j. raise_by s.rules bidder amount (up j) (place j) (standing-named s bid i b place at j)
 
 -- ---- a withdrawal
 
@@ -63,12 +63,12 @@ module _ (s : State) (bidder bid : List ℕ) where
 
   pub withdraw-unknown : s.closed ≡ false → place_named s bid ≡ None → withdraw_refusal s bidder bid ≡ Some A4
   unfolding withdraw_refusal
-  withdraw-unknown open none = λ j. withdraw_by bidder (open j) (none j) (standing_named s bid)
+  withdraw-unknown up none = λ j. withdraw_by bidder (up j) (none j) (standing_named s bid)
 
   pub withdraw-tested : (i : ℕ) (b : Standing) → s.closed ≡ false → place_named s bid ≡ Some i → slice_get s.standing i ≡ Some b
       → withdraw_refusal s bidder bid ≡ withdraw_tests bidder b
   unfolding withdraw_refusal
-  withdraw-tested i b open place at = λ j. withdraw_by bidder (open j) (place j) (standing-named s bid i b place at j)
+  withdraw-tested i b up place at = λ j. withdraw_by bidder (up j) (place j) (standing-named s bid i b place at j)
 
 -- ---- an amendment
 
@@ -91,16 +91,16 @@ module _ (s : State) (bidder bid spec : List ℕ) where
 
   pub amend-no_spec : s.closed ≡ false → spec_named s spec ≡ None → amend_refusal s bidder bid spec ≡ Some A1
   unfolding amend_refusal
-  amend-no_spec open none = λ j. amend_by bidder (open j) (none j) (reserve_named s spec) (place_named s bid) (standing_named s bid)
+  amend-no_spec up none = λ j. amend_by bidder (up j) (none j) (reserve_named s spec) (place_named s bid) (standing_named s bid)
 
   pub amend-unknown : (k : ℕ) → s.closed ≡ false → spec_named s spec ≡ Some k → place_named s bid ≡ None → amend_refusal s bidder bid spec ≡ Some A4
   unfolding amend_refusal
-  amend-unknown k open known none = λ j. amend_by bidder (open j) (known j) (reserve_named s spec) (none j) (standing_named s bid)
+  amend-unknown k up known none = λ j. amend_by bidder (up j) (known j) (reserve_named s spec) (none j) (standing_named s bid)
 
   pub amend-tested : (k i : ℕ) (to : Bid) (b : Standing) → s.closed ≡ false → spec_named s spec ≡ Some k → slice_get s.specs k ≡ Some to → place_named s bid ≡ Some i → slice_get s.standing i ≡ Some b
       → amend_refusal s bidder bid spec ≡ amend_tests bidder to.money.base b
   unfolding amend_refusal
-  amend-tested k i to b open known there place at = λ j. amend_by bidder (open j) (known j) (reserve-named s spec k to known there j) (place j) (standing-named s bid i b place at j)
+  amend-tested k i to b up known there place at = λ j. amend_by bidder (up j) (known j) (reserve-named s spec k to known there j) (place j) (standing-named s bid i b place at j)
 
 -- ---- an opening
 
@@ -115,9 +115,9 @@ module _ (s : State) (bid spec : List ℕ) (amount : ℤ) where
 
   pub opening-no_spec : s.closed ≡ false → spec_named s spec ≡ None → opening_refusal s bid spec amount ≡ Some A1
   unfolding opening_refusal
-  opening-no_spec open none = λ j. opening_by amount (open j) (none j) (place_named s bid) (reserve_named s spec) (is_full s.standing)
+  opening-no_spec up none = λ j. opening_by amount (up j) (none j) (place_named s bid) (reserve_named s spec) (is_full s.standing)
 
   pub opening-tested : (k : ℕ) (to : Bid) → s.closed ≡ false → spec_named s spec ≡ Some k → slice_get s.specs k ≡ Some to
       → opening_refusal s bid spec amount ≡ first_of ((is_some (place_named s bid), A2) ∷ (int_lt amount to.money.base, A3) ∷ (is_full s.standing, A10) ∷ [])
   unfolding opening_refusal
-  opening-tested k to open known there = λ j. opening_by amount (open j) (known j) (place_named s bid) (reserve-named s spec k to known there j) (is_full s.standing)
+  opening-tested k to up known there = λ j. opening_by amount (up j) (known j) (place_named s bid) (reserve-named s spec k to known there j) (is_full s.standing)
