@@ -237,7 +237,7 @@ front-remove (x ∷ xs) zero t le = refl
 front-remove (x ∷ xs) (suc p) zero le = absurd (omega (arith, le))
 front-remove (x ∷ xs) (suc p) (suc t) le = ap (λ l. x ∷ l) (front-remove xs p t (omega (arith, le)))
 
-map-remove : {X Y : Type 0} (f : X → Y) (xs : List X) (p : ℕ) → map f (remove xs p) ≡ remove (map f xs) p
+pub map-remove : {X Y : Type 0} (f : X → Y) (xs : List X) (p : ℕ) → map f (remove xs p) ≡ remove (map f xs) p
 map-remove f [] zero = refl
 map-remove f [] (suc p) = refl
 map-remove f (x ∷ xs) zero = refl

@@ -2,3 +2,4 @@
 pub mod KeptLemmas
 pub mod MachineLemmas
 pub mod RefusalLemmas
+pub mod AuctionLemmas

@@ -10,7 +10,7 @@ use Rattle.optra_auction.specs.declared.Rules.{Rules}
 use Rattle.optra_auction.specs.Machine.{Standing, State, amend_refusal, amend_tests, has_acted, is_anothers, is_below, is_below_raise, is_full, is_winning, opening_refusal, place_named, raise_refusal, raise_tests, reserve_at, reserve_named, spec_named, standing_named, withdraw_refusal, withdraw_tests}
 
 -- the standing bid of a name that has a place
-standing-named : (s : State) (bid : List ℕ) (i : ℕ) (b : Standing) → place_named s bid ≡ Some i → slice_get s.standing i ≡ Some b → standing_named s bid ≡ Some b
+pub standing-named : (s : State) (bid : List ℕ) (i : ℕ) (b : Standing) → place_named s bid ≡ Some i → slice_get s.standing i ≡ Some b → standing_named s bid ≡ Some b
 standing-named s bid i b place at = ap (option_and_then (slice_get s.standing)) place ∙ at
 
 -- the reserve of a specification that has a place

@@ -114,33 +114,30 @@ is_below reserve b = int_lt b.amount reserve
 abbrev pub is_full : List Standing → Bool
 is_full bids = nat_le 500 (length bids)
 
--- Why an opening is refused: the first of its tests that holds.
-unfoldable pub opening_refusal : State → List ℕ → List ℕ → ℤ → Option Refusal
-opening_refusal s bid spec amount =
-    first_of (
+-- the tests of an opening, in order
+abbrev pub opening_table : State → List ℕ → List ℕ → ℤ → List (Bool × Refusal)
+opening_table s bid spec amount =
     (s.closed, A9)
     ∷ (is_none (spec_named s spec), A1)
     ∷ (is_some (place_named s bid), A2)
     ∷ (int_lt amount (reserve_named s spec), A3)
     ∷ (is_full s.standing, A10)
-    ∷ [])
+    ∷ []
 
--- Why a raise is refused.
-unfoldable pub raise_refusal : State → List ℕ → List ℕ → ℤ → Option Refusal
-raise_refusal s bidder bid amount =
-    first_of (
+-- the tests of a raise
+abbrev pub raise_table : State → List ℕ → List ℕ → ℤ → List (Bool × Refusal)
+raise_table s bidder bid amount =
     (s.closed, A9)
     ∷ (is_none (place_named s bid), A4)
     ∷ (standing_is s bid (is_anothers bidder), A5)
     ∷ (standing_is s bid (is_below_raise s.rules amount), A6)
     ∷ (standing_is s bid is_winning, A7)
     ∷ (standing_is s bid has_acted, A8)
-    ∷ [])
+    ∷ []
 
--- Why an amendment is refused.
-unfoldable pub amend_refusal : State → List ℕ → List ℕ → List ℕ → Option Refusal
-amend_refusal s bidder bid spec =
-    first_of (
+-- the tests of an amendment
+abbrev pub amend_table : State → List ℕ → List ℕ → List ℕ → List (Bool × Refusal)
+amend_table s bidder bid spec =
     (s.closed, A9)
     ∷ (is_none (spec_named s spec), A1)
     ∷ (is_none (place_named s bid), A4)
@@ -148,20 +145,35 @@ amend_refusal s bidder bid spec =
     ∷ (standing_is s bid is_winning, A7)
     ∷ (standing_is s bid has_acted, A8)
     ∷ (standing_is s bid (is_below (reserve_named s spec)), A3)
-    ∷ [])
+    ∷ []
 
--- Why a withdrawal is refused.
-unfoldable pub withdraw_refusal : State → List ℕ → List ℕ → Option Refusal
-withdraw_refusal s bidder bid =
-    first_of (
+-- the tests of a withdrawal
+abbrev pub withdraw_table : State → List ℕ → List ℕ → List (Bool × Refusal)
+withdraw_table s bidder bid =
     (s.closed, A9)
     ∷ (is_none (place_named s bid), A4)
     ∷ (standing_is s bid (is_anothers bidder), A5)
     ∷ (standing_is s bid is_winning, A7)
     ∷ (standing_is s bid has_acted, A8)
-    ∷ [])
+    ∷ []
 
--- Why an action is refused, if it is.
+-- why an opening is refused: the first of its tests that holds
+unfoldable pub opening_refusal : State → List ℕ → List ℕ → ℤ → Option Refusal
+opening_refusal s bid spec amount = first_of (opening_table s bid spec amount)
+
+-- why a raise is refused
+unfoldable pub raise_refusal : State → List ℕ → List ℕ → ℤ → Option Refusal
+raise_refusal s bidder bid amount = first_of (raise_table s bidder bid amount)
+
+-- why an amendment is refused
+unfoldable pub amend_refusal : State → List ℕ → List ℕ → List ℕ → Option Refusal
+amend_refusal s bidder bid spec = first_of (amend_table s bidder bid spec)
+
+-- why a withdrawal is refused
+unfoldable pub withdraw_refusal : State → List ℕ → List ℕ → Option Refusal
+withdraw_refusal s bidder bid = first_of (withdraw_table s bidder bid)
+
+-- why an action is refused, if it is
 abbrev pub refusal_of : State → Act → Option Refusal
 refusal_of s (Opening bidder bid spec amount) = opening_refusal s bid spec amount
 refusal_of s (Raise bidder bid amount) = raise_refusal s bidder bid amount

@@ -1,5 +1,6 @@
 //! The auction: what each action changes or why it is refused, and the close of a round.
-ghost use Rattle.std.specs.Prelude.{◌≡◌, ◌<◌, length, slice_get, option_map, false, None, Some, IfOk, MatchResult};
+ghost use Rattle.std.specs.Prelude.{◌≡◌, ◌<◌, length, slice_get, option_map, false, IsTrue, None, Some, IfOk, OnOk, MatchResult};
+ghost use Rattle.optra_network.specs.Names.{is_name};
 ghost use Rattle.optra_auction.specs.declared.Act.TheVariants.{Opening, Raise, Amend, Withdraw};
 ghost use Rattle.optra_auction.specs.Machine.{AreRules, AreSpecs, FindsPlace, FindsPlaces, HasAmount, IsAccepted, IsAmount, IsAuction, IsRefused, after_round, amend_refusal, least_raise_of, opened, opening_refusal, place_named, raise_refusal, spec_named, withdraw_refusal};
 
@@ -220,7 +221,8 @@ impl Auction {
 
     /// The place of the specification on which a bid may be opened, or why it is refused.
     fn opening_place(&self, bid: &Name, spec: &Name, amount: Cents) -> Result<usize, Refusal>
-        ensures { FindsPlace (opening_refusal self.now bid.now spec.now amount) (spec_named self.now spec.now) result }
+        ensures place { FindsPlace (opening_refusal self.now bid.now spec.now amount) (spec_named self.now spec.now) result }
+        ensures name { OnOk result (IsTrue (is_name bid.now)) }
     {
         if self.closed {
             return Err(Refusal::A9);
