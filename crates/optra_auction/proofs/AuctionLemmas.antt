@@ -1,6 +1,6 @@
 -- What every auction keeps, through each action and through the close of a round.
 use Rattle.std.proofs.Common.{◌≡◌, ◌<◌, ◌≤◌, ◌+◌, ◌++◌, ℕ, zero, suc, Bool, true, false, List, [], ◌∷◌, length, map, take, drop, set, slice_get, Option, Some, None, option_map, is_some, refl, sym, ap, ◌∙◌, subst, arith, ℤ, pos, All, remove, IsTrue, bytes_eq}
-use Rattle.std.specs.Prelude.{int_lt, ◌+ℤ◌, ◌≤ℤ◌}
+use Rattle.std.specs.Prelude.{nat_le, if◌then◌else◌, int_lt, ◌+ℤ◌, ◌≤ℤ◌}
 use Rattle.std.proofs.lemmas.Bool.{leb-false}
 use Rattle.std.proofs.lemmas.Int.{ints}
 use Rattle.std.proofs.lemmas.List.{length-append, length-map, length-set, map_push}
@@ -15,7 +15,7 @@ use Rattle.optra_network.proofs.NamesLemmas.{AreNames-push}
 use Rattle.optra_bid.specs.declared.bids.Bid.{Bid}
 use Rattle.optra_auction.specs.declared.Refusal.TheVariants.{A2, A3, A6, A10}
 use Rattle.optra_auction.specs.declared.Rules.{Rules}
-use Rattle.optra_auction.specs.Machine.{IsAmount, IsAuction, IsOn, Standing, State, amend_refusal, amend_table, amended_bid, is_below, is_below_raise, is_full, least_raise_of, opened_bid, opening_refusal, opening_table, place_named, raise_refusal, raise_table, raised_bid, reserve_at, reserve_named, rested, spec_named, spec_names, standing_is, standing_named, standing_names, state_of, valued, with_change, with_values}
+use Rattle.optra_auction.specs.Machine.{IsAmount, IsAuction, IsOn, Standing, State, amend_refusal, amend_table, amended_bid, is_below, is_below_raise, is_full, is_last_round, least_raise_of, opened_bid, opening_refusal, opening_table, place_named, raise_refusal, raise_table, raised_bid, reserve_at, reserve_named, rested, spec_named, spec_names, standing_is, standing_named, standing_names, state_of, valued, with_change, with_values}
 use Rattle.optra_auction.proofs.MachineLemmas.{All-slice_get, IsAmount-least_raise_of, IsAmount-share_of, some_at, with_change-at}
 use Rattle.optra_auction.proofs.KeptLemmas.{map-remove}
 use Rattle.optra_auction.proofs.RefusalLemmas.{standing-named}
@@ -201,3 +201,11 @@ IsAuction-rested s is values moved closed more =
     (All-map (IsOn s.specs) rested bids
     (All-weaker (IsOn s.specs) (λ (b : Standing). IsOn s.specs (rested b)) (λ b on. record { spec = on.spec; reserve = on.reserve; amount = on.amount }) bids
     (on-with_values s.specs s.standing values is.standing)))
+
+-- a round that is not the last one is below the most rounds
+pub not_last : (s : State) → is_last_round s ≡ false → s.round < s.rules.rounds
+not_last s more = by s.moved s.rules.rounds s.round more
+  where
+    by : (moved : Bool) (rounds round : ℕ) → (if moved then nat_le rounds round else true) ≡ false → round < rounds
+    by true rounds round h = leb-false rounds round h
+    by false rounds round h = cc

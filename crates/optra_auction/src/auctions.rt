@@ -2,7 +2,7 @@
 ghost use Rattle.std.specs.Prelude.{◌≡◌, ◌<◌, length, slice_get, option_map, false, IsTrue, None, Some, IfOk, OnOk, MatchResult};
 ghost use Rattle.optra_network.specs.Names.{is_name};
 ghost use Rattle.optra_auction.specs.declared.Act.TheVariants.{Opening, Raise, Amend, Withdraw};
-ghost use Rattle.optra_auction.specs.Machine.{AreRules, AreSpecs, FindsPlace, FindsPlaces, HasAmount, IsAccepted, IsAmount, IsAuction, IsRefused, after_round, amend_refusal, least_raise_of, opened, opening_refusal, place_named, raise_refusal, spec_named, withdraw_refusal};
+ghost use Rattle.optra_auction.specs.Machine.{AreRules, AreSpecs, FindsPlace, FindsPlaces, HasAmount, IsAccepted, IsAmount, IsAuction, IsRefused, after_round, amend_refusal, is_last_round, least_raise_of, opened, opening_refusal, place_named, raise_refusal, spec_named, withdraw_refusal};
 
 use crate::spec_list::SpecList;
 use crate::standing_bids::{MOST_STANDING, StandingBids};
@@ -302,6 +302,13 @@ impl Auction {
         }
     }
 
+    /// Whether the auction closes with this round: no action of it was accepted, or it is the last one by the rules.
+    fn is_last_round(&self) -> bool
+        ensures { result ≡ is_last_round self.now }
+    {
+        !self.moved || self.round >= self.rules.rounds
+    }
+
     /// Closes the round, with the value in cents of each standing bid that its choice serves, and opens the next one or closes
     /// the auction.
     pub fn close_round(&mut self, values: &[Option<Cents>])
@@ -310,8 +317,9 @@ impl Auction {
         ensures round { self.new ≡ after_round self.old values.now }
         ensures auction { IsAuction self.new }
     {
+        let is_last = self.is_last_round();
         self.standing.set_values(values);
-        if !self.moved || self.round >= self.rules.rounds {
+        if is_last {
             self.closed = true;
         } else {
             self.standing.rest();
