@@ -3,19 +3,21 @@ use Rattle.std.proofs.Common.{◌≡◌, ◌<◌, ◌≤◌, ◌+◌, ◌++◌, 
 use Rattle.std.specs.Prelude.{nat_le, if◌then◌else◌, int_lt, ◌+ℤ◌, ◌≤ℤ◌}
 use Rattle.std.proofs.lemmas.Bool.{leb-false}
 use Rattle.std.proofs.lemmas.Int.{ints}
-use Rattle.std.proofs.lemmas.List.{length-append, length-map, length-set, map_push}
+use Rattle.std.proofs.lemmas.List.{length-append, length-map, map_push, take_more}
 use Rattle.std.proofs.lemmas.List.Edits.{length-remove}
 use Rattle.std.proofs.lemmas.List.Elements.{All-append, All-cons, All-drop, All-head, All-map, All-nil, All-push, All-set, All-tail, All-take, All-weaker}
 use Rattle.std.proofs.lemmas.List.Quantifiers.{all_pairs_remove, position-Some}
-use Rattle.std.proofs.lemmas.Option.{same_Some, slice_get_within}
-use Rattle.std.specs.Option.{option_map_or}
+use Rattle.std.proofs.lemmas.Option.{get_or_from_slice_get, none-some, same_Some}
+use Rattle.std.specs.Option.{option_and_then, option_map_or}
+use Rattle.optra_bid.specs.Specs.{IsPathOn}
+use Rattle.optra_network.specs.Net.{Net}
 use Rattle.optra_network.specs.Names.{AllDiffer, AreNames, is_name, place_of}
 use Rattle.optra_network.specs.Refusals.{first_of}
 use Rattle.optra_network.proofs.NamesLemmas.{AreNames-push}
 use Rattle.optra_bid.specs.declared.bids.Bid.{Bid}
 use Rattle.optra_auction.specs.declared.Refusal.TheVariants.{A2, A3, A6, A10}
 use Rattle.optra_auction.specs.declared.Rules.{Rules}
-use Rattle.optra_auction.specs.Machine.{IsAmount, IsAuction, IsOn, Standing, State, amend_refusal, amend_table, amended_bid, is_below, is_below_raise, is_full, is_last_round, least_raise_of, opened_bid, opening_refusal, opening_table, place_named, raise_refusal, raise_table, raised_bid, reserve_at, reserve_named, rested, spec_named, spec_names, standing_is, standing_named, standing_names, state_of, valued, with_change, with_values}
+use Rattle.optra_auction.specs.Machine.{ArePathsOfSpecs, Offer, offer_of, offer_on, planned_of, IsAmount, IsAuction, IsOn, Standing, State, amend_refusal, amend_table, amended_bid, is_below, is_below_raise, is_full, is_last_round, least_raise_of, opened_bid, opening_refusal, opening_table, place_named, raise_refusal, raise_table, raised_bid, reserve_at, reserve_named, rested, spec_named, spec_names, standing_is, standing_named, standing_names, state_of, valued, with_change, with_values}
 use Rattle.optra_auction.proofs.MachineLemmas.{All-slice_get, IsAmount-least_raise_of, IsAmount-share_of, some_at, with_change-at}
 use Rattle.optra_auction.proofs.KeptLemmas.{map-remove}
 use Rattle.optra_auction.proofs.RefusalLemmas.{standing-named}
@@ -209,3 +211,52 @@ not_last s more = by s.moved s.rules.rounds s.round more
     by : (moved : Bool) (rounds round : ℕ) → (if moved then nat_le rounds round else true) ≡ false → round < rounds
     by true rounds round h = leb-false rounds round h
     by false rounds round h = cc
+
+-- ---- the bids that are planned
+
+-- the offer of a planned bid is on its specification
+planned-on : (specs : List Bid) (b : Standing) (offer : Offer) → Some offer ≡ planned_of specs b → (spec : Bid) × ((slice_get specs b.spec ≡ Some spec) × (offer ≡ offer_on spec b))
+planned-on specs b offer e = by (slice_get specs b.spec) refl
+  where
+    by : (o : Option Bid) → slice_get specs b.spec ≡ o → (spec : Bid) × ((slice_get specs b.spec ≡ Some spec) × (offer ≡ offer_on spec b))
+    by None at = absurd (none-some offer (sym (e ∙ ap (option_map (λ (spec : Bid). offer_on spec b)) at)))
+    by (Some spec) at = (spec, (at, same_Some offer (offer_on spec b) (e ∙ ap (option_map (λ (x : Bid). offer_on x b)) at)))
+
+-- planned bids have the names of the standing ones
+pub planned-names : (specs : List Bid) (standing : List Standing) (bids : List Bid) → map (λ (bid : Bid). Some (offer_of bid)) bids ≡ map (planned_of specs) standing → spec_names bids ≡ standing_names standing
+planned-names specs [] [] e = refl
+planned-names specs [] (x ∷ bids) e = cc
+planned-names specs (b ∷ standing) [] e = cc
+planned-names specs (b ∷ standing) (x ∷ bids) e =
+    let head : Some (offer_of x) ≡ planned_of specs b = cc in
+    let tail : map (λ (bid : Bid). Some (offer_of bid)) bids ≡ map (planned_of specs) standing = cc in
+    let on = planned-on specs b (offer_of x) head in
+    let same = planned-names specs standing bids tail in
+    let name = ap (λ (o : Offer). o.name) on.1.1 in
+    λ j. name j ∷ same j
+
+-- planned bids are on each network on which the specifications are
+pub planned-paths : (specs : List Bid) (standing : List Standing) (bids : List Bid) → map (λ (bid : Bid). Some (offer_of bid)) bids ≡ map (planned_of specs) standing → ArePathsOfSpecs specs bids
+planned-paths specs [] [] e net all = All-nil (λ (bid : Bid). IsPathOn net bid.path)
+planned-paths specs [] (x ∷ bids) e net all = cc
+planned-paths specs (b ∷ standing) [] e net all = cc
+planned-paths specs (b ∷ standing) (x ∷ bids) e net all =
+    let head : Some (offer_of x) ≡ planned_of specs b = cc in
+    let tail : map (λ (bid : Bid). Some (offer_of bid)) bids ≡ map (planned_of specs) standing = cc in
+    let on = planned-on specs b (offer_of x) head in
+    All-cons (λ (bid : Bid). IsPathOn net bid.path) x bids
+    (subst (IsPathOn net) (sym (ap (λ (o : Offer). o.path) on.1.1)) (All-slice_get (λ (bid : Bid). IsPathOn net bid.path) specs b.spec on.0 all on.1.0))
+    (planned-paths specs standing bids tail net all)
+
+-- one more planned bid
+pub planned-more : (specs : List Bid) (standing : List Standing) (bids more : List Bid) (i : ℕ) (bid : Bid) → map (λ (x : Bid). Some (offer_of x)) bids ≡ map (planned_of specs) (take i standing)
+    → i < length standing → option_and_then (planned_of specs) (slice_get standing i) ≡ Some (offer_of bid) → more ≡ bids ++ bid ∷ []
+    → map (λ (x : Bid). Some (offer_of x)) more ≡ map (planned_of specs) (take (i + 1) standing)
+planned-more specs standing bids more i bid so_far within plan e =
+    let there = some_at standing i within in
+    let offer = sym (ap (option_and_then (planned_of specs)) there.1) ∙ plan in
+    ap (map (λ (x : Bid). Some (offer_of x))) e
+    ∙ map_push (λ (x : Bid). Some (offer_of x)) bids bid
+    ∙ (λ j. so_far j ++ sym offer j ∷ [])
+    ∙ sym (ap (map (planned_of specs)) (take_more standing i there.0 within ∙ ap (λ (b : Standing). take i standing ++ b ∷ []) (get_or_from_slice_get standing i there.0 there.0 there.1))
+    ∙ map_push (planned_of specs) (take i standing) there.0)

@@ -5,7 +5,8 @@ use Rattle.std.specs.Int.{int_div_euclid, int_max}
 use Rattle.std.specs.Option.{option_map_or, option_and_then}
 use Rattle.optra_network.specs.Names.{AllDiffer, AreNames, place_of}
 use Rattle.optra_network.specs.Refusals.{first_of}
-use Rattle.optra_bid.specs.Specs.{IsBetween, Path}
+use Rattle.optra_network.specs.Net.{Net}
+use Rattle.optra_bid.specs.Specs.{IsBetween, IsPathOn, Path}
 use Rattle.optra_bid.specs.declared.Money.{Money}
 use Rattle.optra_bid.specs.declared.bids.Bid.{Bid}
 use Rattle.optra_auction.specs.declared.Act.{Act}
@@ -288,14 +289,22 @@ pub record Offer : Type 0 where
 abbrev pub offer_of : Bid → Offer
 offer_of bid = record { name = bid.name; bidder = bid.bidder; path = bid.path; money = bid.money }
 
--- a standing bid as it is planned: its specification with its own name and bidder, and with its amount as base
+-- a standing bid on a specification as it is planned: the specification with the standing bid's own name and bidder, and with
+-- its amount as base
+abbrev pub offer_on : Bid → Standing → Offer
+offer_on spec b = record { name = b.name; bidder = b.bidder; path = spec.path; money = record spec.money { base = b.amount } }
+
+-- a standing bid as it is planned, on its specification
 abbrev pub planned_of : List Bid → Standing → Option Offer
-planned_of specs b =
-    option_map (λ (spec : Bid). record { name = b.name; bidder = b.bidder; path = spec.path; money = record spec.money { base = b.amount } }) (slice_get specs b.spec)
+planned_of specs b = option_map (λ (spec : Bid). offer_on spec b) (slice_get specs b.spec)
 
 -- these bids are the standing ones as they are planned, in order
 abbrev pub ArePlanned : State → List Bid → Type 0
 ArePlanned s bids = map (λ (bid : Bid). Some (offer_of bid)) bids ≡ map (planned_of s.specs) s.standing
+
+-- wherever all specifications are on a network, the bids are on it too
+abbrev pub ArePathsOfSpecs : List Bid → List Bid → Type 0
+ArePathsOfSpecs specs bids = (net : Net) → All (λ (spec : Bid). IsPathOn net spec.path) specs → All (λ (bid : Bid). IsPathOn net bid.path) bids
 
 -- ---- what every auction keeps
 

@@ -1,9 +1,11 @@
 //! The auction: what each action changes or why it is refused, and the close of a round.
-ghost use Rattle.std.specs.Prelude.{◌≡◌, ◌<◌, length, slice_get, option_map, false, IsTrue, None, Some, IfOk, OnOk, MatchResult};
-ghost use Rattle.optra_network.specs.Names.{is_name};
+ghost use Rattle.std.specs.Prelude.{◌≡◌, ◌<◌, ◌≤◌, length, slice_get, option_map, false, IsTrue, None, Some, IfOk, OnOk, MatchResult};
+ghost use Rattle.std.specs.Option.{option_and_then};
+ghost use Rattle.optra_network.specs.Names.{AllDiffer, is_name};
 ghost use Rattle.optra_auction.specs.declared.Act.TheVariants.{Opening, Raise, Amend, Withdraw};
-ghost use Rattle.optra_auction.specs.Machine.{AreRules, AreSpecs, FindsPlace, FindsPlaces, HasAmount, IsAccepted, IsAmount, IsAuction, IsRefused, after_round, amend_refusal, is_last_round, least_raise_of, opened, opening_refusal, place_named, raise_refusal, spec_named, withdraw_refusal};
+ghost use Rattle.optra_auction.specs.Machine.{ArePathsOfSpecs, ArePlanned, AreRules, AreSpecs, FindsPlace, FindsPlaces, HasAmount, IsAccepted, IsAmount, IsAuction, IsRefused, after_round, amend_refusal, is_last_round, least_raise_of, offer_of, opened, opening_refusal, place_named, planned_of, raise_refusal, spec_named, spec_names, withdraw_refusal};
 
+use crate::planning::planned;
 use crate::spec_list::SpecList;
 use crate::standing_bids::{MOST_STANDING, StandingBids};
 use crate::terms::Terms;
@@ -101,6 +103,33 @@ impl Auction {
     {
         let (_, terms) = self.standing.at(standing as usize);
         terms.won
+    }
+
+    /// The standing bids as they are planned, in order: each is its specification with the standing bid's own name and bidder,
+    /// and with its amount as base.
+    pub fn standing_bids(&self, alloc: Global) -> Result<Vec<Bid>, NoMemory>
+        ensures bids { IfOk result (λ bids. ArePlanned self.now bids.items) }
+        ensures few { IfOk result (λ bids. length bids.items ≤ 500) }
+        ensures differ { IfOk result (λ bids. AllDiffer (spec_names bids.items)) }
+        ensures paths { IfOk result (λ bids. ArePathsOfSpecs self.now.specs bids.items) }
+        ensures auction { IsAuction self.now }
+    {
+        let count = self.standing.len();
+        let mut bids = Vec::with_capacity(alloc, count)?;
+        for place in 0..count {
+            let bid = self.planned(alloc, place)?;
+            bids.push(bid)?;
+        }
+        Ok(bids)
+    }
+
+    fn planned(&self, alloc: Global, place: usize) -> Result<Bid, NoMemory>
+        requires { place < length self.now.standing }
+        ensures { IfOk result (λ bid. option_and_then (planned_of self.now.specs) (slice_get self.now.standing place) ≡ Some (offer_of bid)) }
+    {
+        let (name, terms) = self.standing.at(place);
+        let spec = self.specs.at(terms.spec as usize);
+        planned(alloc, spec, name, terms)
     }
 
     /// Takes an action, or refuses it and hands it back. A refused action changes nothing. The refusals are tested in this order:

@@ -11,6 +11,7 @@ use optra_bid::Name;
 use optra_network::Cents;
 
 mod auctions;
+mod planning;
 mod spec_list;
 mod standing_bids;
 mod terms;
