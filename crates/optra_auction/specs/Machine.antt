@@ -250,6 +250,10 @@ pub record IsRefused (old : State) (act : Act) (refused : Refused) (new : State)
   pub back : refused.action ≡ act
   pub same : new ≡ old
 
+-- the answer to an action, and the auction after it: it is accepted, or refused
+abbrev pub IsStep : {T : Type 0} → State → Act → State → Result T Refused → Type 0
+IsStep old act new result = MatchResult result (λ _. IsAccepted old act new) (λ refused. IsRefused old act refused new)
+
 -- ---- the close of a round
 
 -- a standing bid with the value at which it won the round, if it did

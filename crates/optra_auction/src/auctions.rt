@@ -1,9 +1,9 @@
 //! The auction: what each action changes or why it is refused, and the close of a round.
-ghost use Rattle.std.specs.Prelude.{◌≡◌, ◌<◌, ◌≤◌, length, slice_get, option_map, false, IsTrue, None, Some, IfOk, OnOk, MatchResult};
+ghost use Rattle.std.specs.Prelude.{◌≡◌, ◌<◌, ◌≤◌, length, slice_get, option_map, false, IsTrue, None, Some, IfOk, OnOk};
 ghost use Rattle.std.specs.Option.{option_and_then};
 ghost use Rattle.optra_network.specs.Names.{AllDiffer, is_name};
 ghost use Rattle.optra_auction.specs.declared.Act.TheVariants.{Opening, Raise, Amend, Withdraw};
-ghost use Rattle.optra_auction.specs.Machine.{ArePathsOfSpecs, ArePlanned, AreRules, AreSpecs, FindsPlace, FindsPlaces, HasAmount, IsAccepted, IsAmount, IsAuction, IsRefused, after_round, amend_refusal, is_last_round, least_raise_of, offer_of, opened, opening_refusal, place_named, planned_of, raise_refusal, spec_named, spec_names, withdraw_refusal};
+ghost use Rattle.optra_auction.specs.Machine.{ArePathsOfSpecs, ArePlanned, AreRules, AreSpecs, FindsPlace, FindsPlaces, HasAmount, IsAmount, IsAuction, IsStep, after_round, amend_refusal, is_last_round, least_raise_of, offer_of, opened, opening_refusal, place_named, planned_of, raise_refusal, spec_named, spec_names, withdraw_refusal};
 
 use crate::planning::planned;
 use crate::spec_list::SpecList;
@@ -44,7 +44,8 @@ impl Auction {
     pub fn new(alloc: Global, specs: Vec<Bid>, rules: Rules) -> Result<Auction, NoMemory>
         requires specs { AreSpecs specs.items }
         requires rules { AreRules rules }
-        ensures { IfOk result (λ auction. auction ≡ opened specs.items rules) }
+        ensures opened { IfOk result (λ auction. auction ≡ opened specs.items rules) }
+        ensures auction { IfOk result (λ auction. IsAuction auction) }
     {
         Ok(Auction {
             specs: SpecList::new(alloc, specs)?,
@@ -140,7 +141,7 @@ impl Auction {
     /// - a withdrawal: `A9`, `A4`, `A5`, `A7`, `A8`.
     pub fn act(&mut self, action: Act) -> Result<(), Refused>
         requires { HasAmount action }
-        ensures step { MatchResult result (λ _. IsAccepted self.old action self.new) (λ refused. IsRefused self.old action refused self.new) }
+        ensures step { IsStep self.old action self.new result }
         ensures auction { IsAuction self.new }
     {
         match action {
@@ -160,15 +161,9 @@ impl Auction {
         }
     }
 
-    fn open(
-        &mut self,
-        bidder: Name,
-        bid: Name,
-        spec: Name,
-        amount: Cents,
-    ) -> Result<(), Refused>
+    fn open(&mut self, bidder: Name, bid: Name, spec: Name, amount: Cents) -> Result<(), Refused>
         requires { IsAmount amount }
-        ensures step { MatchResult result (λ _. IsAccepted self.old (Opening bidder bid spec amount) self.new) (λ refused. IsRefused self.old (Opening bidder bid spec amount) refused self.new) }
+        ensures step { IsStep self.old (Opening bidder bid spec amount) self.new result }
         ensures auction { IsAuction self.new }
     {
         let spec_place = match self.opening_place(&bid, &spec, amount) {
@@ -197,7 +192,7 @@ impl Auction {
 
     fn raise(&mut self, bidder: Name, bid: Name, amount: Cents) -> Result<(), Refused>
         requires { IsAmount amount }
-        ensures step { MatchResult result (λ _. IsAccepted self.old (Raise bidder bid amount) self.new) (λ refused. IsRefused self.old (Raise bidder bid amount) refused self.new) }
+        ensures step { IsStep self.old (Raise bidder bid amount) self.new result }
         ensures auction { IsAuction self.new }
     {
         let place = match self.raise_place(&bidder, &bid, amount) {
@@ -217,7 +212,7 @@ impl Auction {
     }
 
     fn amend(&mut self, bidder: Name, bid: Name, spec: Name) -> Result<(), Refused>
-        ensures step { MatchResult result (λ _. IsAccepted self.old (Amend bidder bid spec) self.new) (λ refused. IsRefused self.old (Amend bidder bid spec) refused self.new) }
+        ensures step { IsStep self.old (Amend bidder bid spec) self.new result }
         ensures auction { IsAuction self.new }
     {
         let (place, spec_place) = match self.amend_places(&bidder, &bid, &spec) {
@@ -233,7 +228,7 @@ impl Auction {
     }
 
     fn withdraw(&mut self, bidder: Name, bid: Name) -> Result<(), Refused>
-        ensures step { MatchResult result (λ _. IsAccepted self.old (Withdraw bidder bid) self.new) (λ refused. IsRefused self.old (Withdraw bidder bid) refused self.new) }
+        ensures step { IsStep self.old (Withdraw bidder bid) self.new result }
         ensures auction { IsAuction self.new }
     {
         let place = match self.withdraw_place(&bidder, &bid) {

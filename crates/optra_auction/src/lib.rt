@@ -67,9 +67,16 @@ pub enum Act {
         amount: Cents,
     },
     /// Another specification for a standing bid.
-    Amend { bidder: Name, bid: Name, spec: Name },
+    Amend {
+        bidder: Name,
+        bid: Name,
+        spec: Name,
+    },
     /// A standing bid that shall stand no longer.
-    Withdraw { bidder: Name, bid: Name },
+    Withdraw {
+        bidder: Name,
+        bid: Name,
+    },
 }
 
 /// Why an action is refused.

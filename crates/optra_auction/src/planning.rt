@@ -10,12 +10,7 @@ use optra_network::NoMemory;
 use std::alloc::Global;
 
 /// A standing bid as it is planned: its specification with its own name and bidder, and with its amount as base.
-pub(crate) fn planned(
-    alloc: Global,
-    spec: &Bid,
-    name: &str,
-    terms: &Terms,
-) -> Result<Bid, NoMemory>
+pub(crate) fn planned(alloc: Global, spec: &Bid, name: &str, terms: &Terms) -> Result<Bid, NoMemory>
     requires name { is_name name.now ≡ true }
     requires amount { IsAmount terms.now.amount }
     ensures { IfOk result (λ bid. offer_of bid ≡ offer_on spec.now (named name.now terms.now)) }

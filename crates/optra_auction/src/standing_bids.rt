@@ -67,7 +67,11 @@ impl StandingBids {
         ensures within { IfSome result (λ i. i < length self.now) }
     {
         let place = self.terms.get_index_of(name)?;
-        if place < self.count { Some(place) } else { None }
+        if place < self.count {
+            Some(place)
+        } else {
+            None
+        }
     }
 
     /// The name and the terms of the bid at a place.
@@ -171,12 +175,7 @@ fn make_room(terms: &mut IndexMap<String, Terms>, count: usize)
 
 /// Puts terms under a name that no standing bid has, and gives their place: that of the withdrawn bid of the name, or a new
 /// one.
-fn put_behind(
-    map: &mut IndexMap<String, Terms>,
-    count: usize,
-    name: Name,
-    terms: Terms,
-) -> usize
+fn put_behind(map: &mut IndexMap<String, Terms>, count: usize, name: Name, terms: Terms) -> usize
     requires room { HaveRoom map.old count }
     requires spare { 0 < spare map.old }
     requires new { place_of name (standing_names (standing_in map.old.entries count)) ≡ None }

@@ -47,9 +47,10 @@ returns-in-None c =
     let fits : FitsSigned w64 c.at-2.result.now.money.base = search rules in
     let tested = simp to_z-of_z at c.amend_refusal.ensures in
     let known = ap (λ (n : List ℕ). place_of n (spec_names c.self.inside.specs)) (sym c.text.ensures.text) ∙ sym c.in-Some.ensures.place in
-    let found = ap (λ (n : List ℕ). place_of n (standing_names c.self.inside.standing)) (sym c.text-2.ensures.text) ∙ sym c.in-Some-place.ensures.place in
-    (ap (λ (t : State). amend_refusal t c.args.bidder.now c.args.bid.now c.args.spec.now) (sym c.self.view_is)
-    ∙ amend-tested s c.args.bidder.now c.args.bid.now c.args.spec.now c.in-Some.spec_place c.in-Some-place.place c.at-2.result.now (named c.at.result.0.now c.at.result.1.now) c.if-self.false known c.at-2.ensures found c.at.ensures
-    ∙ ap (λ (n : List ℕ). amend_tests n c.at-2.result.now.money.base (named c.at.result.0.now c.at.result.1.now)) (sym c.text-3.ensures.text) ∙ sym tested ∙ c.in-None.is,
-    ap (λ (t : State). place_named t c.args.bid.now) (sym c.self.view_is) ∙ found,
-    ap (λ (t : State). spec_named t c.args.spec.now) (sym c.self.view_is) ∙ known)
+    let found = ap (λ (n : List ℕ). place_of n (standing_names c.self.inside.standing)) (sym c.text-2.ensures.text) ∙ sym c.in-Some-place.ensures.place in (
+      ap (λ (t : State). amend_refusal t c.args.bidder.now c.args.bid.now c.args.spec.now) (sym c.self.view_is)
+          ∙ amend-tested s c.args.bidder.now c.args.bid.now c.args.spec.now c.in-Some.spec_place c.in-Some-place.place c.at-2.result.now (named c.at.result.0.now c.at.result.1.now) c.if-self.false known c.at-2.ensures found c.at.ensures
+          ∙ ap (λ (n : List ℕ). amend_tests n c.at-2.result.now.money.base (named c.at.result.0.now c.at.result.1.now)) (sym c.text-3.ensures.text) ∙ sym tested ∙ c.in-None.is,
+      ap (λ (t : State). place_named t c.args.bid.now) (sym c.self.view_is) ∙ found,
+      ap (λ (t : State). spec_named t c.args.spec.now) (sym c.self.view_is) ∙ known,
+    )

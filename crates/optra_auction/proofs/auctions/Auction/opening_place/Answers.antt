@@ -67,8 +67,9 @@ returns-clause-place c =
     let own : FitsSigned w64 c.args.amount = c.ranges.amount in
     let other : FitsSigned w64 c.at.result.now.money.base = search rules in
     let high = simp to_z-of_z at c.if-amount-at.false in
-    let full = lt-leb 500 (length c.self.inside.standing) (omega (arith, c.len.ensures.len, c.if-len-ge-MOST_STANDING.false)) in
-    (ap (λ (t : State). opening_refusal t c.args.bid.now c.args.spec.now c.args.amount) (sym c.self.view_is)
-    ∙ opening-tested s c.args.bid.now c.args.spec.now c.args.amount c.in-Some.place c.at.result.now c.if-self.false known c.at.ensures
-    ∙ (λ j. first_of ((free j, A2) ∷ (high j, A3) ∷ (full j, A10) ∷ [])),
-    ap (λ (t : State). spec_named t c.args.spec.now) (sym c.self.view_is) ∙ known)
+    let full = lt-leb 500 (length c.self.inside.standing) (omega (arith, c.len.ensures.len, c.if-len-ge-MOST_STANDING.false)) in (
+      ap (λ (t : State). opening_refusal t c.args.bid.now c.args.spec.now c.args.amount) (sym c.self.view_is)
+          ∙ opening-tested s c.args.bid.now c.args.spec.now c.args.amount c.in-Some.place c.at.result.now c.if-self.false known c.at.ensures
+          ∙ (λ j. first_of ((free j, A2) ∷ (high j, A3) ∷ (full j, A10) ∷ [])),
+      ap (λ (t : State). spec_named t c.args.spec.now) (sym c.self.view_is) ∙ known,
+    )

@@ -41,8 +41,9 @@ returns-in-None c =
     let s = state_of c.self.inside.specs c.self.inside.rules c.self.inside.round c.self.inside.standing c.self.inside.moved c.self.inside.closed in
     let fits : FitsSigned w64 c.args.amount = c.ranges.amount in
     let tested = simp to_z-of_z at c.raise_refusal.ensures in
-    let found = ap (λ (n : List ℕ). place_of n (standing_names c.self.inside.standing)) (sym c.text.ensures.text) ∙ sym c.in-Some.ensures.place in
-    (ap (λ (t : State). raise_refusal t c.args.bidder.now c.args.bid.now c.args.amount) (sym c.self.view_is)
-    ∙ raise-tested s c.args.bidder.now c.args.bid.now c.args.amount c.in-Some.place (named c.at.result.0.now c.at.result.1.now) c.if-self.false found c.at.ensures
-    ∙ ap (λ (n : List ℕ). raise_tests c.self.inside.rules n c.args.amount (named c.at.result.0.now c.at.result.1.now)) (sym c.text-2.ensures.text) ∙ sym tested ∙ c.in-None.is,
-    ap (λ (t : State). place_named t c.args.bid.now) (sym c.self.view_is) ∙ found)
+    let found = ap (λ (n : List ℕ). place_of n (standing_names c.self.inside.standing)) (sym c.text.ensures.text) ∙ sym c.in-Some.ensures.place in (
+      ap (λ (t : State). raise_refusal t c.args.bidder.now c.args.bid.now c.args.amount) (sym c.self.view_is)
+          ∙ raise-tested s c.args.bidder.now c.args.bid.now c.args.amount c.in-Some.place (named c.at.result.0.now c.at.result.1.now) c.if-self.false found c.at.ensures
+          ∙ ap (λ (n : List ℕ). raise_tests c.self.inside.rules n c.args.amount (named c.at.result.0.now c.at.result.1.now)) (sym c.text-2.ensures.text) ∙ sym tested ∙ c.in-None.is,
+      ap (λ (t : State). place_named t c.args.bid.now) (sym c.self.view_is) ∙ found,
+    )

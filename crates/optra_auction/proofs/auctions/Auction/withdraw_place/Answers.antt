@@ -34,8 +34,9 @@ returns-in-Some-withdraw_refusal c =
 pub returns-in-None : goal.returns-in-None
 returns-in-None c =
     let s = state_of c.self.inside.specs c.self.inside.rules c.self.inside.round c.self.inside.standing c.self.inside.moved c.self.inside.closed in
-    let found = ap (λ (n : List ℕ). place_of n (standing_names c.self.inside.standing)) (sym c.text.ensures.text) ∙ sym c.in-Some.ensures.place in
-    (ap (λ (t : State). withdraw_refusal t c.args.bidder.now c.args.bid.now) (sym c.self.view_is)
-    ∙ withdraw-tested s c.args.bidder.now c.args.bid.now c.in-Some.place (named c.at.result.0.now c.at.result.1.now) c.if-self.false found c.at.ensures
-    ∙ ap (λ (n : List ℕ). withdraw_tests n (named c.at.result.0.now c.at.result.1.now)) (sym c.text-2.ensures.text) ∙ sym c.withdraw_refusal.ensures ∙ c.in-None.is,
-    ap (λ (t : State). place_named t c.args.bid.now) (sym c.self.view_is) ∙ found)
+    let found = ap (λ (n : List ℕ). place_of n (standing_names c.self.inside.standing)) (sym c.text.ensures.text) ∙ sym c.in-Some.ensures.place in (
+      ap (λ (t : State). withdraw_refusal t c.args.bidder.now c.args.bid.now) (sym c.self.view_is)
+          ∙ withdraw-tested s c.args.bidder.now c.args.bid.now c.in-Some.place (named c.at.result.0.now c.at.result.1.now) c.if-self.false found c.at.ensures
+          ∙ ap (λ (n : List ℕ). withdraw_tests n (named c.at.result.0.now c.at.result.1.now)) (sym c.text-2.ensures.text) ∙ sym c.withdraw_refusal.ensures ∙ c.in-None.is,
+      ap (λ (t : State). place_named t c.args.bid.now) (sym c.self.view_is) ∙ found,
+    )
