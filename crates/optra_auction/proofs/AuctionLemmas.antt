@@ -10,14 +10,12 @@ use Rattle.std.proofs.lemmas.List.Quantifiers.{all_pairs_remove, position-Some}
 use Rattle.std.proofs.lemmas.Option.{get_or_from_slice_get, none-some, same_Some}
 use Rattle.std.specs.Option.{option_and_then, option_map_or}
 use Rattle.optra_bid.specs.Specs.{IsPathOn}
-use Rattle.optra_network.specs.Net.{Net}
-use Rattle.optra_network.specs.Names.{AllDiffer, AreNames, is_name, place_of}
+use Rattle.optra_network.specs.Names.{AreNames, is_name, place_of}
 use Rattle.optra_network.specs.Refusals.{first_of}
 use Rattle.optra_network.proofs.NamesLemmas.{AreNames-push}
 use Rattle.optra_bid.specs.declared.bids.Bid.{Bid}
 use Rattle.optra_auction.specs.declared.Refusal.TheVariants.{A2, A3, A6, A10}
-use Rattle.optra_auction.specs.declared.Rules.{Rules}
-use Rattle.optra_auction.specs.Machine.{ArePathsOfSpecs, Offer, offer_of, offer_on, planned_of, IsAmount, IsAuction, IsOn, Standing, State, amend_refusal, amend_table, amended_bid, is_below, is_below_raise, is_full, is_last_round, least_raise_of, opened_bid, opening_refusal, opening_table, place_named, raise_refusal, raise_table, raised_bid, reserve_at, reserve_named, rested, spec_named, spec_names, standing_is, standing_named, standing_names, state_of, valued, with_change, with_values}
+use Rattle.optra_auction.specs.Machine.{ArePathsOfSpecs, Offer, offer_of, offer_on, planned_of, IsAmount, IsAuction, IsOn, Standing, State, amend_refusal, amend_table, amended_bid, is_below, is_below_raise, is_full, is_last_round, least_raise_of, opened_bid, opening_refusal, opening_table, place_named, raise_refusal, raise_table, raised_bid, reserve_at, reserve_named, rested, spec_named, spec_names, standing_is, standing_names, state_of, valued, with_change, with_values}
 use Rattle.optra_auction.proofs.MachineLemmas.{All-slice_get, IsAmount-least_raise_of, IsAmount-share_of, some_at, with_change-at}
 use Rattle.optra_auction.proofs.KeptLemmas.{map-remove}
 use Rattle.optra_auction.proofs.RefusalLemmas.{standing-named}

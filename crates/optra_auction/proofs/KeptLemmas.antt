@@ -1,5 +1,5 @@
 -- The bids that stand as the first entries of a map: where a name is found, and what a write, an insert and a removal leave.
-use Rattle.std.proofs.Common.{◌≡◌, ◌<◌, ◌≤◌, ◌+◌, ◌++◌, ℕ, zero, suc, Bool, true, false, cond, not, nat_lt, List, [], ◌∷◌, length, map, take, drop, set, get_or, slice_get, position, Option, Some, None, option_map, min, refl, sym, ap, ◌∙◌, subst, true≢false, ⊎_elim, is_some, arith, string_bytes, String, bytes_eq, if◌then◌else◌, remove}
+use Rattle.std.proofs.Common.{◌≡◌, ◌<◌, ◌≤◌, ◌+◌, ◌++◌, ℕ, zero, suc, Bool, true, false, cond, not, nat_lt, List, [], ◌∷◌, length, map, take, drop, set, get_or, slice_get, position, Option, Some, None, option_map, min, refl, sym, ap, ◌∙◌, true≢false, ⊎_elim, is_some, arith, string_bytes, String, bytes_eq, if◌then◌else◌, remove}
 use Rattle.std.proofs.lemmas.List.{length-take, length-map, map_push, take_at, take-set-le, take_more_set, length-set, take-map, take-append-le}
 use Rattle.std.proofs.lemmas.Option.{none-some, slice_get-map, same_Some, get_or_from_slice_get, slice_get_within}
 use Rattle.std.proofs.lemmas.Bool.{cases_lt, le-ltb, lt-ltb, ltb-false, ltb-true}

@@ -1,5 +1,5 @@
 -- The machine's lists of bids: changes one by one, and what every action and every close keeps.
-use Rattle.std.proofs.Common.{All, String, string_bytes, ◌≡◌, ◌<◌, ◌≤◌, ◌+◌, ◌++◌, ℕ, zero, suc, Bool, true, false, List, [], ◌∷◌, length, map, take, drop, set, get_or, slice_get, position, Option, Some, None, option_map, refl, sym, ap, ◌∙◌, subst, arith, bytes_eq, ℤ, pos, negsuc, ◌*◌, ◌/◌}
+use Rattle.std.proofs.Common.{All, String, string_bytes, ◌≡◌, ◌<◌, ◌≤◌, ◌+◌, ◌++◌, ℕ, zero, suc, List, [], ◌∷◌, length, map, take, drop, set, get_or, slice_get, Option, Some, None, option_map, refl, sym, ap, ◌∙◌, subst, arith, bytes_eq, ℤ, pos, negsuc, ◌*◌, ◌/◌}
 use Rattle.std.proofs.lemmas.List.{length-append, length-drop, length-map, length-take, get_or-take, take-map, map_push}
 use Rattle.std.proofs.lemmas.List.Edits.{map_over_more}
 use Rattle.std.proofs.lemmas.List.Quantifiers.{position-Some}

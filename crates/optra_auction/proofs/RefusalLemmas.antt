@@ -1,5 +1,5 @@
 -- The tables of refusals, test by test.
-use Rattle.std.proofs.Common.{◌≡◌, ℕ, Bool, true, false, List, [], ◌∷◌, ◌∙◌, length, slice_get, Option, Some, None, is_some, is_none, ap, ℤ, pos}
+use Rattle.std.proofs.Common.{◌≡◌, ℕ, Bool, true, false, List, [], ◌∷◌, ◌∙◌, slice_get, Option, Some, None, is_some, is_none, ap, ℤ, pos}
 use Rattle.std.specs.Prelude.{int_lt}
 use Rattle.std.specs.Option.{option_and_then, option_map_or}
 use Rattle.optra_network.specs.Refusals.{first_of}

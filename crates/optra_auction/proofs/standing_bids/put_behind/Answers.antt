@@ -1,11 +1,10 @@
 -- The name is that of a withdrawn bid, or it gets a new entry.
-use Rattle.std.proofs.Common.{◌≡◌, ◌∙◌, ℕ, Some, None, List, [], ◌∷◌, ap, subst, sym, arith, position, string_bytes, String, bytes_eq, is_some, slice_get, option_map}
+use Rattle.std.proofs.Common.{◌∙◌, ℕ, List, ap, sym, position, string_bytes, String, bytes_eq, is_some, slice_get, option_map}
 use Rattle.std.specs.Map.{keys_of}
 use Rattle.std.specs.declared.alloc.Global.{Global}
-use Rattle.indexmap.specs.IndexMap.{IndexMap, get_by}
+use Rattle.indexmap.specs.IndexMap.{get_by}
 use Rattle.indexmap.proofs.CallerLemmas.{insert_entry-new}
-use Rattle.optra_auction.specs.Kept.{HaveRoom, standing_in, standing_of}
-use Rattle.optra_auction.specs.declared.terms.Terms.{Terms}
+use Rattle.optra_auction.specs.Kept.{standing_in, standing_of}
 use Rattle.optra_auction.proofs.KeptLemmas.{HaveRoom-insert, HaveRoom-with_value_at, behind-from, more-at, none-from_is_some, replaced-at, standing-behind, standing-more}
 use Rattle.optra_auction.proofs.standing_bids.put_behind.Goals as goal
 

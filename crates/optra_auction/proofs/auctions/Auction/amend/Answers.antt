@@ -1,9 +1,6 @@
 -- An amendment keeps what every auction keeps.
-use Rattle.std.proofs.Common.{◌≡◌, ◌∙◌, ℕ, List, [], ◌∷◌, ◌++◌, Some, None, true, ap, sym, subst, remove, arith, length}
-use Rattle.optra_network.specs.Names.{place_of}
-use Rattle.optra_auction.specs.Machine.{IsAuction, Standing, State, raise_refusal, amend_refusal, opening_refusal, withdraw_refusal, place_named, spec_named, standing_names, state_of}
-use Rattle.optra_auction.proofs.KeptLemmas.{none-from_is_some}
-use Rattle.std.proofs.lemmas.Bool.{leb-false}
+use Rattle.std.proofs.Common.{◌∙◌, List, true, ap, sym, subst}
+use Rattle.optra_auction.specs.Machine.{IsAuction, Standing, State, amend_refusal, place_named, spec_named, state_of}
 use Rattle.optra_auction.proofs.AuctionLemmas.{IsAuction-amend}
 use Rattle.optra_auction.proofs.auctions.Auction.amend.Goals as goal
 

@@ -1,14 +1,10 @@
 -- The tests of an amendment, one after another.
-use Rattle.std.proofs.Common.{◌≡◌, ◌∙◌, ℕ, ℤ, Bool, List, [], ◌∷◌, Option, Some, None, is_some, slice_get, ap, sym, subst, arith, w64, rules}
-use Rattle.std.specs.Prelude.{int_lt}
+use Rattle.std.proofs.Common.{◌∙◌, ℕ, List, ap, sym, w64, rules}
 use Rattle.std.proofs.lemmas.Int.{to_z-of_z}
 use Rattle.std.specs.Int.RustNames.{FitsSigned}
 use Rattle.optra_network.specs.Names.{place_of}
-use Rattle.optra_network.specs.Refusals.{first_of}
 use Rattle.optra_auction.specs.Kept.{named}
-use Rattle.optra_auction.specs.Machine.{IsOn, State, Standing, is_full, place_named, spec_named, spec_names, raise_refusal, raise_tests, amend_refusal, amend_tests, withdraw_refusal, withdraw_tests, opening_refusal, standing_names, state_of}
-use Rattle.optra_auction.specs.declared.Refusal.TheVariants.{A2, A3, A10}
-use Rattle.optra_auction.proofs.MachineLemmas.{All-slice_get}
+use Rattle.optra_auction.specs.Machine.{State, place_named, spec_named, spec_names, amend_refusal, amend_tests, standing_names, state_of}
 use Rattle.optra_auction.proofs.RefusalLemmas.{amend-closed, amend-no_spec, amend-tested, amend-unknown}
 use Rattle.optra_auction.proofs.auctions.Auction.amend_places.Goals as goal
 

@@ -1,6 +1,6 @@
 -- The values and the next round keep what every auction keeps.
 use Rattle.std.proofs.Common.{◌∙◌, ◌+◌, List, map, true, false, ap, sym, subst}
-use Rattle.optra_auction.specs.Machine.{IsAuction, Standing, State, is_last_round, rested, state_of}
+use Rattle.optra_auction.specs.Machine.{IsAuction, Standing, is_last_round, rested, state_of}
 use Rattle.optra_auction.proofs.AuctionLemmas.{IsAuction-rested, IsAuction-with_values, not_last}
 use Rattle.optra_auction.proofs.auctions.Auction.close_round.Goals as goal
 

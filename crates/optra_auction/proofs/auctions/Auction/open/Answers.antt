@@ -1,10 +1,9 @@
 -- An opening keeps what every auction keeps.
-use Rattle.std.proofs.Common.{◌≡◌, ◌∙◌, ℕ, List, [], ◌∷◌, ◌++◌, Some, None, true, ap, sym, subst, remove, arith, length, w64}
+use Rattle.std.proofs.Common.{◌∙◌, List, true, ap, sym, subst, length, w64}
 use Rattle.std.proofs.lemmas.Bool.{leb-false}
 use Rattle.std.proofs.lemmas.Int.{to_z-of_z}
 use Rattle.std.specs.Int.RustNames.{FitsSigned}
-use Rattle.optra_network.specs.Names.{place_of}
-use Rattle.optra_auction.specs.Machine.{IsAuction, Standing, State, opening_refusal, place_named, spec_named, standing_names, state_of}
+use Rattle.optra_auction.specs.Machine.{IsAuction, Standing, State, opening_refusal, place_named, spec_named, state_of}
 use Rattle.optra_auction.proofs.KeptLemmas.{none-from_is_some}
 use Rattle.optra_auction.proofs.AuctionLemmas.{IsAuction-open, opening-may}
 use Rattle.optra_auction.proofs.auctions.Auction.open.Goals as goal

@@ -1,12 +1,11 @@
 -- The tests of an opening, one after another.
-use Rattle.std.proofs.Common.{◌≡◌, ◌∙◌, ℕ, ℤ, Bool, List, [], ◌∷◌, Option, Some, None, is_some, length, slice_get, ap, sym, subst, arith, w64, rules}
+use Rattle.std.proofs.Common.{◌∙◌, ℕ, List, [], ◌∷◌, is_some, length, ap, sym, arith, w64, rules}
 use Rattle.std.specs.Prelude.{int_lt}
 use Rattle.std.proofs.lemmas.Int.{to_z-of_z}
 use Rattle.std.specs.Int.RustNames.{FitsSigned}
 use Rattle.optra_network.specs.Names.{place_of}
 use Rattle.optra_network.specs.Refusals.{first_of}
-use Rattle.optra_auction.specs.Kept.{named}
-use Rattle.optra_auction.specs.Machine.{IsOn, State, Standing, is_full, place_named, spec_named, spec_names, raise_refusal, raise_tests, amend_refusal, amend_tests, withdraw_refusal, withdraw_tests, opening_refusal, standing_names, state_of}
+use Rattle.optra_auction.specs.Machine.{State, is_full, spec_named, spec_names, opening_refusal, standing_names, state_of}
 use Rattle.optra_auction.specs.declared.Refusal.TheVariants.{A2, A3, A10}
 use Rattle.optra_auction.proofs.MachineLemmas.{some_at}
 use Rattle.std.proofs.lemmas.Bool.{le-leb, lt-leb}

@@ -1,5 +1,5 @@
 -- A standing bid has a name, and its amount is in range.
-use Rattle.std.proofs.Common.{◌≡◌, ◌∙◌, List, ℕ, IsTrue, ap, option_map}
+use Rattle.std.proofs.Common.{◌∙◌, List, ℕ, IsTrue, ap, option_map}
 use Rattle.std.proofs.lemmas.Option.{slice_get-map}
 use Rattle.optra_network.specs.Names.{is_name}
 use Rattle.optra_auction.specs.Machine.{IsOn, Standing, standing_names}

@@ -1,11 +1,8 @@
 -- A raise keeps what every auction keeps.
-use Rattle.std.proofs.Common.{◌≡◌, ◌∙◌, ℕ, List, [], ◌∷◌, ◌++◌, Some, None, true, ap, sym, subst, remove, arith, length, w64}
+use Rattle.std.proofs.Common.{◌∙◌, List, true, ap, sym, subst, w64}
 use Rattle.std.proofs.lemmas.Int.{to_z-of_z}
 use Rattle.std.specs.Int.RustNames.{FitsSigned}
-use Rattle.optra_network.specs.Names.{place_of}
-use Rattle.optra_auction.specs.Machine.{IsAuction, Standing, State, raise_refusal, amend_refusal, opening_refusal, withdraw_refusal, place_named, spec_named, standing_names, state_of}
-use Rattle.optra_auction.proofs.KeptLemmas.{none-from_is_some}
-use Rattle.std.proofs.lemmas.Bool.{leb-false}
+use Rattle.optra_auction.specs.Machine.{IsAuction, Standing, State, raise_refusal, place_named, state_of}
 use Rattle.optra_auction.proofs.AuctionLemmas.{IsAuction-raise}
 use Rattle.optra_auction.proofs.auctions.Auction.raise.Goals as goal
 

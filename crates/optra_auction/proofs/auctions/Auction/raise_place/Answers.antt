@@ -1,13 +1,10 @@
 -- The tests of a raise, one after another.
-use Rattle.std.proofs.Common.{◌≡◌, ◌∙◌, ℕ, ℤ, Bool, List, [], ◌∷◌, Option, Some, None, is_some, slice_get, ap, sym, subst, arith, w64, rules}
-use Rattle.std.specs.Prelude.{int_lt}
+use Rattle.std.proofs.Common.{◌∙◌, ℕ, List, ap, sym, w64}
 use Rattle.std.proofs.lemmas.Int.{to_z-of_z}
 use Rattle.std.specs.Int.RustNames.{FitsSigned}
 use Rattle.optra_network.specs.Names.{place_of}
-use Rattle.optra_network.specs.Refusals.{first_of}
 use Rattle.optra_auction.specs.Kept.{named}
-use Rattle.optra_auction.specs.Machine.{IsOn, State, Standing, is_full, place_named, spec_named, spec_names, raise_refusal, raise_tests, amend_refusal, amend_tests, withdraw_refusal, withdraw_tests, opening_refusal, standing_names, state_of}
-use Rattle.optra_auction.specs.declared.Refusal.TheVariants.{A2, A3, A10}
+use Rattle.optra_auction.specs.Machine.{IsOn, State, place_named, raise_refusal, raise_tests, standing_names, state_of}
 use Rattle.optra_auction.proofs.MachineLemmas.{All-slice_get}
 use Rattle.optra_auction.proofs.RefusalLemmas.{raise-closed, raise-tested, raise-unknown}
 use Rattle.optra_auction.proofs.auctions.Auction.raise_place.Goals as goal

@@ -1,9 +1,8 @@
 -- One more planned bid, and what all of them keep.
-use Rattle.std.proofs.Common.{◌≡◌, ◌<◌, ◌≤◌, ◌∙◌, List, ℕ, Some, map, take, length, ap, sym, subst, arith}
+use Rattle.std.proofs.Common.{◌<◌, ◌≤◌, ◌∙◌, map, length, ap, sym, subst, arith}
 use Rattle.std.proofs.lemmas.List.{take_all}
 use Rattle.optra_network.specs.Names.{AllDiffer}
-use Rattle.optra_bid.specs.declared.bids.Bid.{Bid}
-use Rattle.optra_auction.specs.Machine.{ArePathsOfSpecs, Standing, State, offer_of, planned_of, standing_names}
+use Rattle.optra_auction.specs.Machine.{State, planned_of, standing_names}
 use Rattle.optra_auction.proofs.AuctionLemmas.{planned-more, planned-names, planned-paths}
 use Rattle.optra_auction.proofs.auctions.Auction.standing_bids.Goals as goal
 

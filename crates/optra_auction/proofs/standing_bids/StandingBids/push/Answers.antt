@@ -1,5 +1,5 @@
 -- The new entry is swapped to the end of the front.
-use Rattle.std.proofs.Common.{◌≡◌, ◌+◌, ◌<◌, ◌++◌, ◌∙◌, List, [], ◌∷◌, length, ap, arith}
+use Rattle.std.proofs.Common.{◌+◌, ◌++◌, ◌∙◌, List, [], ◌∷◌, length, ap, arith}
 use Rattle.std.proofs.lemmas.List.Edits.{length-swap}
 use Rattle.optra_network.specs.Names.{place_of}
 use Rattle.optra_auction.specs.Machine.{Standing, standing_names}

@@ -1,8 +1,7 @@
 -- The write changes the bid at its place.
-use Rattle.std.proofs.Common.{◌≡◌, ◌<◌, ◌∙◌, Some, List, length, slice_get, ap, refl, sym, arith, w64}
+use Rattle.std.proofs.Common.{◌<◌, ◌∙◌, List, length, ap, refl, sym, arith, w64}
 use Rattle.std.proofs.lemmas.Int.{to_z-of_z}
 use Rattle.std.specs.Int.RustNames.{FitsSigned}
-use Rattle.std.specs.Map.{values_of}
 use Rattle.std.specs.Option.{option_copied_mut}
 use Rattle.optra_auction.specs.Machine.{Standing, raised_bid, with_change}
 use Rattle.optra_auction.proofs.KeptLemmas.{HaveRoom-with_value_at, length-standing_in, standing-set_value}

@@ -1,5 +1,5 @@
 -- The bid goes behind the others.
-use Rattle.std.proofs.Common.{◌≡◌, ◌<◌, ◌+◌, ◌-◌, ◌∙◌, length, ap, arith, remove}
+use Rattle.std.proofs.Common.{◌<◌, ◌-◌, ◌∙◌, length, ap, arith, remove}
 use Rattle.optra_auction.specs.Machine.{Standing}
 use Rattle.optra_auction.specs.Kept.{standing_in}
 use Rattle.std.proofs.Common.{List}

@@ -1,5 +1,5 @@
 -- One more bid has its value.
-use Rattle.std.proofs.Common.{◌≡◌, ◌∙◌, ap, sym, take, length, arith, None, List, get_or, ◌<◌}
+use Rattle.std.proofs.Common.{◌∙◌, ap, sym, take, length, arith, None, List, get_or, ◌<◌}
 use Rattle.std.proofs.lemmas.Option.{slice_get-get_or}
 use Rattle.optra_auction.specs.Machine.{Standing, valued, with_change}
 use Rattle.optra_auction.proofs.MachineLemmas.{length-with_values, with_values-more, with_values-none}

@@ -1,5 +1,5 @@
 -- The least raise is an amount, so the sum fits.
-use Rattle.std.proofs.Common.{◌≡◌, ◌∙◌, ap, rules, arith, w64, sym, subst}
+use Rattle.std.proofs.Common.{◌≡◌, ap, rules, arith, w64, sym, subst}
 use Rattle.std.proofs.lemmas.Int.{ints, to_z-of_z}
 use Rattle.std.specs.Prelude.{ℤ, ◌+ℤ◌, int_lt}
 use Rattle.std.specs.Int.RustNames.{FitsSigned}
