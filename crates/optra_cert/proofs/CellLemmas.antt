@@ -14,7 +14,7 @@ field_behind : (fields : Record) (i : ℕ) → get_or (drop 1 fields) i [] ≡ f
 field_behind [] i = refl
 field_behind (word ∷ fields) i = rw add-one (field_or fields i)
 
-length_behind : (fields : Record) → length (drop 1 fields) ≡ length fields - 1
+pub length_behind : (fields : Record) → length (drop 1 fields) ≡ length fields - 1
 length_behind [] = refl
 length_behind (word ∷ fields) = omega arith
 

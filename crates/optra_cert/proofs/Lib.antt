@@ -24,3 +24,4 @@ pub mod RunLemmas
 pub mod BackSteps
 pub mod TextBack
 pub mod OneFault
+pub mod LongRows

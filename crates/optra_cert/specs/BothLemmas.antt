@@ -202,6 +202,7 @@ module _ {P Q : Type 0} (p : RowTexts P) (q : RowTexts Q) (apart : AreApart (bot
       versions = versions;
       columns = All-append (λ (kind : RowKind). All IsSoundColumn kind.columns) p.kinds q.kinds tp.columns tq.columns;
       words = All-append (λ (kind : RowKind). (is_utf8 kind.word ≡ true) × All IsTextColumn kind.columns) p.kinds q.kinds tp.words tq.words;
+      few = All-append (λ (kind : RowKind). length kind.columns < 32) p.kinds q.kinds tp.few tq.few;
       makes = makes;
       tells = tells;
       each = each;

@@ -20,7 +20,7 @@ use Rattle.optra_records.specs.Reading.{Field}
 use Rattle.optra_cert.specs.Headways.{headway_texts, window_kind, pair_kind, told_row, made_row_of, window_of, pair_of}
 use Rattle.optra_cert.specs.Columns.{Column, a_track, a_type, a_number, IsSoundColumn, IsTextColumn}
 use Rattle.optra_cert.specs.TextLemmas.{word_text}
-use Rattle.optra_cert.specs.RowTexts.{RowKind, AreTexts, FitsRow, TellsKinds, HasVersions, HasSoundColumns, HasTextWords, MakesTold, TellsMade, MakesEach}
+use Rattle.optra_cert.specs.RowTexts.{RowKind, AreTexts, FitsRow, TellsKinds, HasVersions, HasSoundColumns, HasTextWords, HasFewColumns, MakesTold, TellsMade, MakesEach}
 
 kinds_told : TellsKinds headway_texts
 kinds_told (Window track minute) = (0, omega arith, refl)
@@ -53,6 +53,11 @@ words =
     all_of : (columns : List Column) → AllByRecursion IsTextColumn columns → All IsTextColumn columns
     all_of [] h = All-nil IsTextColumn
     all_of (column ∷ columns) h = All-cons IsTextColumn column columns h.0 (all_of columns h.1)
+
+few : HasFewColumns headway_texts
+few =
+    let P : RowKind → Type 0 = λ kind. length kind.columns < 32 in
+    All-cons P window_kind (pair_kind ∷ []) (lit< tt) (All-cons P pair_kind [] (lit< tt) (All-nil P))
 
 makes : MakesTold headway_texts
 makes (Window track minute) = refl
@@ -118,7 +123,7 @@ each kind values in_ = by (in_from (window_kind ∷ pair_kind ∷ []) kind in_)
     by (inr (inr n)) long = absurd n
 
 pub headway_texts_are : AreTexts headway_texts
-headway_texts_are = record { kinds = kinds_told; versions = versions; columns = columns; words = words; makes = makes; tells = tells; each = each }
+headway_texts_are = record { kinds = kinds_told; versions = versions; columns = columns; words = words; few = few; makes = makes; tells = tells; each = each }
 
 -- a type that may use a track is there, and so is the track
 there : (net : Net) (track : TrackId) (kind : TypeId) → IsProper net → MayUse net track kind → IsTrack net track × IsKind net kind

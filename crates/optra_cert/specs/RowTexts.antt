@@ -1,5 +1,5 @@
 -- The texts of a family's rows: the kinds of rows, what a row tells, and what its fields are read as.
-use Rattle.std.specs.Prelude.{◌≡◌, ◌≢◌, ℕ, ◌≤◌, ◌&&◌, List, [], ◌∷◌, length, nat_le, true, find, All, Contains, Option, None, Some, IsSome, Result, Ok, Err, bytes_eq}
+use Rattle.std.specs.Prelude.{◌≡◌, ◌≢◌, ℕ, ◌≤◌, ◌<◌, ◌&&◌, List, [], ◌∷◌, length, nat_le, true, find, All, Contains, Option, None, Some, IsSome, Result, Ok, Err, bytes_eq}
 use Rattle.std.specs.List.{AllPairs, AllZip}
 use Rattle.std.specs.Str.{is_utf8}
 use Rattle.optra_network.specs.Net.{Net}
@@ -86,6 +86,10 @@ HasSoundColumns texts = All (λ kind. All IsSoundColumn kind.columns) texts.kind
 abbrev pub HasTextWords : {R : Type 0} → RowTexts R → Type 0
 HasTextWords texts = All (λ kind. (is_utf8 kind.word ≡ true) × All IsTextColumn kind.columns) texts.kinds
 
+-- a kind has at most 31 columns, so a row has at most 32 fields
+abbrev pub HasFewColumns : {R : Type 0} → RowTexts R → Type 0
+HasFewColumns texts = All (λ kind. length kind.columns < 32) texts.kinds
+
 -- what a row tells makes the row
 abbrev pub MakesTold : {R : Type 0} → RowTexts R → Type 0
 MakesTold {R} texts = (row : R) → texts.made (texts.told row).0.word (texts.told row).1 ≡ Some row
@@ -105,6 +109,7 @@ pub record AreTexts {R : Type 0} (texts : RowTexts R) : Type 0 where
   pub versions : HasVersions texts
   pub columns : HasSoundColumns texts
   pub words : HasTextWords texts
+  pub few : HasFewColumns texts
   pub makes : MakesTold texts
   pub tells : TellsMade texts
   pub each : MakesEach texts

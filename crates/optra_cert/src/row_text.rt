@@ -21,7 +21,7 @@ pub enum RowRead<R> {
     Number,
 }
 
-/// A family whose rows are told in the fields of records.
+/// A family whose rows are told in the fields of records, at most 32 a row.
 ///
 /// It means its version and a list of kinds of rows, each with its word, the version from which on it is there, and what
 /// the fields behind the word tell. The clauses of `read` and the laws are for families whose kinds have different words.

@@ -15,6 +15,9 @@ use csv::ByteRecord;
 use optra_network::{Cents, NoMemory};
 use std::alloc::Global;
 
+/// The most fields that a row of a family has.
+const MOST_FIELDS: usize = 32;
+
 /// Puts bytes at a place of cells.
 fn put(alloc: Global, cells: &mut Vec<Cell>, i: usize, bytes: &[u8]) -> Result<(), NoMemory>
     requires { i ≤ length cells.old.items }
@@ -59,6 +62,10 @@ pub fn row_told<F: RowText>(
     requires can { CanRead (F.texts_of frame.now.rows.now) frame.now.version }
     ensures { Gives (λ told. told) result (row_or_fault (read_row (F.texts_of frame.now.rows.now) frame.now.inst.net.now frame.now.version (take n (drop 1 (fields_of row.now))))) }
 {
+    // More fields tell no row, so they aren't held once more.
+    if n > MOST_FIELDS {
+        return Err(Refusal::Fault(CertCode::Record));
+    }
     put_fields(alloc, cells, row, n)?;
     match frame.rows.read(frame.inst.net, frame.version, &cells[..n]) {
         RowRead::Row(told) => Ok(told),
