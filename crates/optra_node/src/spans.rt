@@ -59,13 +59,7 @@ pub fn is_undecided(decisions: &[Decision], bid: u32, leg: Leg) -> bool
 }
 
 /// Whether each decision for the bid lets its walk have the leg.
-pub fn let_by(
-    net: &Network,
-    kind: TypeId,
-    decisions: &[Decision],
-    bid: u32,
-    leg: Leg,
-) -> bool
+pub fn let_by(net: &Network, kind: TypeId, decisions: &[Decision], bid: u32, leg: Leg) -> bool
     ensures { IsTrue result ↔ IsLetBy net.now decisions.now bid kind leg }
 {
     for decision in decisions {
