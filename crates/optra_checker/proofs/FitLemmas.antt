@@ -1,6 +1,6 @@
 -- Totals within capacities, leg by leg and bid by bid.
-use Rattle.std.proofs.Common.{◌≡◌, ℕ, zero, suc, ◌+◌, ◌<◌, ◌≤◌, ◌↔◌, true, List, [], ◌∷◌, ◌++◌, map, length, get_or, take, drop, sum_by, Option, None, Some, refl, sym, ap, ◌∙◌, subst, arith, inl, inr, add-one}
-use Rattle.std.specs.Prelude.{All, ◌⊎◌}
+use Rattle.std.proofs.Common.{◌≡◌, ℕ, zero, suc, ◌+◌, ◌<◌, ◌≤◌, ◌↔◌, true, List, [], ◌∷◌, ◌++◌, map, length, get_or, take, drop, sum_by, Option, None, Some, refl, sym, ap, ◌∙◌, arith, inl, inr, add-one}
+use Rattle.std.specs.Prelude.{All}
 use Rattle.std.proofs.lemmas.Bool.{cases_lt}
 use Rattle.std.proofs.lemmas.List.{append-nil}
 use Rattle.std.proofs.lemmas.List.Elements.{All-head, All-tail}

@@ -1,24 +1,23 @@
 -- The offers to a bid at a leaf, and the dual value that they add up to.
-use Rattle.std.proofs.Common.{◌≡◌, ◌≢◌, ℕ, zero, suc, ◌+◌, ◌*◌, ◌<◌, ◌≤◌, ◌↔◌, Bool, true, false, not, List, [], ◌∷◌, ◌++◌, length, get_or, Option, None, Some, slice_get, IfSome, refl, sym, ap, ◌∙◌, subst, arith, inl, inr}
-use Rattle.std.specs.Prelude.{All, ◌⊎◌, MatchOption, IsTrue, IsSomeAnd, is_some}
-use Rattle.std.specs.Prelude.{ℤ, pos, ◌+ℤ◌, ◌-ℤ◌, ◌*ℤ◌, ◌≤ℤ◌}
+use Rattle.std.proofs.Common.{◌≡◌, ℕ, zero, suc, ◌+◌, ◌<◌, ◌≤◌, ◌↔◌, Bool, true, false, not, List, [], ◌∷◌, ◌++◌, length, get_or, Option, None, Some, slice_get, IfSome, refl, sym, ap, ◌∙◌, subst, arith, inl, inr}
+use Rattle.std.specs.Prelude.{◌⊎◌, MatchOption, IsTrue, IsSomeAnd, is_some}
+use Rattle.std.specs.Prelude.{ℤ, pos, ◌+ℤ◌, ◌≤ℤ◌}
 use Rattle.std.specs.Option.{option_map_or}
 use Rattle.std.specs.declared.cmp.Ordering.{Ordering}
 use Rattle.std.proofs.lemmas.Bool.{cases_lt, false≢true}
 use Rattle.std.proofs.lemmas.Int.{ints}
 use Rattle.std.proofs.lemmas.List.{length-append}
-use Rattle.std.proofs.lemmas.Option.{slice_get-get_or, slice_get_within, get_or_from_slice_get}
+use Rattle.std.proofs.lemmas.Option.{slice_get_within}
 use Rattle.optra_network.specs.Net.{Net, IsProper}
 use Rattle.optra_network.specs.declared.TypeId.{TypeId}
 use Rattle.optra_bid.specs.declared.bids.Bid.{Bid}
 use Rattle.optra_walk.specs.declared.Leg.{Leg}
 use Rattle.optra_walk.specs.Families.{Rows, IsUsable, ListsRows}
 use Rattle.optra_walk.specs.Values.{first_departure}
-use Rattle.optra_walk.specs.Walks.{IsWalk}
 use Rattle.optra_walk.proofs.UsableLemmas.{walk_usable}
 use Rattle.optra_node.specs.declared.Decision.{Decision}
 use Rattle.optra_node.specs.Nodes.{has_yes, kind_at, IsAllowed}
-use Rattle.optra_node.specs.Duals.{sum_of, PriceList, capacity_price, IsGreatest, IsOffer, IsStuck, IsTerm, IsDead, IsDual, whole_cents}
+use Rattle.optra_node.specs.Duals.{sum_of, PriceList, capacity_price, IsGreatest, IsOffer, IsStuck, IsTerm, IsDead, whole_cents}
 use Rattle.optra_node.specs.Certificates.{IsBoundOf}
 use Rattle.optra_node.proofs.SpanLemmas.{tests_pass, passes_allowed}
 use Rattle.optra_node.proofs.SumLemmas.{sum_of-cons, sum_of-append}

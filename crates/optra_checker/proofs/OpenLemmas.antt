@@ -1,14 +1,13 @@
 -- An open node, with one decision more and one less.
-use Rattle.std.proofs.Common.{◌≡◌, ℕ, zero, suc, ◌+◌, ◌*◌, ◌<◌, ◌≤◌, ◌↔◌, Bool, true, false, cond, List, [], ◌∷◌, ◌++◌, length, get_or, Option, Some, None, slice_get, sum_by, refl, sym, ap, ◌∙◌, subst, arith}
+use Rattle.std.proofs.Common.{◌≡◌, ℕ, zero, suc, ◌+◌, ◌*◌, ◌<◌, ◌≤◌, ◌↔◌, Bool, true, false, cond, List, [], ◌∷◌, ◌++◌, length, get_or, Option, Some, None, slice_get, refl, sym, ap, ◌∙◌, subst, arith}
 use Rattle.std.specs.Prelude.{All, IsTrue, IsSome}
-use Rattle.std.specs.List.{AllPairs}
 use Rattle.std.specs.declared.cmp.Ordering.{Ordering}
 use Rattle.std.specs.BTreeMap.{BTreeMap}
 use Rattle.std.proofs.lemmas.Bool.{false≢true}
 use Rattle.std.proofs.lemmas.List.{length-append}
 use Rattle.std.proofs.lemmas.List.Elements.{All-head, All-tail}
 use Rattle.std.proofs.lemmas.List.Sums.{sum_by-append, sum_by-cons}
-use Rattle.optra_network.specs.Net.{Net, IsProper, MayUse, times_of}
+use Rattle.optra_network.specs.Net.{Net, MayUse, times_of}
 use Rattle.std.specs.Option.{option_map_or}
 use Rattle.optra_network.specs.declared.Times.{Times}
 use Rattle.optra_network.specs.declared.TypeId.{TypeId}
@@ -16,7 +15,7 @@ use Rattle.optra_bid.specs.declared.bids.Bid.{Bid}
 use Rattle.optra_walk.specs.declared.Leg.{Leg}
 use Rattle.optra_walk.specs.Families.{Rows, IsUsable, ListsRows}
 use Rattle.optra_node.specs.declared.Decision.{Decision}
-use Rattle.optra_node.specs.Nodes.{IsNode, IsFormedLeg, IsFormedDecision, IsUndecided, DecideApart, DecidesOnce, uses_at, yes_uses, yes_load}
+use Rattle.optra_node.specs.Nodes.{IsNode, IsFormedLeg, IsFormedDecision, IsUndecided, DecideApart, uses_at, yes_uses, yes_load}
 use Rattle.optra_node.specs.Summaries.{decisions_for, total_of, AreLoads, AreByBid}
 use Rattle.optra_node.proofs.NodeLemmas.{child_is_node}
 use Rattle.optra_node.proofs.SummaryLemmas.{all_for}

@@ -1,6 +1,6 @@
 -- The tests of a node as yes or no are its tests.
 use Rattle.std.proofs.Common.{◌≡◌, ℕ, zero, suc, ◌+◌, ◌<◌, ◌≤◌, ◌↔◌, Bool, true, false, not, cond, List, [], ◌∷◌, length, get_or, Option, Some, None, IfSome, refl, sym, ap, ◌∙◌, subst, arith, inl, inr}
-use Rattle.std.specs.Prelude.{All, IsTrue, ◌&&◌, ◌||◌, nat_eq, nat_lt, nat_le, Contains, ◌⊎◌}
+use Rattle.std.specs.Prelude.{All, ◌&&◌, ◌||◌, nat_eq, nat_lt, nat_le}
 use Rattle.std.specs.List.{list_all}
 use Rattle.std.specs.Option.{option_map_or}
 use Rattle.std.specs.declared.cmp.Ordering.{Ordering}
@@ -22,7 +22,6 @@ use Rattle.std.specs.Prelude.{pos, ◌*ℤ◌}
 use Rattle.optra_node.specs.Nodes.{IsBlocked, others_load}
 use Rattle.optra_node.specs.Duals.{PriceList, sum_of, leg_price}
 use Rattle.optra_node.specs.Spans.{HoldsMinute, Lets, IsLetBy, IsStartOk, IsLegOk}
-use Rattle.optra_node.proofs.LeastLemmas.{at_contains}
 use Rattle.optra_checker.specs.Tests.{may_start_at, same_action, same_leg, spans_minute, lets_leg, all_let, has_room, may_have_leg}
 
 same_read : {X : Type 0} (xs : List X) (k : ℕ) (d e : X) → k < length xs → get_or xs k e ≡ get_or xs k d

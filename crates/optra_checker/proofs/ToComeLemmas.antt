@@ -1,10 +1,10 @@
 -- The nodes still to come, with one decision more and one less.
-use Rattle.std.proofs.Common.{◌≡◌, Bool, true, false, cond, List, [], ◌∷◌, ◌++◌, refl, sym, ap, ◌∙◌, subst, append_assoc, inl, inr}
-use Rattle.std.specs.Prelude.{◌⊎◌, Result, Ok, Err, IfOk}
+use Rattle.std.proofs.Common.{◌≡◌, true, false, cond, List, [], ◌∷◌, ◌++◌, sym, ap, ◌∙◌, append_assoc}
+use Rattle.std.specs.Prelude.{Result, Ok, Err, IfOk}
 use Rattle.std.proofs.lemmas.List.{append-nil}
 use Rattle.optra_node.specs.declared.Decision.{Decision}
 use Rattle.optra_node.specs.Trees.{decide_not}
-use Rattle.optra_checker.specs.ToCome.{to_come_behind, to_come, open_with, IsNextWay}
+use Rattle.optra_checker.specs.ToCome.{to_come_behind, to_come, open_with}
 
 -- what a decision leaves to come beside what stands before it
 abbrev left_by : List Decision → Decision → List (List Decision)

@@ -1,5 +1,5 @@
 -- A usable leg is one that a node may be asked of.
-use Rattle.std.proofs.Common.{◌≡◌, ◌<◌, List, length, Option, Some, None, IsSome, IfSome}
+use Rattle.std.proofs.Common.{◌<◌, length, Option, Some, None, IsSome, IfSome}
 use Rattle.optra_network.specs.Net.{Net, IsProper, IsTrack, IsRunningRow, MayUse, times_of}
 use Rattle.optra_network.specs.declared.Times.{Times}
 use Rattle.optra_network.specs.declared.TrackId.{TrackId}

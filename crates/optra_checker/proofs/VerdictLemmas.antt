@@ -1,5 +1,5 @@
 -- Yes comes exactly where the certificate is valid.
-use Rattle.std.proofs.Common.{◌≡◌, ◌↔◌, List, sym}
+use Rattle.std.proofs.Common.{◌≡◌, ◌↔◌, List}
 use Rattle.std.specs.Prelude.{ℤ}
 use Rattle.optra_network.specs.Net.{Net}
 use Rattle.optra_bid.specs.declared.bids.Bid.{Bid}

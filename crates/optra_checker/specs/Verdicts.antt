@@ -1,6 +1,5 @@
 -- What a check of a certificate says.
-use Rattle.std.specs.Prelude.{◌≡◌, List, length, All, Option}
-use Rattle.std.specs.Prelude.{ℤ}
+use Rattle.std.specs.Prelude.{◌≡◌, List, All}
 use Rattle.optra_network.specs.Net.{Net}
 use Rattle.optra_bid.specs.declared.bids.Bid.{Bid}
 use Rattle.optra_walk.specs.Choices.{IsChoice, revenue_of}

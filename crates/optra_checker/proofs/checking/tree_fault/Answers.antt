@@ -1,7 +1,6 @@
-use Rattle.std.proofs.Common.{◌≡◌, ◌∙◌, List, sym, ap, subst, rules, w64}
-use Rattle.std.specs.Prelude.{All, ℤ, FitsSigned}
+use Rattle.std.proofs.Common.{◌∙◌, List, sym, ap, subst, rules, w64}
+use Rattle.std.specs.Prelude.{All, FitsSigned}
 use Rattle.std.proofs.lemmas.Int.{to_z-of_z}
-use Rattle.optra_node.specs.declared.Decision.{Decision}
 use Rattle.optra_node.specs.declared.Item.{Item}
 use Rattle.optra_node.specs.Trees.{places}
 use Rattle.optra_node.specs.Certificates.{SplitsUndecided, EndsDead, HasPrices, IsGreatestBound}

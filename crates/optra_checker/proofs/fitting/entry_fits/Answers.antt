@@ -1,4 +1,4 @@
-use Rattle.std.proofs.Common.{◌≡◌, ℕ, ◌+◌, ◌++◌, ◌∷◌, [], ◌↔◌, map, sym, ◌∙◌, ap, subst, List, Bool}
+use Rattle.std.proofs.Common.{◌≡◌, ◌+◌, ◌∷◌, [], ◌↔◌, map, sym, ◌∙◌, ap, subst, List}
 use Rattle.std.specs.Prelude.{All, IsTrue, IfOk, IfSome}
 use Rattle.std.proofs.lemmas.List.{append-nil}
 use Rattle.optra_network.specs.declared.TypeId.{TypeId}

@@ -1,4 +1,4 @@
-use Rattle.std.proofs.Common.{◌≡◌, ℕ, ◌<◌, ◌≤◌, IfSome, slice_get}
+use Rattle.std.proofs.Common.{ℕ, ◌<◌, ◌≤◌, IfSome, slice_get}
 use Rattle.optra_node.specs.Summaries.{total_of}
 use Rattle.optra_checker.proofs.fitting.is_within.Given as goal
 

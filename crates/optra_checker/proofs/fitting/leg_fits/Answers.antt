@@ -1,4 +1,3 @@
-use Rattle.std.proofs.Common.{◌≡◌, ℕ, ◌<◌, ◌≤◌}
 use Rattle.optra_node.specs.Summaries.{total_of}
 use Rattle.optra_checker.proofs.FitLemmas.{leg_within}
 use Rattle.optra_checker.proofs.fitting.leg_fits.Goals as goal

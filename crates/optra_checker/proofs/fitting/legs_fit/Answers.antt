@@ -1,4 +1,4 @@
-use Rattle.std.proofs.Common.{◌≡◌, ℕ, ◌+◌, ◌≤◌, map, length, sym, ◌∙◌, ap, refl, arith, false}
+use Rattle.std.proofs.Common.{◌+◌, map, sym, ◌∙◌, ap, refl, arith, false}
 use Rattle.std.proofs.lemmas.List.{take_all}
 use Rattle.optra_walk.specs.declared.Action.TheVariants.{Pass}
 use Rattle.optra_walk.specs.declared.Leg.{Leg}

@@ -1,5 +1,5 @@
-use Rattle.std.proofs.Common.{◌≡◌, ℕ, ◌+◌, ◌<◌, ◌≤◌, ◌∷◌, [], length, drop, sym, ◌∙◌, ap, refl, arith}
-use Rattle.optra_walk.specs.Families.{load_of, entries_of, IsUsable}
+use Rattle.std.proofs.Common.{◌+◌, ◌<◌, ◌∷◌, [], length, refl, arith}
+use Rattle.optra_walk.specs.Families.{load_of, entries_of}
 use Rattle.optra_walk.proofs.UsableLemmas.{choice_usable}
 use Rattle.optra_node.specs.Summaries.{total_of}
 use Rattle.optra_checker.proofs.AtLemmas.{no_true, not_both}

@@ -1,8 +1,6 @@
-use Rattle.std.proofs.Common.{◌≡◌, ◌∙◌, sym, ap, rules, arith, w64}
+use Rattle.std.proofs.Common.{◌∙◌, sym, ap, rules, arith, w64}
 use Rattle.std.specs.Prelude.{ℤ, pos, ◌*ℤ◌, FitsSigned}
-use Rattle.std.specs.Ordering.{eq_by_cmp}
 use Rattle.std.proofs.lemmas.Int.{ints, to_z-of_z}
-use Rattle.optra_node.specs.Duals.{price_of}
 use Rattle.optra_checker.proofs.LeafPriceLemmas.{term_more, uses_more, times_range}
 use Rattle.optra_checker.proofs.leaf_prices.leg_price.Goals as goal
 

@@ -1,9 +1,5 @@
-use Rattle.std.proofs.Common.{◌≡◌, ◌<◌, ◌≤◌, length, get_or, rules, sym, ◌∙◌, subst, arith, inl, inr, ap, w64}
-use Rattle.std.specs.Prelude.{◌⊎◌, ℤ, pos, MatchResult, FitsSigned}
-use Rattle.std.specs.Ordering.{eq_by_cmp}
-use Rattle.std.specs.List.Sorted.{IsBinarySearchResult}
-use Rattle.std.specs.declared.cmp.Ordering.TheVariants.{Less, Equal, Greater}
-use Rattle.std.proofs.lemmas.Bool.{cases_lt}
+use Rattle.std.proofs.Common.{◌<◌, ◌≤◌, length, get_or, rules, sym, ◌∙◌, subst, w64}
+use Rattle.std.specs.Prelude.{MatchResult, FitsSigned}
 use Rattle.std.proofs.lemmas.Int.{to_z-of_z}
 use Rattle.std.proofs.lemmas.List.Sorted.{answers_always}
 use Rattle.optra_checker.proofs.LeafPriceLemmas.{price_found, price_missing, may_search, found_at, missing_at}

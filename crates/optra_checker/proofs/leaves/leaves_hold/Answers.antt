@@ -1,4 +1,4 @@
-use Rattle.std.proofs.Common.{◌≡◌, ◌↔◌, List, Bool, true, false, refl, sym, ◌∙◌, subst}
+use Rattle.std.proofs.Common.{◌↔◌, List, refl, subst}
 use Rattle.std.specs.Prelude.{IsTrue}
 use Rattle.optra_node.specs.declared.Decision.{Decision}
 use Rattle.optra_node.specs.declared.Item.{Item}

@@ -1,4 +1,4 @@
-use Rattle.std.proofs.Common.{map, sym, ◌∙◌, ap, subst, ◌≡◌, ◌+◌, ◌-◌, ◌<◌, ◌++◌, ◌∷◌, [], get_or, take, vec_len, arith, length, Vec, Global}
+use Rattle.std.proofs.Common.{map, sym, ◌∙◌, ap, subst, ◌≡◌, ◌-◌, ◌<◌, [], get_or, take, vec_len, arith, length, Vec, Global}
 use Rattle.std.proofs.lemmas.List.{get_or-map, length-map, map-set}
 use Rattle.optra_node.specs.declared.Decision.{Decision}
 use Rattle.optra_node.specs.Summaries.{AreByBid}

@@ -1,6 +1,6 @@
 use Rattle.std.proofs.Common.{◌≡◌, ◌↔◌, ◌∙◌, ap, sym, subst}
 use Rattle.std.specs.Prelude.{IsTrue}
-use Rattle.optra_node.specs.Nodes.{kind_at, IsFormedLeg, IsBlocked}
+use Rattle.optra_node.specs.Nodes.{kind_at, IsBlocked}
 use Rattle.optra_node.specs.Summaries.{Summed, decisions_for}
 use Rattle.optra_node.proofs.SummaryLemmas.{own_formed, own_within, blocked_beside}
 use Rattle.optra_checker.proofs.open_node.OpenNode.blocked.Goals as goal

@@ -1,4 +1,4 @@
-use Rattle.std.proofs.Common.{◌≡◌, ◌∙◌, ap}
+use Rattle.std.proofs.Common.{◌∙◌, ap}
 use Rattle.optra_node.specs.Nodes.{kind_at}
 use Rattle.optra_node.proofs.SummaryLemmas.{let_by_own}
 use Rattle.optra_checker.proofs.open_node.OpenNode.let_by.Goals as goal

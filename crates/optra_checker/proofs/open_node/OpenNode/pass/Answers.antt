@@ -2,7 +2,7 @@ use Rattle.std.proofs.Common.{◌≡◌, ◌++◌, ◌∷◌, [], refl, sym, ◌
 use Rattle.optra_node.specs.declared.Decision.{Decision}
 use Rattle.optra_node.specs.Summaries.{Summed, summed}
 use Rattle.optra_node.specs.Trees.{decide, decide_not, children}
-use Rattle.optra_checker.specs.ToCome.{to_come, open_with, IsNextWay}
+use Rattle.optra_checker.specs.ToCome.{to_come, IsNextWay}
 use Rattle.optra_checker.proofs.ToComeLemmas.{split_opens, if_ok}
 use Rattle.optra_checker.proofs.open_node.OpenNode.pass.Goals as goal
 

@@ -1,8 +1,7 @@
 use Rattle.std.proofs.Common.{◌≡◌, ◌++◌, ◌∷◌, [], sym, ◌∙◌, ap, inr}
 use Rattle.optra_node.specs.Summaries.{Summed, summed}
 use Rattle.optra_node.specs.Trees.{decide_not}
-use Rattle.optra_checker.specs.Opens.{AreSame}
-use Rattle.optra_checker.specs.ToCome.{to_come, open_with, IsNextWay}
+use Rattle.optra_checker.specs.ToCome.{to_come, IsNextWay}
 use Rattle.optra_checker.proofs.ToComeLemmas.{no_leaves_none, yes_leaves_no, if_ok}
 use Rattle.optra_checker.proofs.open_node.OpenNode.turn.Goals as goal
 
