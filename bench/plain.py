@@ -329,17 +329,29 @@ def field(text):
     return '"' + text.replace('"', '""') + '"' if any(c in text for c in ',"\r\n') else text
 
 
-def plan_text(net, bids, plan):
-    lines = [("status", "optimal" if plan.bound == plan.revenue else "gap"), ("revenue", plan.revenue), ("bound", plan.bound),
-             ("nodes", plan.nodes)]
-    for number, (bid, walk) in enumerate(zip(bids, plan.choice), start=1):
+def head_lines(plan):
+    return [("status", "optimal" if plan.bound == plan.revenue else "gap"), ("revenue", plan.revenue), ("bound", plan.bound),
+            ("nodes", plan.nodes)]
+
+
+def train_lines(net, bids, choice):
+    lines = []
+    for number, (bid, walk) in enumerate(zip(bids, choice), start=1):
         if walk:
             lines.append(("train", number, bid.name, bid.bidder, walk.value))
             for leg in walk.legs:
                 track = net.tracks[leg.track]
                 lines.append(("leg", track.name, net.stations[track.tail], leg.depart, net.stations[track.head],
                               arrival(net, bid.kind, leg), ACTIONS[leg.action], leg.dwell))
+    return lines
+
+
+def text_of(lines):
     return "".join(",".join(field(str(part)) for part in line) + "\n" for line in lines)
+
+
+def plan_text(net, bids, plan):
+    return text_of(head_lines(plan) + train_lines(net, bids, plan.choice))
 
 
 def leg_text(net, leg):
