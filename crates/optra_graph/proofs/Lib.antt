@@ -17,6 +17,6 @@ pub mod LegLemmas
 pub mod GraphLemmas
 pub mod TimedLemmas
 pub mod RouteLemmas
-pub mod ChainLemmas
-pub mod ServeLemmas
+pub mod KeyLemmas
+pub mod KeepLemmas
 pub mod AllRoutes

@@ -10,5 +10,6 @@ pub mod Graphs
 pub mod Nodes
 pub mod Settings
 pub mod Served
-pub mod Chains
+pub mod Keys
+pub mod GraphMaps
 pub mod FreshParts

@@ -3,7 +3,7 @@
 
 mod building;
 mod emitting;
-mod finding;
+mod graph_map;
 mod numbering;
 mod reaching;
 mod serving;
@@ -12,5 +12,6 @@ mod stepping;
 mod timegraphs;
 
 pub use building::{Builds, build};
+pub use graph_map::GraphMap;
 pub use serving::{FreshGraphs, Graphs};
 pub use timegraphs::TimeGraph;

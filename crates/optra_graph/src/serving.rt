@@ -1,12 +1,11 @@
 //! Who serves the graphs of bids.
-ghost use Rattle.std.specs.Prelude.{◌≡◌, ◌⊎◌, ℕ, Bool, true, List, [], map, All, Contains, OnOk, IfOk};
+ghost use Rattle.std.specs.Prelude.{◌≡◌, ◌⊎◌, ℕ, Bool, true, List, [], map, All, Contains, OnOk};
 ghost use Rattle.optra_network.specs.Net.{Net};
 ghost use Rattle.optra_bid.specs.Specs.{Path, IsPathOn};
-ghost use Rattle.optra_graph.specs.Served.{path_of, IsServed};
 ghost use Rattle.optra_graph.specs.Timed.{IsGraphOf};
 
-use crate::building::{Builds, build};
-use crate::finding::Index;
+use crate::building::Builds;
+use crate::graph_map::GraphMap;
 use crate::timegraphs::TimeGraph;
 use optra_bid::Bid;
 use optra_network::{Network, NoMemory};
@@ -48,11 +47,11 @@ pub trait Graphs {
         ensures { result ≡ built self.now };
 }
 
-/// Graphs that are built anew, one for each bid, whenever some are prepared. Those held before are then let go.
+/// Graphs that are built anew, one for each path specification, whenever some are prepared. Those held before are then let go.
 #[derive(Drop)]
 pub struct FreshGraphs<'n> {
     net: &'n Network,
-    served: Option<Index>,
+    served: Option<GraphMap>,
     builds: Builds,
 }
 
@@ -94,7 +93,9 @@ impl Graphs for FreshGraphs<'_> {
 
     fn prepare(&mut self, alloc: Global, bids: &[Bid]) -> Result<(), NoMemory> {
         self.served = None;
-        self.served = Some(build_all(alloc, self.net, bids, &mut self.builds)?);
+        let mut served = GraphMap::new(alloc);
+        served.keep_all(alloc, self.net, bids, &mut self.builds)?;
+        self.served = Some(served);
         Ok(())
     }
 
@@ -111,24 +112,4 @@ impl Graphs for FreshGraphs<'_> {
     fn builds(&self) -> u64 {
         self.builds.count()
     }
-}
-
-/// A graph for each of the bids.
-fn build_all(
-    alloc: Global,
-    net: &Network,
-    bids: &[Bid],
-    builds: &mut Builds,
-) -> Result<Index, NoMemory>
-    requires { All (λ bid. IsPathOn net.now bid.path) bids.now }
-    ensures paths { IfOk result (λ served. map path_of served ≡ map (λ bid. bid.path) bids.now) }
-    ensures graphs { IfOk result (λ served. All (IsServed net.now) served) }
-{
-    let mut served = Index::new(alloc, bids.len())?;
-    for bid in bids {
-        let graph = build(alloc, net, bid, builds)?;
-        let bid = bid.copied(alloc)?;
-        served.add(bid, graph)?;
-    }
-    Ok(served)
 }
