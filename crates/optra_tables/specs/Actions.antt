@@ -29,16 +29,20 @@ word_of text =
     else if bytes_eq text (codes "withdraw") then Some words.Withdraw
     else None
 
+-- the amount of a record, in cents
+abbrev pub amount_at : ℕ → Record → Result ℤ TableFault
+amount_at row fields = number_at tables.Actions row fields 5 >>= λ cents. Ok (pos cents)
+
 -- What a record asks of a bid for a bidder. The spec is read to open and to amend, the amount to open and to raise; no
 -- other field is read behind the bid. Another word asks for nothing.
 unfoldable pub asked_at : ℕ → Record → Field → Field → Option Word → Result (Option Act) TableFault
 asked_at row fields bidder bid (Some words.Open) = do
   spec ← name_at tables.Actions row fields 4
-  amount ← number_at tables.Actions row fields 5
-  Ok (Some (Opening bidder bid spec (pos amount)))
+  amount ← amount_at row fields
+  Ok (Some (Opening bidder bid spec amount))
 asked_at row fields bidder bid (Some words.Raise) = do
-  amount ← number_at tables.Actions row fields 5
-  Ok (Some (Raise bidder bid (pos amount)))
+  amount ← amount_at row fields
+  Ok (Some (Raise bidder bid amount))
 asked_at row fields bidder bid (Some words.Amend) = do
   spec ← name_at tables.Actions row fields 4
   Ok (Some (Amend bidder bid spec))
@@ -63,21 +67,27 @@ has_amount (Raise bidder bid amount) = is_amount amount
 has_amount (Amend bidder bid spec) = true
 has_amount (Withdraw bidder bid) = true
 
+-- what a record says, by its form alone: its round and what it asks for
+unfoldable pub told_at : ℕ → Record → Result (ℕ × Option Act) TableFault
+told_at row fields = do
+  form ← shaped tables.Actions row 6 fields
+  round ← number_at tables.Actions row fields 0
+  bidder ← name_at tables.Actions row fields 1
+  bid ← name_at tables.Actions row fields 3
+  asked ← asked_at row fields bidder bid (word_of (field fields 2))
+  Ok (round, asked)
+
 abbrev pub timed : ℕ → ℕ → Act → TimedAct
 timed row round act = record { row = row; round = round; act = act }
 
 -- the actions and one more: there are 100,000 already, its word is none of the four, or its round or amount is out of range
 unfoldable pub action_row : List TimedAct → ℕ → Record → Result (List TimedAct) TableFault
 action_row actions row fields = do
-  form ← shaped tables.Actions row 6 fields
-  round ← number_at tables.Actions row fields 0
-  bidder ← name_at tables.Actions row fields 1
-  bid ← name_at tables.Actions row fields 3
-  asked ← asked_at row fields bidder bid (word_of (field fields 2))
+  told ← told_at row fields
   few ← guard (fault tables.Actions row (kinds.Net TooMany)) (nat_lt (length actions) 100000)
-  act ← or_fault (fault tables.Actions row (kinds.Net UnknownName)) asked
-  within ← guard (fault tables.Actions row (kinds.Net Range)) (is_round round && has_amount act)
-  Ok (actions ++ timed row round act ∷ [])
+  act ← or_fault (fault tables.Actions row (kinds.Net UnknownName)) told.1
+  within ← guard (fault tables.Actions row (kinds.Net Range)) (is_round told.0 && has_amount act)
+  Ok (actions ++ timed row told.0 act ∷ [])
 
 -- The actions that a table means, in the order of its records, or its first fault.
 unfoldable pub actions_of : List ℕ → Result (List TimedAct) TableFault

@@ -1,11 +1,11 @@
 -- The rules of an auction that a table means, or its first fault.
-use Rattle.std.specs.Prelude.{ℕ, ◌&&◌, nat_le, pos, Bool, List, [], ◌∷◌, Option, None, Some, Result, Ok, Err, codes}
+use Rattle.std.specs.Prelude.{ℕ, ◌&&◌, nat_le, pos, Bool, List, [], ◌∷◌, Result, Ok, Err, codes}
 use Rattle.optra_auction.specs.declared.Rules.{Rules}
 use Rattle.optra_network.specs.declared.NetRefusal.TheVariants.{Range}
-use Rattle.optra_records.specs.Reading.{Record}
+use Rattle.optra_records.specs.Reading.{Record, table_records}
 use Rattle.optra_tables.specs.Fields.{number_at, shaped}
-use Rattle.optra_tables.specs.Outcomes.{◌>>=◌, fault, guard, or_fault}
-use Rattle.optra_tables.specs.Rows.{table_read}
+use Rattle.optra_tables.specs.Outcomes.{◌>>=◌, fault, guard}
+use Rattle.optra_tables.specs.Rows.{under_header}
 use Rattle.optra_tables.specs.declared.Kind.TheVariants as kinds
 use Rattle.optra_tables.specs.declared.Table.TheVariants as tables
 use Rattle.optra_tables.specs.declared.TableFault.{TableFault}
@@ -28,13 +28,13 @@ rules_at row fields = do
   within ← guard (fault tables.Rules row (kinds.Net Range)) (are_rules min_increment permille rounds)
   Ok (record { min_increment = pos min_increment; permille = permille; rounds = rounds })
 
--- the rules of the first record; a further record is one too many
-unfoldable pub rules_row : Option Rules → ℕ → Record → Result (Option Rules) TableFault
-rules_row None row fields = rules_at row fields >>= λ rules. Ok (Some rules)
-rules_row (Some rules) row fields = Err (fault tables.Rules row kinds.Csv)
+-- the rules of the records under the header, which have to be one record: Csv at row 2 without one, and at row 3, after the
+-- tests of row 2, with one more
+unfoldable pub only_rules : List Record → Result Rules TableFault
+only_rules [] = Err (fault tables.Rules 2 kinds.Csv)
+only_rules (fields ∷ []) = rules_at 2 fields
+only_rules (fields ∷ next ∷ rest) = rules_at 2 fields >>= λ rules. Err (fault tables.Rules 3 kinds.Csv)
 
--- The rules that a table means, or its first fault. Without a record of rules, that is Csv at row 2.
+-- The rules that a table means, or its first fault.
 unfoldable pub rules_of : List ℕ → Result Rules TableFault
-rules_of bytes = do
-  read ← table_read rules_row tables.Rules rules_header None bytes
-  or_fault (fault tables.Rules 2 kinds.Csv) read
+rules_of bytes = under_header tables.Rules rules_header (table_records bytes) >>= only_rules

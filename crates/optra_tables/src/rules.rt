@@ -1,10 +1,10 @@
 //! The table of an auction's rules.
 
-ghost use Rattle.std.specs.Prelude.{◌≡◌, IfOk, map};
+ghost use Rattle.std.specs.Prelude.{◌≡◌, IfOk};
 ghost use Rattle.csv.specs.Records.{fields_of};
 ghost use Rattle.optra_auction.specs.Machine.{AreRules};
 ghost use Rattle.optra_tables.specs.Outcomes.{Gives};
-ghost use Rattle.optra_tables.specs.Rules.{are_rules, rules_at, rules_of};
+ghost use Rattle.optra_tables.specs.Rules.{are_rules, only_rules, rules_at, rules_of};
 
 use crate::fields::{number_at, shaped};
 use crate::outcomes::fails;
@@ -47,6 +47,20 @@ fn rules_at(row: u32, cells: &ByteRecord) -> Result<Rules, ReadError>
     })
 }
 
+/// The rules of the records under the header, which have to be one record.
+fn only_rules(records: &mut Records<'_>, cells: &mut ByteRecord) -> Result<Rules, ReadError>
+    ensures { Gives (λ rules. rules) result (only_rules records.old) }
+{
+    if !records.next(cells)? {
+        return fails(Table::Rules, FIRST_ROW, Kind::Csv);
+    }
+    let rules = rules_at(FIRST_ROW, cells)?;
+    if records.next(cells)? {
+        return fails(Table::Rules, FIRST_ROW + 1, Kind::Csv);
+    }
+    Ok(rules)
+}
+
 /// The header of the rules.
 const RULES_HEADER: [&str; 3] = ["min_increment", "permille", "rounds"];
 
@@ -65,12 +79,5 @@ pub fn read_rules(alloc: Global, bytes: &[u8]) -> Result<Rules, ReadError>
     let mut cells = ByteRecord::new(alloc);
     let mut records = Records::of_table(alloc, bytes);
     under_header(Table::Rules, &RULES_HEADER, &mut records, &mut cells)?;
-    if !records.next(&mut cells)? {
-        return fails(Table::Rules, FIRST_ROW, Kind::Csv);
-    }
-    let rules = rules_at(FIRST_ROW, &cells)?;
-    if records.next(&mut cells)? {
-        return fails(Table::Rules, FIRST_ROW + 1, Kind::Csv);
-    }
-    Ok(rules)
+    only_rules(&mut records, &mut cells)
 }
