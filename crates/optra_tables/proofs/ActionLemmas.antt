@@ -10,22 +10,18 @@ use Rattle.optra_auction.specs.declared.Act.{Act}
 use Rattle.optra_auction.specs.declared.Act.TheVariants.{Opening, Raise, Amend, Withdraw}
 use Rattle.optra_records.specs.Reading.{Field, Record, table_records}
 use Rattle.optra_tables.specs.Actions.{AreActions, IsRound, action_row, actions_header, actions_of, amount_at, asked_at, has_amount, is_amount, is_round, timed, told_at, word_of}
-use Rattle.optra_tables.specs.Fields.{field, name_at, number_at, shaped}
-use Rattle.optra_tables.specs.Outcomes.{Fails, guard, or_fault}
-use Rattle.optra_tables.specs.Rows.{rows_from, table_read, under_header}
-use Rattle.optra_tables.specs.declared.ReadError.{ReadError}
+use Rattle.optra_records.specs.Tables.{field, rows_from, table_of}
+use Rattle.optra_tables.specs.Fields.{name_at, number_at, shaped}
+use Rattle.optra_tables.specs.Outcomes.{guard, or_fault}
+use Rattle.optra_tables.specs.Rows.{under_header}
 use Rattle.optra_tables.specs.declared.Table.TheVariants as tables
 use Rattle.optra_tables.specs.declared.TableFault.{TableFault}
 use Rattle.optra_tables.specs.declared.TimedAct.{TimedAct}
 use Rattle.optra_tables.specs.declared.actions.Word.{Word}
 use Rattle.optra_tables.specs.declared.actions.Word.TheVariants as words
-use Rattle.optra_tables.proofs.BidStepLemmas.{from_guard, from_or_fault}
-use Rattle.optra_tables.proofs.RowLemmas.{table_fails, table_rows}
-use Rattle.optra_tables.proofs.RulesLemmas.{pos_le}
+use Rattle.optra_tables.proofs.BidStepLemmas.{from_guard, from_ok, from_or_fault}
+use Rattle.optra_tables.proofs.RulesLemmas.{both, pos_le}
 use Rattle.optra_tables.proofs.StepLemmas.{from_bind}
-
-from_ok : {A : Type 0} (x y : A) → ◌≡◌ {A = Result A TableFault} (Ok x) (Ok y) → x ≡ y
-from_ok x y e = cc e
 
 abbrev okay : {A : Type 0} → A → Result A TableFault
 okay x = Ok x
@@ -38,11 +34,6 @@ pub record Adds (actions new : List TimedAct) (row : ℕ) : Type 0 where
   pub row_is : added.row ≡ row
   pub amount : HasAmount added.act
   pub round : IsRound added.round
-
-both : (a b : Bool) → (a && b) ≡ true → (a ≡ true) × (b ≡ true)
-both true true e = (refl, refl)
-both true false e = absurd (cc e)
-both false b e = absurd (cc e)
 
 not_true : (b : Bool) → not b ≡ true → b ≡ false
 not_true true e = absurd (cc e)
@@ -173,17 +164,7 @@ none_before = record {
 
 -- What all actions keep that a table means.
 pub actions_kept : (bytes : List ℕ) (actions : List TimedAct) → actions_of bytes ≡ Ok actions → AreActions actions
-unfolding actions_of table_read
+unfolding actions_of table_of
 actions_kept bytes actions e =
     let rows = from_bind (under_header tables.Actions actions_header (table_records bytes)) _ actions e in
     rows_kept rows.0 [] actions 2 rows.2 none_before
-
--- a fault of the header is that of the table
-pub header_fails : (bytes : List ℕ) (e : ReadError) → Fails e (under_header tables.Actions actions_header (table_records bytes)) → Fails e (actions_of bytes)
-unfolding actions_of
-header_fails bytes e h = table_fails action_row tables.Actions actions_header [] bytes e h
-
--- under its header a table gives what its rows give
-pub actions_under : (bytes : List ℕ) (rest : List Record) → under_header tables.Actions actions_header (table_records bytes) ≡ Ok rest → actions_of bytes ≡ rows_from action_row [] 2 rest
-unfolding actions_of
-actions_under bytes rest h = table_rows action_row tables.Actions actions_header [] bytes rest h

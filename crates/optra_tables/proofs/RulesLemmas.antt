@@ -13,15 +13,11 @@ use Rattle.optra_tables.specs.Rules.{are_rules, only_rules, rules_at, rules_head
 use Rattle.optra_tables.specs.declared.Kind.TheVariants as kinds
 use Rattle.optra_tables.specs.declared.ReadError.{ReadError}
 use Rattle.optra_tables.specs.declared.Table.TheVariants as tables
-use Rattle.optra_tables.specs.declared.TableFault.{TableFault}
-use Rattle.optra_tables.proofs.BidStepLemmas.{from_guard}
+use Rattle.optra_tables.proofs.BidStepLemmas.{from_guard, from_ok}
 use Rattle.optra_tables.proofs.RowLemmas.{fails_bind}
 use Rattle.optra_tables.proofs.StepLemmas.{from_bind}
 
-from_ok : {A : Type 0} (x y : A) → ◌≡◌ {A = Result A TableFault} (Ok x) (Ok y) → x ≡ y
-from_ok x y e = cc e
-
-both : (a b : Bool) → (a && b) ≡ true → (a ≡ true) × (b ≡ true)
+pub both : (a b : Bool) → (a && b) ≡ true → (a ≡ true) × (b ≡ true)
 both true true e = (refl, refl)
 both true false e = absurd (cc e)
 both false b e = absurd (cc e)

@@ -7,7 +7,8 @@ use Rattle.optra_auction.specs.declared.Act.{Act}
 use Rattle.optra_auction.specs.declared.Act.TheVariants.{Opening, Raise, Amend, Withdraw}
 use Rattle.optra_network.specs.declared.NetRefusal.TheVariants.{Range, TooMany, UnknownName}
 use Rattle.optra_records.specs.Reading.{Field, Record}
-use Rattle.optra_tables.specs.Fields.{field, name_at, number_at, shaped}
+use Rattle.optra_records.specs.Tables.{field}
+use Rattle.optra_tables.specs.Fields.{name_at, number_at, shaped}
 use Rattle.optra_tables.specs.Outcomes.{◌>>=◌, fault, guard, or_fault}
 use Rattle.optra_tables.specs.Rows.{table_read}
 use Rattle.optra_tables.specs.declared.Kind.TheVariants as kinds

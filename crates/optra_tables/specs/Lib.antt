@@ -7,4 +7,5 @@ pub mod Bids
 pub mod Stops
 pub mod Rules
 pub mod Actions
+pub mod Room
 pub mod Written

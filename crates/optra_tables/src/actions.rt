@@ -2,21 +2,23 @@
 
 ghost use Rattle.std.specs.Prelude.{◌≡◌, ◌≤◌, IfOk, length};
 ghost use Rattle.csv.specs.Records.{fields_of};
-ghost use Rattle.optra_tables.specs.Actions.{AreActions, action_row, actions_of, amount_at, asked_at, has_amount, is_amount, is_round, told_at, word_of};
-ghost use Rattle.optra_tables.specs.Fields.{field, name_at};
+ghost use Rattle.optra_records.specs.Tables.{field};
+ghost use Rattle.optra_tables.specs.Actions.{AreActions, action_row, actions_header, actions_of, amount_at, asked_at, has_amount, is_amount, is_round, told_at, word_of};
+ghost use Rattle.optra_tables.specs.Fields.{name_at};
 ghost use Rattle.optra_tables.specs.Outcomes.{Gives};
-ghost use Rattle.optra_tables.specs.Rows.{rows_from};
+ghost use Rattle.optra_tables.specs.Rows.{table_read};
 
+use crate::action_list::ActionList;
 use crate::bids::name_from;
-use crate::fields::{field, name_at, number_at, shaped};
-use crate::outcomes::fails;
-use crate::rows::{FIRST_ROW, is_cell, under_header};
-use crate::{Kind, ReadError, Table, TimedAct};
+use crate::fields::{name_at, number_at, shaped};
+use crate::outcomes::{fails, row_answer};
+use crate::rows::read_rows;
+use crate::{Kind, ReadError, Table, TableFault, TimedAct};
 use csv::ByteRecord;
 use optra_auction::Act;
 use optra_bid::Name;
 use optra_network::{Cents, NetRefusal};
-use optra_records::{Records, number};
+use optra_records::{TableError, TableRows, is_cell};
 use std::alloc::Global;
 
 /// The most actions of a table.
@@ -62,10 +64,8 @@ fn name_in(alloc: Global, row: u32, cells: &ByteRecord, i: usize) -> Result<Name
 fn amount_at(row: u32, cells: &ByteRecord) -> Result<Cents, ReadError>
     ensures { Gives (λ cents. cents) result (amount_at row (fields_of cells.now)) }
 {
-    match number(field(cells, 5)) {
-        Some(cents) => Ok(cents as i64),
-        None => fails(Table::Actions, row, Kind::Number),
-    }
+    let cents = number_at(Table::Actions, row, cells, 5)?;
+    Ok(cents as i64)
 }
 
 /// What a record asks of a bid for a bidder.
@@ -151,11 +151,11 @@ fn is_round(round: u64) -> bool
 #[tactic(auto, unfolding(crate::specs::Actions::action_row))]
 fn read_row(
     alloc: Global,
-    actions: &mut Vec<TimedAct>,
+    actions: &mut ActionList,
     row: u32,
     cells: &ByteRecord,
 ) -> Result<(), ReadError>
-    ensures { Gives (λ _. actions.new.items) result (action_row actions.old.items row (fields_of cells.now)) }
+    ensures { Gives (λ _. actions.new) result (action_row actions.old row (fields_of cells.now)) }
 {
     let (round, asked) = told_at(alloc, row, cells)?;
     if actions.len() >= MOST_ACTIONS {
@@ -172,26 +172,60 @@ fn read_row(
     Ok(())
 }
 
-/// Reads the records that are left.
-fn read_rows(
-    alloc: Global,
-    actions: &mut Vec<TimedAct>,
-    records: &mut Records<'_>,
-    cells: &mut ByteRecord,
-) -> Result<(), ReadError>
-    requires { length actions.old.items ≤ 100000 }
-    ensures { Gives (λ _. actions.new.items) result (rows_from action_row actions.old.items 2 records.old) }
-{
-    let mut row = FIRST_ROW;
-    'rows: while records.next(cells)? {
-        read_row(alloc, actions, row, cells)?;
-        row += 1;
+/// The records of the actions.
+struct ActionRows;
+
+impl TableRows for ActionRows {
+    ghost use Rattle.std.specs.Prelude.{◌≤◌, length};
+    ghost use Rattle.optra_tables.specs.Actions.{action_row};
+    ghost use Rattle.optra_tables.specs.Room.{actions_room};
+
+    type Known = ActionList;
+
+    type Context = ();
+
+    type Fault = TableFault;
+
+    ghost step = { λ _. action_row };
+
+    ghost is_kept = { λ actions. length actions ≤ 100000 };
+
+    ghost room = { actions_room };
+
+    fn add(
+        alloc: Global,
+        _context: &(),
+        actions: &mut ActionList,
+        row: u32,
+        cells: &ByteRecord,
+    ) -> Result<(), TableError<TableFault>> {
+        row_answer(read_row(alloc, actions, row, cells))
     }
-    Ok(())
 }
 
 /// The header of the actions.
 const ACTIONS_HEADER: [&str; 6] = ["round", "bidder", "action", "bid", "spec", "amount"];
+
+/// Reads the table of actions.
+fn read_table(
+    alloc: Global,
+    actions: &mut ActionList,
+    cells: &mut ByteRecord,
+    bytes: &[u8],
+) -> Result<(), ReadError>
+    requires { length actions.old ≤ 100000 }
+    ensures { Gives (λ _. actions.new) result (table_read action_row Table.Actions actions_header actions.old bytes.now) }
+{
+    read_rows::<ActionRows>(
+        alloc,
+        &(),
+        actions,
+        Table::Actions,
+        &ACTIONS_HEADER,
+        cells,
+        bytes,
+    )
+}
 
 /// The actions of an auction that a table means, in the order of its records, or exactly its first fault.
 ///
@@ -202,14 +236,13 @@ const ACTIONS_HEADER: [&str; 6] = ["round", "bidder", "action", "bid", "spec", "
 ///   is above 1,000,000,000 cents.
 ///
 /// The records of a round needn't stand together: each action keeps its round and the row of its record.
+#[tactic(auto, unfolding(crate::specs::Actions::actions_of))]
 pub fn read_actions(alloc: Global, bytes: &[u8]) -> Result<Vec<TimedAct>, ReadError>
     ensures gives { Gives (λ actions. actions.items) result (actions_of bytes.now) }
     ensures actions { IfOk result (λ actions. AreActions actions.items) }
 {
     let mut cells = ByteRecord::new(alloc);
-    let mut actions = Vec::new(alloc);
-    let mut records = Records::of_table(alloc, bytes);
-    under_header(Table::Actions, &ACTIONS_HEADER, &mut records, &mut cells)?;
-    read_rows(alloc, &mut actions, &mut records, &mut cells)?;
-    Ok(actions)
+    let mut actions = ActionList::new(alloc);
+    read_table(alloc, &mut actions, &mut cells, bytes)?;
+    Ok(actions.into_actions())
 }

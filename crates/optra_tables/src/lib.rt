@@ -6,6 +6,7 @@
 //! network or the bid refuses.
 #![tactic(auto)]
 
+mod action_list;
 mod actions;
 mod bid_list;
 mod bids;
@@ -27,6 +28,7 @@ pub use networks::read_network;
 use optra_auction::Act;
 use optra_bid::BidRefusal;
 use optra_network::NetRefusal;
+use optra_records::TableError;
 pub use rules::read_rules;
 use std::alloc::{AllocError, AllocFailed};
 pub use stops::read_bids;
@@ -111,6 +113,31 @@ pub struct TimedAct {
     pub round: u16,
     /// What is asked for. An amount is 0 to 1,000,000,000 cents.
     pub act: Act,
+}
+
+impl From<TableFault> for ReadError {
+    ghost use Rattle.std.specs.Prelude.{◌≡◌};
+    ghost use Rattle.optra_tables.specs.declared.ReadError.TheVariants.{Fault};
+
+    ghost from_gives = { λ fault e. e ≡ Fault fault };
+
+    fn from(fault: TableFault) -> ReadError {
+        ReadError::Fault(fault)
+    }
+}
+
+impl From<TableError<TableFault>> for ReadError {
+    ghost use Rattle.std.specs.Prelude.{◌≡◌};
+    ghost use Rattle.optra_tables.specs.Outcomes.{error_of};
+
+    ghost from_gives = { λ error e. e ≡ error_of error };
+
+    fn from(error: TableError<TableFault>) -> ReadError {
+        match error {
+            TableError::Fault(fault) => ReadError::Fault(fault),
+            TableError::NoMemory => ReadError::NoMemory,
+        }
+    }
 }
 
 impl From<AllocError> for ReadError {

@@ -7,13 +7,12 @@ ghost use Rattle.optra_tables.specs.Outcomes.{Gives};
 ghost use Rattle.optra_tables.specs.Rules.{are_rules, only_rules, rules_at, rules_of};
 
 use crate::fields::{number_at, shaped};
-use crate::outcomes::fails;
-use crate::rows::{FIRST_ROW, under_header};
+use crate::outcomes::{fails, fault};
 use crate::{Kind, ReadError, Table};
 use csv::ByteRecord;
 use optra_auction::Rules;
 use optra_network::NetRefusal;
-use optra_records::Records;
+use optra_records::{Records, under_header};
 use std::alloc::Global;
 
 /// Whether numbers are rules: a least increment of 1 to 1,000,000,000 cents, at most 1,000 thousandths, and 1 to 100
@@ -52,11 +51,11 @@ fn only_rules(records: &mut Records<'_>, cells: &mut ByteRecord) -> Result<Rules
     ensures { Gives (λ rules. rules) result (only_rules records.old) }
 {
     if !records.next(cells)? {
-        return fails(Table::Rules, FIRST_ROW, Kind::Csv);
+        return fails(Table::Rules, 2, Kind::Csv);
     }
-    let rules = rules_at(FIRST_ROW, cells)?;
+    let rules = rules_at(2, cells)?;
     if records.next(cells)? {
-        return fails(Table::Rules, FIRST_ROW + 1, Kind::Csv);
+        return fails(Table::Rules, 3, Kind::Csv);
     }
     Ok(rules)
 }
@@ -78,6 +77,7 @@ pub fn read_rules(alloc: Global, bytes: &[u8]) -> Result<Rules, ReadError>
 {
     let mut cells = ByteRecord::new(alloc);
     let mut records = Records::of_table(alloc, bytes);
-    under_header(Table::Rules, &RULES_HEADER, &mut records, &mut cells)?;
+    let missing = fault(Table::Rules, 1, Kind::Header);
+    under_header(&mut records, &RULES_HEADER, missing, &mut cells)?;
     only_rules(&mut records, &mut cells)
 }
