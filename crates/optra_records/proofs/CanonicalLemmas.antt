@@ -1,8 +1,8 @@
 -- A text is compared with its records one at a time.
-use Rattle.std.proofs.Common.{◌≡◌, ◌≢◌, ◌+◌, ◌<◌, ◌≤◌, ◌++◌, ◌&&◌, ◌==◌, ℕ, zero, suc, Bool, true, false, List, [], ◌∷◌, length, drop, slice_get, Option, Some, None, refl, sym, ap, ◌∙◌, add-one, arith, bytes_eq, append_assoc, Bor}
+use Rattle.std.proofs.Common.{◌≡◌, ◌+◌, ◌<◌, ◌++◌, ◌&&◌, ◌==◌, ℕ, zero, suc, Bool, true, false, List, [], ◌∷◌, length, drop, slice_get, Option, Some, None, refl, sym, ap, ◌∙◌, add-one, arith, bytes_eq, append_assoc, Bor}
 use Rattle.std.specs.Prelude.{unwrap_or}
 use Rattle.std.specs.List.{list_all}
-use Rattle.std.specs.Option.{option_map, option_map_or}
+use Rattle.std.specs.Option.{option_map}
 use Rattle.std.specs.Str.{is_utf8, IsUtf8}
 use Rattle.std.proofs.lemmas.Bool.{ne_eqb}
 use Rattle.std.proofs.lemmas.Str.{IsUtf8-from_is_utf8}
@@ -73,10 +73,10 @@ more_from [] i h = absurd (omega arith)
 more_from (f ∷ fs) zero h = refl
 more_from (f ∷ fs) (suc i) h = rw (more_from fs i (omega arith), add-one i, add-one (suc i)) refl
 
-and_false : (a b x y : Bool) → x ≡ (a && b) → a ≡ false → x ≡ y → false ≡ y
+pub and_false : (a b x y : Bool) → x ≡ (a && b) → a ≡ false → x ≡ y → false ≡ y
 and_false a b x y e f g = rw f at (sym e) ∙ g
 
-and_true : (a b x y : Bool) → x ≡ (a && b) → a ≡ true → x ≡ y → b ≡ y
+pub and_true : (a b x y : Bool) → x ≡ (a && b) → a ≡ true → x ≡ y → b ≡ y
 and_true a b x y e f g = rw f at (sym e) ∙ g
 
 pub all_stops : (p : Field → Bool) (fs : Record) (i : ℕ) (y : Bool) → i < length fs → p (field_of fs i) ≡ false → list_all p (drop i fs) ≡ y → false ≡ y

@@ -6,3 +6,5 @@ pub mod PowerLemmas
 pub mod PlainNumbers
 pub mod BehindLemmas
 pub mod CanonicalLemmas
+pub mod TableLemmas
+pub mod CellLemmas

@@ -4,3 +4,4 @@ pub mod Numbers
 pub mod Texts
 pub mod Printing
 pub mod Canonical
+pub mod Tables

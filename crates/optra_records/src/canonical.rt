@@ -1,6 +1,6 @@
 //! Whether a text is that of its own records.
 
-ghost use Rattle.std.specs.Prelude.{◌≡◌, ℕ, ◌&&◌, ◌∷◌, [], true, slice_get, unwrap_or, IfOk};
+ghost use Rattle.std.specs.Prelude.{◌≡◌, ℕ, ◌&&◌, ◌∷◌, [], true, IfOk};
 ghost use Rattle.std.specs.List.{list_all};
 ghost use Rattle.std.specs.Option.{option_map};
 ghost use Rattle.std.specs.Str.{is_utf8};
@@ -8,7 +8,8 @@ ghost use Rattle.csv.specs.Records.{fields_of};
 ghost use Rattle.optra_records.specs.Canonical.{behind, is_canonical};
 ghost use Rattle.optra_records.specs.Texts.{escaped, field_text, is_shown, needs_quotes, record_text};
 
-use crate::{Records, begins_with_mark};
+use crate::cells::is_text;
+use crate::{Records, begins_with_mark, field};
 use csv::ByteRecord;
 use std::alloc::{AllocError, Global};
 
@@ -54,26 +55,6 @@ fn can_be_printed(row: &ByteRecord) -> bool
         }
     }
     true
-}
-
-/// The field at a place, which is empty where there is none.
-fn field(row: &ByteRecord, i: usize) -> &[u8]
-    ensures { result.now ≡ unwrap_or (slice_get (fields_of row.now) i) [] }
-{
-    match row.get(i) {
-        Some(field) => field,
-        None => &[],
-    }
-}
-
-/// Whether bytes are UTF-8.
-fn is_text(bytes: &[u8]) -> bool
-    ensures { result ≡ is_utf8 bytes.now }
-{
-    match str::from_utf8(bytes) {
-        Ok(_) => true,
-        Err(_) => false,
-    }
 }
 
 /// What stands behind a record at the start of a text, if it begins so.

@@ -3,13 +3,17 @@
 #![tactic(auto)]
 
 mod canonical;
+mod cells;
 mod marks;
 mod numbers;
 mod printing;
 mod reading;
+mod tables;
 
 pub use canonical::is_canonical;
+pub use cells::{field, is_cell, number_at, shaped};
 pub use marks::begins_with_mark;
 pub use numbers::{number, plain_number};
 pub use printing::{Fields, Printer};
 pub use reading::Records;
+pub use tables::{TableError, TableRows, read_table, under_header};

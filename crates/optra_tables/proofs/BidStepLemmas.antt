@@ -1,5 +1,5 @@
 -- What each accepted record of a bid or a stop adds, and that there are never too many.
-use Rattle.std.proofs.Common.{◌≡◌, ◌+◌, ◌-◌, ◌*◌, ◌<◌, ◌≤◌, ◌||◌, ◌++◌, ℕ, zero, suc, Bool, true, false, not, List, [], ◌∷◌, length, set, Option, Some, None, slice_get, slice_index, is_none, nat_le, nat_lt, refl, sym, ap, ◌∙◌, arith, subst, length-append}
+use Rattle.std.proofs.Common.{◌≡◌, ◌+◌, ◌-◌, ◌*◌, ◌^◌, ◌<◌, ◌≤◌, ◌||◌, ◌++◌, ℕ, zero, suc, Bool, true, false, not, List, [], ◌∷◌, length, set, Option, Some, None, slice_get, slice_index, is_none, nat_le, nat_lt, refl, sym, ap, ◌∙◌, arith, subst, length-append}
 use Rattle.std.proofs.lemmas.Bool.{leb-false, ltb-true}
 use Rattle.std.specs.Prelude.{Result, Ok}
 use Rattle.optra_network.specs.Names.{place_of}
@@ -15,6 +15,7 @@ use Rattle.optra_records.specs.Reading.{Record}
 use Rattle.optra_tables.specs.Bids.{Parts, bid_row, made_of, names_of, raw_at, told_at}
 use Rattle.optra_tables.specs.Fields.{name_at, number_at, shaped, two_at}
 use Rattle.optra_tables.specs.Outcomes.{bid_outcome, guard, or_fault}
+use Rattle.optra_tables.specs.Room.{stops_room}
 use Rattle.optra_tables.specs.Stops.{found_at, stop_outcome, stop_row, with_stop}
 use Rattle.optra_tables.specs.declared.Table.{Table}
 use Rattle.optra_tables.specs.declared.Table.TheVariants.{Bids, Stops}
@@ -33,7 +34,7 @@ pub from_or_fault : {A : Type 0} (f : TableFault) (o : Option A) (x : A) → or_
 from_or_fault f None x e = absurd (cc e)
 from_or_fault f (Some y) x e = cc e
 
-from_ok : {A : Type 0} (x y : A) → ◌≡◌ {A = Result A TableFault} (Ok x) (Ok y) → x ≡ y
+pub from_ok : {A : Type 0} (x y : A) → ◌≡◌ {A = Result A TableFault} (Ok x) (Ok y) → x ≡ y
 from_ok x y e = cc e
 
 -- ---- bids
@@ -56,11 +57,6 @@ bid_step net bids new row fields e =
     bids_more bids new bid.0 (from_guard _ (nat_lt (length bids) 1000) few.0 few.1) (from_ok (bids ++ bid.0 ∷ []) new bid.2)
 
 -- ---- stops
-
--- how many more stops the bids may have
-unfoldable pub stops_room : List Parts → ℕ
-stops_room [] = 0
-stops_room (bid ∷ bids) = (8 - length bid.path.stops) + stops_room bids
 
 pub stops_room_few : (bids : List Parts) → stops_room bids ≤ 8 * length bids
 unfolding stops_room
@@ -126,3 +122,12 @@ stop_step net bids new row fields e =
     let bid = from_bind (or_fault _ (slice_get bids found.0.0)) _ new found.2 in
     let raw : RawStop = record { station = found.0.1; min_dwell = low.0; max_dwell = high.0; arrive = arrive.0 } in
     stop_added row bids new found.0.0 bid.0 raw (from_or_fault _ (slice_get bids found.0.0) bid.0 bid.1) bid.2
+
+-- ---- how many rows there can be
+
+pub stop_rows_few : (bids : List Parts) → length bids ≤ 1000 → stops_room bids < 2 ^ 31
+stop_rows_few bids few = let most = stops_room_few bids in omega (arith, few, most)
+
+pub stop_takes_room : (net : Net) (bids new : List Parts) (row : ℕ) (fields : Record) → stop_row net bids row fields ≡ Ok new → length bids ≤ 1000
+    → (length new ≤ 1000) × (stops_room new + 1 ≤ stops_room bids)
+stop_takes_room net bids new row fields e few = let step = stop_step net bids new row fields e in (omega (arith, few, step.0), step.1)

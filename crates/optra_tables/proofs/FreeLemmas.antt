@@ -2,11 +2,7 @@
 use Rattle.std.proofs.Common.{◌≡◌, ◌+◌, ◌<◌, ◌≤◌, ◌⊎◌, ℕ, zero, suc, Bool, true, false, cond, List, [], ◌∷◌, ◌++◌, Some, is_some, nat_lt, refl, inl, inr, arith, subst}
 use Rattle.std.proofs.lemmas.Bool.{cases_Bool, ltb-false, ltb-true}
 use Rattle.std.specs.Map.{lookup}
-
--- how many numbers below n aren't taken
-unfoldable pub free_below : (ℕ → Bool) → ℕ → ℕ
-free_below taken zero = 0
-free_below taken (suc n) = cond (taken n) 0 1 + free_below taken n
+use Rattle.optra_tables.specs.Room.{free_below}
 
 free_step : (a b : Bool) (x y : ℕ) → (a ≡ true → b ≡ true) → x ≤ y → cond b 0 1 + x ≤ cond a 0 1 + y
 free_step true true x y h k = omega arith

@@ -25,12 +25,13 @@ use Rattle.optra_records.specs.Reading.{Field, Record, table_records}
 use Rattle.optra_tables.specs.Bids.{Parts, Told, bid_row, bids_header, made_of, names_of, parts_of, raw_at, raw_of, told_at}
 use Rattle.optra_tables.specs.Fields.{name_at, number_at, shaped, two_at}
 use Rattle.optra_tables.specs.Outcomes.{bid_outcome, guard, or_fault}
-use Rattle.optra_tables.specs.Rows.{rows_from, table_read, under_header}
+use Rattle.optra_records.specs.Tables.{rows_from, table_of}
+use Rattle.optra_tables.specs.Rows.{table_read, under_header}
 use Rattle.optra_tables.specs.Stops.{found_at, stop_outcome, stop_row, stops_header, with_stop}
 use Rattle.optra_tables.specs.declared.Table.{Table}
 use Rattle.optra_tables.specs.declared.Table.TheVariants.{Bids, Stops}
 use Rattle.optra_tables.specs.declared.TableFault.{TableFault}
-use Rattle.optra_tables.proofs.BidStepLemmas.{bid_step, from_bid_outcome, from_guard, from_or_fault}
+use Rattle.optra_tables.proofs.BidStepLemmas.{bid_step, from_bid_outcome, from_guard, from_ok, from_or_fault}
 use Rattle.optra_tables.proofs.StepLemmas.{from_bind, place_within}
 
 -- at most 1,000 bids with different names, each for a path on the network
@@ -38,9 +39,6 @@ pub record AreKept (net : Net) (bids : List Parts) : Type 0 where
   pub few : length bids ≤ 1000
   pub paths : All (λ bid. IsPathOn net bid.path) bids
   pub differ : AllDiffer (names_of bids)
-
-from_ok : {A : Type 0} (x y : A) → ◌≡◌ {A = Result A TableFault} (Ok x) (Ok y) → x ≡ y
-from_ok x y e = cc e
 
 -- ---- what the names of a bid name is there
 
@@ -168,7 +166,7 @@ module _ {K : Type 0} (step : K → ℕ → Record → Result K TableFault) (P :
       rows_keep rows more.0 (row + 1) after more.2 (keeps known row fields more.0 more.1 p)
 
   table_keep : (table : Table) (header : Record) (known : K) (bytes : List ℕ) (after : K) → table_read step table header known bytes ≡ Ok after → P known → P after
-  unfolding table_read
+  unfolding table_of
   table_keep table header known bytes after e p =
       let rows = from_bind (under_header table header (table_records bytes)) _ after e in
       rows_keep rows.0 known 2 after rows.2 p

@@ -1,5 +1,5 @@
 -- What each accepted record of a network's table adds, and that there are never too many.
-use Rattle.std.proofs.Common.{◌≡◌, ◌+◌, ◌-◌, ◌*◌, ◌/◌, ◌%◌, ◌<◌, ◌≤◌, ◌||◌, ◌++◌, ℕ, bytes_eq, Bool, true, false, List, [], ◌∷◌, length, Option, Some, None, IfSome, is_none, is_some, nat_le, refl, ap, ◌∙◌, arith, subst, unwrap_or, length-append}
+use Rattle.std.proofs.Common.{◌≡◌, ◌+◌, ◌-◌, ◌*◌, ◌/◌, ◌%◌, ◌^◌, ◌<◌, ◌≤◌, ◌||◌, ◌++◌, ℕ, bytes_eq, Bool, true, false, List, [], ◌∷◌, length, Option, Some, None, IfSome, is_none, is_some, nat_le, refl, ap, ◌∙◌, arith, subst, unwrap_or, length-append}
 use Rattle.std.proofs.lemmas.Bool.{leb-false}
 use Rattle.std.proofs.lemmas.List.Quantifiers.{position-Some}
 use Rattle.std.proofs.lemmas.Nat.{div-mul-add, mod-mul-add}
@@ -18,11 +18,12 @@ use Rattle.optra_network.proofs.NetLemmas.{pair_self, triple_self}
 use Rattle.optra_records.specs.Reading.{Record}
 use Rattle.optra_tables.specs.Fields.{four_at, name_at, number_at, shaped}
 use Rattle.optra_tables.specs.Networks.{HasFew, headway_row, running_row, station_row, track_row, type_row}
+use Rattle.optra_tables.specs.Room.{headways_room, running_room, stations_room, tracks_room, types_room}
 use Rattle.optra_tables.specs.Outcomes.{◌>>=◌, net_outcome}
 use Rattle.optra_tables.specs.declared.Table.{Table}
 use Rattle.optra_tables.specs.declared.Table.TheVariants.{Headways, Running, Stations, Tracks, Types}
 use Rattle.optra_tables.specs.declared.TableFault.{TableFault}
-use Rattle.optra_tables.proofs.FreeLemmas.{free_below, free_less, free_within, lookup_added, lookup_stays}
+use Rattle.optra_tables.proofs.FreeLemmas.{free_less, free_within, lookup_added, lookup_stays}
 
 -- ---- what an outcome without a fault says
 
@@ -56,9 +57,6 @@ kind_of n = record { 0 = n }
 
 -- ---- stations
 
-pub stations_room : Net → ℕ
-stations_room net = 300 - length net.stations
-
 one_less : {X : Type 0} (top : ℕ) (xs : List X) (x : X) → nat_le top (length xs) ≡ false → (top - length (xs ++ x ∷ [])) + 1 ≤ top - length xs
 one_less top xs x e = let low = leb-false top (length xs) e in rw (length-append xs (x ∷ [])) (omega (arith, low))
 
@@ -80,9 +78,6 @@ station_step net new row fields e few =
 
 -- ---- types
 
-pub types_room : Net → ℕ
-types_room net = 16 - length net.types
-
 types_added : (net new : Net) (name : List ℕ) → nat_le 16 (length net.types) ≡ false → record net { types = net.types ++ name ∷ [] } ≡ new → HasFew net
     → HasFew new × (16 - length new.types + 1 ≤ 16 - length net.types)
 types_added net new name full same few =
@@ -101,9 +96,6 @@ type_step net new row fields e few =
     types_added net new b.0 d.0 c.1 few
 
 -- ---- tracks
-
-pub tracks_room : Net → ℕ
-tracks_room net = 1000 - length net.tracks
 
 abbrev track_at : ℕ → ℕ → Track
 track_at a b = record { tail = record { 0 = a }; head = record { 0 = b } }
@@ -140,10 +132,6 @@ track_step net new row fields e few =
     tracks_added net new name.0 (place_of from.0 net.stations) (place_of to.0 net.stations) full.0 known.0 c.1 few
 
 -- ---- running times
-
--- how many pairs of a track and a type have no running times yet
-pub running_room : Net → ℕ
-running_room net = free_below (λ n. is_some (lookup (same_pair (n / 16, n % 16)) net.running)) 16000
 
 running_room_added : (net : Net) (t k : ℕ) (times : Times) → is_some (lookup (same_pair (t, k)) net.running) ≡ false → t < 1000 → k < 16
     → running_room (record net { running = net.running ++ ((t, k), times) ∷ [] }) + 1 ≤ running_room net
@@ -192,10 +180,6 @@ running_step net new row fields e few =
     (place_within track.0 net.track_names) (place_within kind.0 net.types) few
 
 -- ---- headways
-
--- how many triples of a track and two types have no headway yet
-pub headways_room : Net → ℕ
-headways_room net = free_below (λ n. is_some (lookup (same_triple (n / 256, n % 256 / 16, n % 16)) net.headways)) 256000
 
 headways_room_added : (net : Net) (t a b minutes : ℕ) → is_some (lookup (same_triple (t, a, b)) net.headways) ≡ false → t < 1000 → a < 16 → b < 16
     → headways_room (record net { headways = net.headways ++ ((t, a, b), minutes) ∷ [] }) + 1 ≤ headways_room net
@@ -251,22 +235,23 @@ headway_step net new row fields e few =
 
 -- ---- how many rows there can be
 
-pub station_rows_few : (net : Net) → stations_room net ≤ 256000
+pub station_rows_few : (net : Net) → stations_room net < 2 ^ 31
 unfolding stations_room
 station_rows_few net = omega arith
 
-pub track_rows_few : (net : Net) → tracks_room net ≤ 256000
+pub track_rows_few : (net : Net) → tracks_room net < 2 ^ 31
 unfolding tracks_room
 track_rows_few net = omega arith
 
-pub type_rows_few : (net : Net) → types_room net ≤ 256000
+pub type_rows_few : (net : Net) → types_room net < 2 ^ 31
 unfolding types_room
 type_rows_few net = omega arith
 
-pub running_rows_few : (net : Net) → running_room net ≤ 256000
+pub running_rows_few : (net : Net) → running_room net < 2 ^ 31
 unfolding running_room
 running_rows_few net = let within = free_within (λ n. is_some (lookup (same_pair (n / 16, n % 16)) net.running)) 16000 in omega (arith, within)
 
-pub headway_rows_few : (net : Net) → headways_room net ≤ 256000
+pub headway_rows_few : (net : Net) → headways_room net < 2 ^ 31
 unfolding headways_room
-headway_rows_few net = free_within (λ n. is_some (lookup (same_triple (n / 256, n % 256 / 16, n % 16)) net.headways)) 256000
+headway_rows_few net =
+    let within = free_within (λ n. is_some (lookup (same_triple (n / 256, n % 256 / 16, n % 16)) net.headways)) 256000 in omega (arith, within)

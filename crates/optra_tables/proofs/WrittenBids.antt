@@ -17,10 +17,11 @@ use Rattle.optra_bid.specs.declared.RawBid.{RawBid}
 use Rattle.optra_bid.specs.declared.Window.{Window}
 use Rattle.optra_records.specs.Reading.{Record}
 use Rattle.optra_tables.specs.Bids.{Parts, Told, bid_row, made_of, names_of, raw_at, told_at}
-use Rattle.optra_tables.specs.Fields.{field, is_row, name_at, number_at, six_at, three_at}
+use Rattle.optra_records.specs.Tables.{field, is_row}
+use Rattle.optra_tables.specs.Fields.{name_at, number_at, six_at, three_at}
 use Rattle.optra_tables.specs.Written.{IsSound, bid_record, money_fields, name_fields, named, window_fields}
 use Rattle.optra_tables.specs.declared.Table.TheVariants.{Bids}
-use Rattle.optra_tables.proofs.RecordLemmas.{row_is}
+use Rattle.optra_records.proofs.CellLemmas.{row_is}
 use Rattle.optra_tables.proofs.WrittenLemmas.{decimal_utf8, differs_before, is_name-named, name_read, name_utf8, number_read, place_none, station_found, type_found}
 
 -- ---- amounts

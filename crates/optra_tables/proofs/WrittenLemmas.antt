@@ -19,8 +19,9 @@ use Rattle.optra_network.specs.declared.TypeId.{TypeId}
 use Rattle.optra_records.specs.Reading.{Field, Record}
 use Rattle.optra_records.specs.Texts.{AreShown, BeginsPlain, records_text}
 use Rattle.optra_records.proofs.ReadBack.{number_back, table_back}
-use Rattle.optra_tables.specs.Fields.{field, name_at, number_at}
-use Rattle.optra_tables.specs.Rows.{rows_from, table_read, under_header}
+use Rattle.optra_records.specs.Tables.{field, rows_from, rows_under, table_of}
+use Rattle.optra_tables.specs.Fields.{name_at, number_at}
+use Rattle.optra_tables.specs.Rows.{table_read}
 use Rattle.optra_tables.specs.Written.{named}
 use Rattle.optra_tables.specs.declared.Table.{Table}
 use Rattle.optra_tables.specs.declared.TableFault.{TableFault}
@@ -123,7 +124,7 @@ module _ {K : Type 0} (step : K → ℕ → Record → Result K TableFault) wher
   -- a table that was written is read record by record
   pub table_means : (table : Table) (header : Record) (known : K) (rows : List Record) → AreShown (header ∷ rows) → BeginsPlain (header ∷ rows)
       → table_read step table header known (records_text (header ∷ rows)) ≡ rows_from step known 2 rows
-  unfolding table_read under_header
+  unfolding table_of rows_under
   table_means table header known rows shown plain = rw (table_back (header ∷ rows) shown plain, header_same header) refl
 
   -- records each of which adds one thing to what is known

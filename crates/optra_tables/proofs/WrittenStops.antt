@@ -16,13 +16,13 @@ use Rattle.optra_bid.specs.declared.RawStop.{RawStop}
 use Rattle.optra_bid.specs.declared.Stop.{Stop}
 use Rattle.optra_records.specs.Reading.{Field, Record}
 use Rattle.optra_tables.specs.Bids.{Parts, names_of}
-use Rattle.optra_tables.specs.Fields.{field, is_row, name_at, number_at, two_at}
-use Rattle.optra_tables.specs.Rows.{rows_from}
+use Rattle.optra_records.specs.Tables.{field, is_row, rows_from}
+use Rattle.optra_tables.specs.Fields.{name_at, number_at, two_at}
 use Rattle.optra_tables.specs.Stops.{stop_outcome, stop_row}
 use Rattle.optra_tables.specs.Written.{IsSound, named, stop_record, stop_records}
 use Rattle.optra_tables.specs.declared.Table.TheVariants.{Stops}
 use Rattle.optra_tables.specs.declared.TableFault.{TableFault}
-use Rattle.optra_tables.proofs.RecordLemmas.{row_is}
+use Rattle.optra_records.proofs.CellLemmas.{row_is}
 use Rattle.optra_tables.proofs.WrittenBids.{AreWritten, bare, names-bare}
 use Rattle.optra_tables.proofs.WrittenLemmas.{at_middle, decimal_utf8, get_middle, in_middle, is_name-named, name_read, name_utf8, number_read, place_middle, station_found}
 

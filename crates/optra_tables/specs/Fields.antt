@@ -1,26 +1,17 @@
 -- The fields of a record: their number, names and numbers.
-use Rattle.std.specs.Prelude.{ℕ, ◌+◌, List, [], ◌∷◌, length, Bool, Option, None, Some, Result, Ok, ◌==◌, ◌&&◌, unwrap_or, slice_get, if◌then◌else◌}
-use Rattle.std.specs.List.{list_all}
-use Rattle.std.specs.Str.{is_utf8}
+use Rattle.std.specs.Prelude.{ℕ, ◌+◌, List, [], ◌∷◌, Option, None, Some, Result, Ok, if◌then◌else◌}
 use Rattle.optra_network.specs.Names.{is_name}
-use Rattle.optra_records.specs.Numbers.{number_of}
 use Rattle.optra_records.specs.Reading.{Field, Record}
-use Rattle.optra_tables.specs.Outcomes.{◌>>=◌, fault, guard, or_fault}
+use Rattle.optra_records.specs.Tables as forms
+use Rattle.optra_records.specs.Tables.{field}
+use Rattle.optra_tables.specs.Outcomes.{◌>>=◌, fault, or_fault}
 use Rattle.optra_tables.specs.declared.Kind.TheVariants as kinds
 use Rattle.optra_tables.specs.declared.Table.{Table}
 use Rattle.optra_tables.specs.declared.TableFault.{TableFault}
 
--- a record has n fields, each of them UTF-8
-abbrev pub is_row : ℕ → Record → Bool
-is_row n fields = (length fields == n) && list_all is_utf8 fields
-
 -- Csv, where a record has another number of fields or a field isn't UTF-8
 abbrev pub shaped : Table → ℕ → ℕ → Record → Result (Unit {0}) TableFault
-shaped table row n fields = guard (fault table row kinds.Csv) (is_row n fields)
-
--- the field at a place, which is empty where there is none
-abbrev pub field : Record → ℕ → Field
-field fields i = unwrap_or (slice_get fields i) []
+shaped table row n fields = forms.shaped (fault table row kinds.Csv) n fields
 
 -- the name of a text, if it is one
 abbrev pub name_of : Field → Option Field
@@ -32,7 +23,7 @@ name_at table row fields i = or_fault (fault table row kinds.Name) (name_of (fie
 
 -- the number in a field, or Number
 abbrev pub number_at : Table → ℕ → Record → ℕ → Result ℕ TableFault
-number_at table row fields i = or_fault (fault table row kinds.Number) (number_of (field fields i))
+number_at table row fields i = forms.number_at (fault table row kinds.Number) fields i
 
 -- two numbers in a row
 abbrev pub two_at : Table → ℕ → Record → ℕ → Result (List ℕ) TableFault

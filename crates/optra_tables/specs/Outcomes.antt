@@ -6,6 +6,9 @@ use Rattle.optra_network.specs.declared.NetFault.TheVariants as net_faults
 use Rattle.optra_bid.specs.declared.BidRefusal.{BidRefusal}
 use Rattle.optra_bid.specs.declared.BidFault.{BidFault}
 use Rattle.optra_bid.specs.declared.BidFault.TheVariants as bid_faults
+use Rattle.optra_records.specs.Tables.{and_then, or_else}
+use Rattle.optra_records.specs.declared.TableError.{TableError}
+use Rattle.optra_records.specs.declared.TableError.TheVariants as unread
 use Rattle.optra_tables.specs.declared.Kind.{Kind}
 use Rattle.optra_tables.specs.declared.Kind.TheVariants as kinds
 use Rattle.optra_tables.specs.declared.ReadError.{ReadError}
@@ -16,8 +19,7 @@ use Rattle.optra_tables.specs.declared.TableFault.{TableFault}
 -- go on with the value, or keep the fault
 infixl 10 ◌>>=◌
 abbrev pub ◌>>=◌ : {A B : Type 0} → Result A TableFault → (A → Result B TableFault) → Result B TableFault
-(Ok x) >>= f = f x
-(Err e) >>= f = Err e
+read >>= f = and_then read f
 
 -- a fault of a call is the fault of the table, or want of memory, which says nothing
 abbrev pub Fails : {Y : Type 0} → ReadError → Result Y TableFault → Type 0
@@ -39,8 +41,7 @@ guard f passes = if passes then Ok tt else Err f
 
 -- a value that is there, or a fault
 abbrev pub or_fault : {A : Type 0} → TableFault → Option A → Result A TableFault
-or_fault f (Some x) = Ok x
-or_fault f None = Err f
+or_fault f found = or_else f found
 
 -- what is known after a record, or what the network refuses in it
 abbrev pub net_outcome : {A : Type 0} → Table → ℕ → Option NetRefusal → A → Result A TableFault
@@ -63,3 +64,14 @@ abbrev pub IsBidAnswer : {X : Type 0} → Table → ℕ → Result X BidFault �
 IsBidAnswer table row (Ok x) result = result ≡ Ok x
 IsBidAnswer table row (Err (bid_faults.Refused why)) result = result ≡ Err (errors.Fault (fault table row (kinds.Bid why)))
 IsBidAnswer table row (Err bid_faults.NoMemory) result = result ≡ Err errors.NoMemory
+
+-- why a table isn't read, as the crate tells it
+abbrev pub error_of : TableError TableFault → ReadError
+error_of (unread.Fault f) = errors.Fault f
+error_of unread.NoMemory = errors.NoMemory
+
+-- an answer as the reader of records takes it
+abbrev pub IsRowAnswer : Result (Unit {0}) ReadError → Result (Unit {0}) (TableError TableFault) → Type 0
+IsRowAnswer (Ok x) result = result ≡ Ok tt
+IsRowAnswer (Err (errors.Fault f)) result = result ≡ Err (unread.Fault f)
+IsRowAnswer (Err errors.NoMemory) result = result ≡ Err unread.NoMemory

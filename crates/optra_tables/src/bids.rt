@@ -6,18 +6,18 @@ ghost use Rattle.optra_network.specs.Names.{is_name};
 ghost use Rattle.optra_bid.specs.Bids.{bid_refusal};
 ghost use Rattle.optra_tables.specs.Bids.{bid_row, bids_header, made_of, parts_of, raw_at, told_at, told_of};
 ghost use Rattle.optra_tables.specs.Outcomes.{Gives, bid_outcome};
-ghost use Rattle.optra_tables.specs.Rows.{rows_from, table_read};
+ghost use Rattle.optra_tables.specs.Rows.{table_read};
 ghost use Rattle.optra_tables.specs.declared.Table.TheVariants.{Bids};
 
 use crate::bid_list::BidList;
 use crate::fields::{name_at, number_at, shaped, six_at, three_at};
-use crate::outcomes::{bid_answer, fails, known};
-use crate::rows::{FIRST_ROW, under_header};
-use crate::{Kind, ReadError, Table};
+use crate::outcomes::{bid_answer, fails, known, row_answer};
+use crate::rows::read_rows;
+use crate::{Kind, ReadError, Table, TableFault};
 use csv::ByteRecord;
 use optra_bid::{Bid, Name, RawBid};
 use optra_network::{NetRefusal, Network, NoMemory};
-use optra_records::Records;
+use optra_records::{TableError, TableRows};
 use std::alloc::Global;
 
 /// What a record of the bids says, before it is looked up and tested.
@@ -88,7 +88,7 @@ fn raw_at(net: &Network, row: u32, told: &ToldBid<'_>) -> Result<RawBid, ReadErr
 }
 
 /// A text that is a name, as a name.
-fn name_from(alloc: Global, text: &str) -> Result<Name, NoMemory>
+pub fn name_from(alloc: Global, text: &str) -> Result<Name, NoMemory>
     requires { IsTrue (is_name text.now) }
     ensures { IfOk result (λ name. name ≡ text.now) }
 {
@@ -134,24 +134,35 @@ fn read_row(
     Ok(())
 }
 
-/// Reads the records that are left.
-fn read_rows(
-    alloc: Global,
-    net: &Network,
-    bids: &mut BidList,
-    records: &mut Records<'_>,
-    cells: &mut ByteRecord,
-) -> Result<(), ReadError>
-    requires { length bids.old ≤ 1000 }
-    ensures gives { Gives (λ _. bids.new) result (rows_from (bid_row net.now) bids.old 2 records.old) }
-    ensures few { OnOk result (length bids.new ≤ 1000) }
-{
-    let mut row = FIRST_ROW;
-    'rows: while records.next(cells)? {
-        read_row(alloc, net, bids, row, cells)?;
-        row += 1;
+/// The records of the bids, read on a network.
+struct BidRows;
+
+impl TableRows for BidRows {
+    ghost use Rattle.std.specs.Prelude.{◌≤◌, length};
+    ghost use Rattle.optra_tables.specs.Bids.{bid_row};
+    ghost use Rattle.optra_tables.specs.Room.{bids_room};
+
+    type Known = BidList;
+
+    type Context = Network;
+
+    type Fault = TableFault;
+
+    ghost step = { bid_row };
+
+    ghost is_kept = { λ bids. length bids ≤ 1000 };
+
+    ghost room = { bids_room };
+
+    fn add(
+        alloc: Global,
+        net: &Network,
+        bids: &mut BidList,
+        row: u32,
+        cells: &ByteRecord,
+    ) -> Result<(), TableError<TableFault>> {
+        row_answer(read_row(alloc, net, bids, row, cells))
     }
-    Ok(())
 }
 
 /// The header of the bids.
@@ -178,7 +189,6 @@ pub const BIDS_HEADER: [&str; 19] = [
 ];
 
 /// Reads the table of bids into a list without bids.
-#[tactic(auto, unfolding(crate::specs::Rows::table_read))]
 pub fn read_named(
     alloc: Global,
     net: &Network,
@@ -190,7 +200,5 @@ pub fn read_named(
     ensures gives { Gives (λ _. bids.new) result (table_read (bid_row net.now) Bids bids_header bids.old bytes.now) }
     ensures few { OnOk result (length bids.new ≤ 1000) }
 {
-    let mut records = Records::of_table(alloc, bytes);
-    under_header(Table::Bids, &BIDS_HEADER, &mut records, cells)?;
-    read_rows(alloc, net, bids, &mut records, cells)
+    read_rows::<BidRows>(alloc, net, bids, Table::Bids, &BIDS_HEADER, cells, bytes)
 }

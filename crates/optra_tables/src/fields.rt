@@ -1,62 +1,23 @@
 //! The fields of a record.
 
 ghost use Rattle.std.specs.Prelude.{◌≡◌, ◌<◌, ◌^◌, IfOk, IsTrue, IfSome, option_map, if◌then◌else◌};
-ghost use Rattle.std.specs.Str.{is_utf8};
 ghost use Rattle.csv.specs.Records.{fields_of};
 ghost use Rattle.optra_network.specs.Names.{is_name};
-ghost use Rattle.optra_tables.specs.Fields.{field, four_at, is_row, name_at, name_of, number_at, shaped, six_at, three_at, two_at};
+ghost use Rattle.optra_tables.specs.Fields.{four_at, name_at, name_of, number_at, shaped, six_at, three_at, two_at};
 ghost use Rattle.optra_tables.specs.Outcomes.{Gives};
 
-use crate::outcomes::fails;
+use crate::outcomes::{fails, fault};
 use crate::{Kind, ReadError, Table};
 use csv::ByteRecord;
 use optra_network::is_name;
-use optra_records::number;
-
-/// The field at a place, which is empty where there is none.
-pub fn field(cells: &ByteRecord, i: usize) -> &[u8]
-    ensures { result.now ≡ field (fields_of cells.now) i }
-{
-    match cells.get(i) {
-        Some(field) => field,
-        None => &[],
-    }
-}
-
-/// Whether bytes are UTF-8.
-fn is_text(bytes: &[u8]) -> bool
-    ensures { result ≡ is_utf8 bytes.now }
-{
-    match str::from_utf8(bytes) {
-        Ok(_) => true,
-        Err(_) => false,
-    }
-}
-
-/// Whether a record has so many fields, each of them UTF-8.
-fn is_row(n: usize, cells: &ByteRecord) -> bool
-    ensures { result ≡ is_row n (fields_of cells.now) }
-{
-    if cells.len() != n {
-        return false;
-    }
-    'fields: for i in 0..n {
-        if !is_text(field(cells, i)) {
-            return false;
-        }
-    }
-    true
-}
+use optra_records::field;
 
 /// Refuses a record of another number of fields, or with a field that isn't UTF-8.
 pub fn shaped(table: Table, row: u32, n: usize, cells: &ByteRecord) -> Result<(), ReadError>
     ensures { Gives (λ _. tt) result (shaped table row n (fields_of cells.now)) }
 {
-    if is_row(n, cells) {
-        Ok(())
-    } else {
-        fails(table, row, Kind::Csv)
-    }
+    optra_records::shaped(cells, n, fault(table, row, Kind::Csv))?;
+    Ok(())
 }
 
 /// The name that bytes are, if they are one.
@@ -83,12 +44,11 @@ pub fn name_at(table: Table, row: u32, cells: &ByteRecord, i: usize) -> Result<&
 
 /// The number in a field.
 pub fn number_at(table: Table, row: u32, cells: &ByteRecord, i: usize) -> Result<u64, ReadError>
-    ensures { Gives (λ n. n) result (number_at table row (fields_of cells.now) i) }
+    ensures gives { Gives (λ n. n) result (number_at table row (fields_of cells.now) i) }
+    ensures small { IfOk result (λ n. n < 10 ^ 10) }
 {
-    match number(field(cells, i)) {
-        Some(n) => Ok(n),
-        None => fails(table, row, Kind::Number),
-    }
+    let n = optra_records::number_at(cells, i, fault(table, row, Kind::Number))?;
+    Ok(n)
 }
 
 /// Two numbers in a row.

@@ -5,16 +5,16 @@ ghost use Rattle.csv.specs.Records.{fields_of};
 ghost use Rattle.optra_network.specs.Refusals.{after_headway, headway_refusal};
 ghost use Rattle.optra_tables.specs.Networks.{HasFew, headway_row, headways_header};
 ghost use Rattle.optra_tables.specs.Outcomes.{Gives, net_outcome};
-ghost use Rattle.optra_tables.specs.Rows.{rows_from, table_read};
+ghost use Rattle.optra_tables.specs.Rows.{table_read};
 ghost use Rattle.optra_tables.specs.declared.Table.TheVariants.{Headways};
 
 use crate::fields::{name_at, number_at, shaped};
-use crate::outcomes::net_answer;
-use crate::rows::{FIRST_ROW, under_header};
-use crate::{ReadError, Table};
+use crate::outcomes::{net_answer, row_answer};
+use crate::rows::read_rows;
+use crate::{ReadError, Table, TableFault};
 use csv::ByteRecord;
 use optra_network::Builder;
-use optra_records::Records;
+use optra_records::{TableError, TableRows};
 use std::alloc::Global;
 
 /// Adds what a record says, or tells why the network refuses it.
@@ -46,26 +46,37 @@ fn read_row(net: &mut Builder, row: u32, cells: &ByteRecord) -> Result<(), ReadE
     add(net, row, track, first, second, minutes)
 }
 
-/// Reads the records that are left.
-fn read_rows(
-    net: &mut Builder,
-    records: &mut Records<'_>,
-    cells: &mut ByteRecord,
-) -> Result<(), ReadError>
-    requires { HasFew net.old }
-    ensures gives { Gives (λ _. net.new) result (rows_from headway_row net.old 2 records.old) }
-    ensures few { OnOk result (HasFew net.new) }
-{
-    let mut row = FIRST_ROW;
-    'rows: while records.next(cells)? {
-        read_row(net, row, cells)?;
-        row += 1;
+/// The records of the headways.
+struct HeadwayRows;
+
+impl TableRows for HeadwayRows {
+    ghost use Rattle.optra_tables.specs.Networks.{HasFew, headway_row};
+    ghost use Rattle.optra_tables.specs.Room.{headways_room};
+
+    type Known = Builder;
+
+    type Context = ();
+
+    type Fault = TableFault;
+
+    ghost step = { λ _. headway_row };
+
+    ghost is_kept = { HasFew };
+
+    ghost room = { headways_room };
+
+    fn add(
+        _alloc: Global,
+        _context: &(),
+        net: &mut Builder,
+        row: u32,
+        cells: &ByteRecord,
+    ) -> Result<(), TableError<TableFault>> {
+        row_answer(read_row(net, row, cells))
     }
-    Ok(())
 }
 
 /// Reads the table of headways.
-#[tactic(auto, unfolding(crate::specs::Rows::table_read))]
 pub fn read_headways(
     alloc: Global,
     net: &mut Builder,
@@ -76,12 +87,13 @@ pub fn read_headways(
     ensures gives { Gives (λ _. net.new) result (table_read headway_row Headways headways_header net.old bytes.now) }
     ensures few { OnOk result (HasFew net.new) }
 {
-    let mut records = Records::of_table(alloc, bytes);
-    under_header(
+    read_rows::<HeadwayRows>(
+        alloc,
+        &(),
+        net,
         Table::Headways,
         &["track", "first", "second", "minutes"],
-        &mut records,
         cells,
-    )?;
-    read_rows(net, &mut records, cells)
+        bytes,
+    )
 }

@@ -1,17 +1,25 @@
 //! Faults, and the refusals of the network and of bids as faults of a row.
 
 ghost use Rattle.std.specs.Prelude.{◌≡◌, Err};
-ghost use Rattle.optra_tables.specs.Outcomes.{Gives, IsBidAnswer, IsNetAnswer, fault, or_fault};
+ghost use Rattle.optra_tables.specs.Outcomes.{Gives, IsBidAnswer, IsNetAnswer, IsRowAnswer, fault, or_fault};
 
 use crate::{Kind, ReadError, Table, TableFault};
 use optra_bid::{BidFault, BidRefusal};
 use optra_network::NetFault;
+use optra_records::TableError;
+
+/// What is wrong with a row of a table.
+pub fn fault(table: Table, row: u32, kind: Kind) -> TableFault
+    ensures { result ≡ fault table row kind }
+{
+    TableFault { table, row, kind }
+}
 
 /// A fault of a row.
 pub fn fails<T>(table: Table, row: u32, kind: Kind) -> Result<T, ReadError>
     ensures { result ≡ Err (ReadError.Fault (fault table row kind)) }
 {
-    Err(ReadError::Fault(TableFault { table, row, kind }))
+    Err(ReadError::Fault(fault(table, row, kind)))
 }
 
 /// What the network refuses is the fault of the row.
@@ -43,5 +51,16 @@ pub fn known<T>(table: Table, row: u32, found: Option<T>) -> Result<T, ReadError
     match found {
         Some(value) => Ok(value),
         None => fails(table, row, Kind::Bid(BidRefusal::UnknownName)),
+    }
+}
+
+/// The answer of a row as the reader of records takes it.
+pub fn row_answer(answer: Result<(), ReadError>) -> Result<(), TableError<TableFault>>
+    ensures { IsRowAnswer answer result }
+{
+    match answer {
+        Ok(()) => Ok(()),
+        Err(ReadError::Fault(fault)) => Err(TableError::Fault(fault)),
+        Err(ReadError::NoMemory) => Err(TableError::NoMemory),
     }
 }

@@ -1,57 +1,32 @@
-//! The records of a table under its header.
+//! Tables as the reader of records reads them.
 
-ghost use Rattle.std.specs.Prelude.{◌≡◌, map};
-ghost use Rattle.std.specs.Cmp.Lexicographic.{pointwise};
-ghost use Rattle.std.specs.Str.{bytes_eq};
-ghost use Rattle.csv.specs.Records.{fields_of};
-ghost use Rattle.optra_tables.specs.Fields.{field};
+ghost use Rattle.std.specs.Prelude.{◌≡◌, ◌<◌, ◌^◌, map, OnOk};
 ghost use Rattle.optra_tables.specs.Outcomes.{Gives};
-ghost use Rattle.optra_tables.specs.Rows.{under_header};
+ghost use Rattle.optra_tables.specs.Rows.{table_read};
 
-use crate::fields::field;
-use crate::outcomes::fails;
-use crate::{Kind, ReadError, Table};
+use crate::outcomes::fault;
+use crate::{Kind, ReadError, Table, TableFault};
 use csv::ByteRecord;
-use optra_records::Records;
+use optra_records::{TableRows, read_table};
+use std::alloc::Global;
 
-/// The row of the first record after the header.
-pub const FIRST_ROW: u32 = 2;
-
-fn is_cell(cells: &ByteRecord, i: usize, text: &str) -> bool
-    ensures { result ≡ bytes_eq (field (fields_of cells.now) i) text.now }
-{
-    field(cells, i) == text.as_bytes()
-}
-
-/// Whether the fields of a record are these texts.
-fn is_header(cells: &ByteRecord, header: &[&str]) -> bool
-    ensures { result ≡ pointwise bytes_eq (fields_of cells.now) (map (λ name. name.now) header.now) }
-{
-    if cells.len() != header.len() {
-        return false;
-    }
-    'fields: for i in 0..header.len() {
-        if !is_cell(cells, i, header[i]) {
-            return false;
-        }
-    }
-    true
-}
-
-/// Reads the first record, which has to be the header.
-pub fn under_header(
+/// Reads a table into what is known: its header, and then its records in order, each of which adds to what is known or
+/// has the first fault of the table.
+pub fn read_rows<T: TableRows<Fault = TableFault>>(
+    alloc: Global,
+    context: &T::Context,
+    known: &mut T::Known,
     table: Table,
     header: &[&str],
-    records: &mut Records<'_>,
     cells: &mut ByteRecord,
+    bytes: &[u8],
 ) -> Result<(), ReadError>
-    ensures { Gives (λ _. records.new) result (under_header table (map (λ name. name.now) header.now) records.old) }
+    requires kept { T.is_kept known.old }
+    requires room { T.room known.old < 2 ^ 31 }
+    ensures gives { Gives (λ _. known.new) result (table_read (T.step context.now) table (map (λ name. name.now) header.now) known.old bytes.now) }
+    ensures kept { OnOk result (T.is_kept known.new) }
 {
-    if !records.next(cells)? {
-        return fails(table, 1, Kind::Header);
-    }
-    if !is_header(cells, header) {
-        return fails(table, 1, Kind::Header);
-    }
+    let missing = fault(table, 1, Kind::Header);
+    read_table::<T>(alloc, context, known, header, missing, cells, bytes)?;
     Ok(())
 }

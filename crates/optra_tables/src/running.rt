@@ -5,16 +5,16 @@ ghost use Rattle.csv.specs.Records.{fields_of};
 ghost use Rattle.optra_network.specs.Refusals.{after_running, running_refusal};
 ghost use Rattle.optra_tables.specs.Networks.{HasFew, running_row, running_header};
 ghost use Rattle.optra_tables.specs.Outcomes.{Gives, net_outcome};
-ghost use Rattle.optra_tables.specs.Rows.{rows_from, table_read};
+ghost use Rattle.optra_tables.specs.Rows.{table_read};
 ghost use Rattle.optra_tables.specs.declared.Table.TheVariants.{Running};
 
 use crate::fields::{four_at, name_at, shaped};
-use crate::outcomes::net_answer;
-use crate::rows::{FIRST_ROW, under_header};
-use crate::{ReadError, Table};
+use crate::outcomes::{net_answer, row_answer};
+use crate::rows::read_rows;
+use crate::{ReadError, Table, TableFault};
 use csv::ByteRecord;
 use optra_network::Builder;
-use optra_records::Records;
+use optra_records::{TableError, TableRows};
 use std::alloc::Global;
 
 /// Adds what a record says, or tells why the network refuses it.
@@ -44,26 +44,37 @@ fn read_row(net: &mut Builder, row: u32, cells: &ByteRecord) -> Result<(), ReadE
     add(net, row, track, kind, times)
 }
 
-/// Reads the records that are left.
-fn read_rows(
-    net: &mut Builder,
-    records: &mut Records<'_>,
-    cells: &mut ByteRecord,
-) -> Result<(), ReadError>
-    requires { HasFew net.old }
-    ensures gives { Gives (λ _. net.new) result (rows_from running_row net.old 2 records.old) }
-    ensures few { OnOk result (HasFew net.new) }
-{
-    let mut row = FIRST_ROW;
-    'rows: while records.next(cells)? {
-        read_row(net, row, cells)?;
-        row += 1;
+/// The records of the running times.
+struct RunningRows;
+
+impl TableRows for RunningRows {
+    ghost use Rattle.optra_tables.specs.Networks.{HasFew, running_row};
+    ghost use Rattle.optra_tables.specs.Room.{running_room};
+
+    type Known = Builder;
+
+    type Context = ();
+
+    type Fault = TableFault;
+
+    ghost step = { λ _. running_row };
+
+    ghost is_kept = { HasFew };
+
+    ghost room = { running_room };
+
+    fn add(
+        _alloc: Global,
+        _context: &(),
+        net: &mut Builder,
+        row: u32,
+        cells: &ByteRecord,
+    ) -> Result<(), TableError<TableFault>> {
+        row_answer(read_row(net, row, cells))
     }
-    Ok(())
 }
 
 /// Reads the table of running times.
-#[tactic(auto, unfolding(crate::specs::Rows::table_read))]
 pub fn read_running(
     alloc: Global,
     net: &mut Builder,
@@ -74,8 +85,10 @@ pub fn read_running(
     ensures gives { Gives (λ _. net.new) result (table_read running_row Running running_header net.old bytes.now) }
     ensures few { OnOk result (HasFew net.new) }
 {
-    let mut records = Records::of_table(alloc, bytes);
-    under_header(
+    read_rows::<RunningRows>(
+        alloc,
+        &(),
+        net,
         Table::Running,
         &[
             "track",
@@ -85,8 +98,7 @@ pub fn read_running(
             "halt_pass",
             "halt_halt",
         ],
-        &mut records,
         cells,
-    )?;
-    read_rows(net, &mut records, cells)
+        bytes,
+    )
 }

@@ -6,16 +6,16 @@ ghost use Rattle.optra_network.specs.Names.{is_name};
 ghost use Rattle.optra_network.specs.Refusals.{station_refusal};
 ghost use Rattle.optra_tables.specs.Networks.{HasFew, station_row, stations_header};
 ghost use Rattle.optra_tables.specs.Outcomes.{Gives, net_outcome};
-ghost use Rattle.optra_tables.specs.Rows.{rows_from, table_read};
+ghost use Rattle.optra_tables.specs.Rows.{table_read};
 ghost use Rattle.optra_tables.specs.declared.Table.TheVariants.{Stations};
 
 use crate::fields::{name_at, shaped};
-use crate::outcomes::net_answer;
-use crate::rows::{FIRST_ROW, under_header};
-use crate::{ReadError, Table};
+use crate::outcomes::{net_answer, row_answer};
+use crate::rows::read_rows;
+use crate::{ReadError, Table, TableFault};
 use csv::ByteRecord;
 use optra_network::Builder;
-use optra_records::Records;
+use optra_records::{TableError, TableRows};
 use std::alloc::Global;
 
 /// Adds what a record says, or tells why the network refuses it.
@@ -38,26 +38,37 @@ fn read_row(net: &mut Builder, row: u32, cells: &ByteRecord) -> Result<(), ReadE
     add(net, row, name)
 }
 
-/// Reads the records that are left.
-fn read_rows(
-    net: &mut Builder,
-    records: &mut Records<'_>,
-    cells: &mut ByteRecord,
-) -> Result<(), ReadError>
-    requires { HasFew net.old }
-    ensures gives { Gives (λ _. net.new) result (rows_from station_row net.old 2 records.old) }
-    ensures few { OnOk result (HasFew net.new) }
-{
-    let mut row = FIRST_ROW;
-    'rows: while records.next(cells)? {
-        read_row(net, row, cells)?;
-        row += 1;
+/// The records of the stations.
+struct StationRows;
+
+impl TableRows for StationRows {
+    ghost use Rattle.optra_tables.specs.Networks.{HasFew, station_row};
+    ghost use Rattle.optra_tables.specs.Room.{stations_room};
+
+    type Known = Builder;
+
+    type Context = ();
+
+    type Fault = TableFault;
+
+    ghost step = { λ _. station_row };
+
+    ghost is_kept = { HasFew };
+
+    ghost room = { stations_room };
+
+    fn add(
+        _alloc: Global,
+        _context: &(),
+        net: &mut Builder,
+        row: u32,
+        cells: &ByteRecord,
+    ) -> Result<(), TableError<TableFault>> {
+        row_answer(read_row(net, row, cells))
     }
-    Ok(())
 }
 
 /// Reads the table of stations.
-#[tactic(auto, unfolding(crate::specs::Rows::table_read))]
 pub fn read_stations(
     alloc: Global,
     net: &mut Builder,
@@ -68,7 +79,5 @@ pub fn read_stations(
     ensures gives { Gives (λ _. net.new) result (table_read station_row Stations stations_header net.old bytes.now) }
     ensures few { OnOk result (HasFew net.new) }
 {
-    let mut records = Records::of_table(alloc, bytes);
-    under_header(Table::Stations, &["station"], &mut records, cells)?;
-    read_rows(net, &mut records, cells)
+    read_rows::<StationRows>(alloc, &(), net, Table::Stations, &["station"], cells, bytes)
 }

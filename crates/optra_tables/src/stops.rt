@@ -6,20 +6,20 @@ ghost use Rattle.optra_network.specs.Names.{AllDiffer};
 ghost use Rattle.optra_bid.specs.Instances.{IsInstance};
 ghost use Rattle.optra_tables.specs.Bids.{parts_of};
 ghost use Rattle.optra_tables.specs.Outcomes.{Gives};
-ghost use Rattle.optra_tables.specs.Rows.{rows_from, table_read};
+ghost use Rattle.optra_tables.specs.Rows.{table_read};
 ghost use Rattle.optra_tables.specs.Stops.{bids_of, found_at, stop_outcome, stop_row, stops_header};
 ghost use Rattle.optra_tables.specs.declared.Table.TheVariants.{Stops};
 
 use crate::bid_list::BidList;
 use crate::bids::read_named;
 use crate::fields::{name_at, number_at, shaped, two_at};
-use crate::outcomes::{bid_answer, fails, known};
-use crate::rows::{FIRST_ROW, under_header};
-use crate::{Kind, ReadError, Table};
+use crate::outcomes::{bid_answer, fails, known, row_answer};
+use crate::rows::read_rows;
+use crate::{Kind, ReadError, Table, TableFault};
 use csv::ByteRecord;
 use optra_bid::{Bid, BidRefusal, RawStop};
 use optra_network::{Network, StationId};
-use optra_records::Records;
+use optra_records::{TableError, TableRows};
 use std::alloc::Global;
 
 /// Adds a stop to the bid at a place, or tells why the bid refuses it.
@@ -75,23 +75,35 @@ fn read_row(
     add(bids, row, place, &raw)
 }
 
-/// Reads the records that are left.
-fn read_rows(
-    net: &Network,
-    bids: &mut BidList,
-    records: &mut Records<'_>,
-    cells: &mut ByteRecord,
-) -> Result<(), ReadError>
-    requires { length bids.old ≤ 1000 }
-    ensures gives { Gives (λ _. bids.new) result (rows_from (stop_row net.now) bids.old 2 records.old) }
-    ensures same { OnOk result (length bids.new ≡ length bids.old) }
-{
-    let mut row = FIRST_ROW;
-    'rows: while records.next(cells)? {
-        read_row(net, bids, row, cells)?;
-        row += 1;
+/// The records of the stops, read into bids on a network.
+struct StopRows;
+
+impl TableRows for StopRows {
+    ghost use Rattle.std.specs.Prelude.{◌≤◌, length};
+    ghost use Rattle.optra_tables.specs.Stops.{stop_row};
+    ghost use Rattle.optra_tables.specs.Room.{stops_room};
+
+    type Known = BidList;
+
+    type Context = Network;
+
+    type Fault = TableFault;
+
+    ghost step = { stop_row };
+
+    ghost is_kept = { λ bids. length bids ≤ 1000 };
+
+    ghost room = { stops_room };
+
+    fn add(
+        _alloc: Global,
+        net: &Network,
+        bids: &mut BidList,
+        row: u32,
+        cells: &ByteRecord,
+    ) -> Result<(), TableError<TableFault>> {
+        row_answer(read_row(net, bids, row, cells))
     }
-    Ok(())
 }
 
 /// The header of the stops.
@@ -105,7 +117,6 @@ pub const STOPS_HEADER: [&str; 6] = [
 ];
 
 /// Reads the table of stops into the bids.
-#[tactic(auto, unfolding(crate::specs::Rows::table_read))]
 fn read_stops(
     alloc: Global,
     net: &Network,
@@ -114,12 +125,9 @@ fn read_stops(
     bytes: &[u8],
 ) -> Result<(), ReadError>
     requires { length bids.old ≤ 1000 }
-    ensures gives { Gives (λ _. bids.new) result (table_read (stop_row net.now) Stops stops_header bids.old bytes.now) }
-    ensures same { OnOk result (length bids.new ≡ length bids.old) }
+    ensures { Gives (λ _. bids.new) result (table_read (stop_row net.now) Stops stops_header bids.old bytes.now) }
 {
-    let mut records = Records::of_table(alloc, bytes);
-    under_header(Table::Stops, &STOPS_HEADER, &mut records, cells)?;
-    read_rows(net, bids, &mut records, cells)
+    read_rows::<StopRows>(alloc, net, bids, Table::Stops, &STOPS_HEADER, cells, bytes)
 }
 
 /// The bids that the two tables mean on a network, or exactly their first fault. The bids are read first; the stops of

@@ -6,16 +6,16 @@ ghost use Rattle.optra_network.specs.Names.{is_name};
 ghost use Rattle.optra_network.specs.Refusals.{after_track, track_refusal};
 ghost use Rattle.optra_tables.specs.Networks.{HasFew, track_row, tracks_header};
 ghost use Rattle.optra_tables.specs.Outcomes.{Gives, net_outcome};
-ghost use Rattle.optra_tables.specs.Rows.{rows_from, table_read};
+ghost use Rattle.optra_tables.specs.Rows.{table_read};
 ghost use Rattle.optra_tables.specs.declared.Table.TheVariants.{Tracks};
 
 use crate::fields::{name_at, shaped};
-use crate::outcomes::net_answer;
-use crate::rows::{FIRST_ROW, under_header};
-use crate::{ReadError, Table};
+use crate::outcomes::{net_answer, row_answer};
+use crate::rows::read_rows;
+use crate::{ReadError, Table, TableFault};
 use csv::ByteRecord;
 use optra_network::Builder;
-use optra_records::Records;
+use optra_records::{TableError, TableRows};
 use std::alloc::Global;
 
 /// Adds what a record says, or tells why the network refuses it.
@@ -40,26 +40,37 @@ fn read_row(net: &mut Builder, row: u32, cells: &ByteRecord) -> Result<(), ReadE
     add(net, row, name, from, to)
 }
 
-/// Reads the records that are left.
-fn read_rows(
-    net: &mut Builder,
-    records: &mut Records<'_>,
-    cells: &mut ByteRecord,
-) -> Result<(), ReadError>
-    requires { HasFew net.old }
-    ensures gives { Gives (λ _. net.new) result (rows_from track_row net.old 2 records.old) }
-    ensures few { OnOk result (HasFew net.new) }
-{
-    let mut row = FIRST_ROW;
-    'rows: while records.next(cells)? {
-        read_row(net, row, cells)?;
-        row += 1;
+/// The records of the tracks.
+struct TrackRows;
+
+impl TableRows for TrackRows {
+    ghost use Rattle.optra_tables.specs.Networks.{HasFew, track_row};
+    ghost use Rattle.optra_tables.specs.Room.{tracks_room};
+
+    type Known = Builder;
+
+    type Context = ();
+
+    type Fault = TableFault;
+
+    ghost step = { λ _. track_row };
+
+    ghost is_kept = { HasFew };
+
+    ghost room = { tracks_room };
+
+    fn add(
+        _alloc: Global,
+        _context: &(),
+        net: &mut Builder,
+        row: u32,
+        cells: &ByteRecord,
+    ) -> Result<(), TableError<TableFault>> {
+        row_answer(read_row(net, row, cells))
     }
-    Ok(())
 }
 
 /// Reads the table of tracks.
-#[tactic(auto, unfolding(crate::specs::Rows::table_read))]
 pub fn read_tracks(
     alloc: Global,
     net: &mut Builder,
@@ -70,7 +81,13 @@ pub fn read_tracks(
     ensures gives { Gives (λ _. net.new) result (table_read track_row Tracks tracks_header net.old bytes.now) }
     ensures few { OnOk result (HasFew net.new) }
 {
-    let mut records = Records::of_table(alloc, bytes);
-    under_header(Table::Tracks, &["track", "from", "to"], &mut records, cells)?;
-    read_rows(net, &mut records, cells)
+    read_rows::<TrackRows>(
+        alloc,
+        &(),
+        net,
+        Table::Tracks,
+        &["track", "from", "to"],
+        cells,
+        bytes,
+    )
 }

@@ -1,5 +1,5 @@
 -- A record is a field, further ones each behind a comma, and a line feed.
-use Rattle.std.proofs.Common.{◌∙◌, ◌<◌, sym, length, arith}
+use Rattle.std.proofs.Common.{◌∙◌, ◌<◌, length, arith}
 use Rattle.csv.specs.Records.{fields_of}
 use Rattle.optra_records.proofs.CanonicalLemmas.{first_stands, first_never, next_stands, next_never}
 use Rattle.optra_records.proofs.canonical.after_record.Goals as goal
