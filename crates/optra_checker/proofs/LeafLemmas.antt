@@ -73,7 +73,7 @@ module _ {R : Type 0} (cmp : R → R → Ordering) (net : Net) (proper : IsPrope
       above None most is m (inr (legs, allowed, e)) = absurd (is legs (allowed_open legs allowed))
       above (Some b) most is m (inr (legs, allowed, e)) = let l = is.most m (legs, allowed_open legs allowed, e) in omega (arith, ints)
 
-kind_is : (bids : List Bid) (number : ℕ) (bid : Bid) → slice_get bids number ≡ Some bid → kind_at bids number ≡ bid.path.kind
+pub kind_is : (bids : List Bid) (number : ℕ) (bid : Bid) → slice_get bids number ≡ Some bid → kind_at bids number ≡ bid.path.kind
 kind_is bids number bid at = ap (λ o. option_map_or (λ (b : Bid). b.path.kind) o (record { 0 = 0 })) at
 
 module _ {R : Type 0} (cmp : R → R → Ordering) (net : Net) (proper : IsProper net) (rows : Rows R) (used : TypeId → Leg → List R) (lists : (kind : TypeId) (leg : Leg) → IsUsable net kind leg → ListsRows cmp rows.is_row (rows.uses kind leg) (used kind leg))
@@ -89,11 +89,11 @@ module _ {R : Type 0} (cmp : R → R → Ordering) (net : Net) (proper : IsPrope
   best_no none n least most reached = offer_no cmp net proper rows used lists bids node prices number bid none best n least most reached of_kind
 
 -- the last of a list with one element more, and the others
-slice_last : {X : Type 0} (xs : List X) (x y : X) → slice_get (xs ++ x ∷ []) (length xs) ≡ Some y → x ≡ y
+pub slice_last : {X : Type 0} (xs : List X) (x y : X) → slice_get (xs ++ x ∷ []) (length xs) ≡ Some y → x ≡ y
 slice_last [] x y e = cc
 slice_last (z ∷ xs) x y e = slice_last xs x y e
 
-slice_before : {X : Type 0} (xs : List X) (x y : X) (k : ℕ) → k < length xs → slice_get (xs ++ x ∷ []) k ≡ Some y → slice_get xs k ≡ Some y
+pub slice_before : {X : Type 0} (xs : List X) (x y : X) (k : ℕ) → k < length xs → slice_get (xs ++ x ∷ []) k ≡ Some y → slice_get xs k ≡ Some y
 slice_before [] x y k l e = absurd (omega arith)
 slice_before (z ∷ xs) x y zero l e = e
 slice_before (z ∷ xs) x y (suc k) l e = slice_before xs x y k (omega arith) e

@@ -29,7 +29,7 @@ default_same (x ∷ xs) zero d e l = refl
 default_same (x ∷ xs) (suc k) d e l = default_same xs k d e (omega arith)
 
 -- a sum of nothing but zeros
-none_left : {X : Type 0} (f : X → ℤ) (xs : List X) → ((j : ℕ) (d : X) → j < length xs → f (get_or xs j d) ≡ pos 0) → sum_of f xs ≡ pos 0
+pub none_left : {X : Type 0} (f : X → ℤ) (xs : List X) → ((j : ℕ) (d : X) → j < length xs → f (get_or xs j d) ≡ pos 0) → sum_of f xs ≡ pos 0
 none_left f [] h = refl
 none_left f (x ∷ xs) h =
     let c = sum_of-cons f x xs in

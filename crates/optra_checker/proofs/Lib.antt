@@ -22,3 +22,4 @@ pub mod LeafLemmas
 pub mod BoundLemmas
 pub mod ReachLemmas
 pub mod VerdictLemmas
+pub mod FreeLemmas

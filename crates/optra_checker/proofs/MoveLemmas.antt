@@ -23,10 +23,11 @@ use Rattle.optra_checker.specs.declared.ways.Way.{Way}
 use Rattle.optra_checker.specs.declared.rest_table.RestTable.{RestTable}
 use Rattle.optra_checker.specs.Places.{IsPlaced, place_of, mode_of}
 use Rattle.optra_checker.specs.Rests.{FitsAction, IsMove, IsAfter, IsRestSize, IsBestRest, AnyLeg, greater_of, worth_by, end_price, wait_price}
-use Rattle.optra_checker.specs.Tables.{IsReadyFor, rest_at, entry_at}
+use Rattle.optra_checker.specs.Tables.{IsReadyFor, rest_at, end_of}
 use Rattle.optra_checker.specs.Ways.{leg_by, IsWay, IsOn, IsLegBy, IsHaltBelow, IsHaltBy, IsWaitBelow, IsWaitBy}
 use Rattle.optra_checker.proofs.BestLemmas.{best_same, best_both, best_none, best_on, best_end}
-use Rattle.optra_checker.proofs.HorizonLemmas.{rest_before, after_later}
+use Rattle.optra_checker.proofs.FillLemmas.{rest_by, early_before}
+use Rattle.optra_checker.proofs.HorizonLemmas.{after_later}
 
 some_same : {A : Type 0} (o : Option A) (a b : A) → o ≡ Some a → o ≡ Some b → a ≡ b
 some_same o a b e f = cc
@@ -145,21 +146,12 @@ module _ (net : Net) (path : Path) (s : State) where
 module _ (w : Weights) (net : Net) (bid : Bid) (table : RestTable) (s : State) (ready : IsReadyFor w net bid table s) where
   -- what the table has for a state that comes later
   pub later_rest : (leg : Leg) (after : State) → IsMove net bid.path s leg → IsAfter net bid.path s leg after → after.station.0 < length net.stations → after.done * 2 + mode_of after.halted < table.layout.slots
-      → (after.minute < table.layout.first + table.layout.minutes → IsPlaced table.layout after) × IsBestRest w net bid after AnyLeg (rest_at table after)
-  later_rest leg after move is_after station done = (placed, by (cases_lt after.minute (table.layout.first + table.layout.minutes)))
+      → (after.minute < end_of table → IsPlaced table.layout after) × IsBestRest w net bid after AnyLeg (rest_at table after)
+  later_rest leg after move is_after station done =
+      (placed, rest_by w net bid table after ready.reach ready.setting (λ early. ready.later leg after move is_after (placed (early_before table after early)) early))
     where
-      placed : after.minute < table.layout.first + table.layout.minutes → IsPlaced table.layout after
+      placed : after.minute < end_of table → IsPlaced table.layout after
       placed l = let later = after_later net bid.path ready.setting.proper s after leg move is_after in let early = ready.placed.early in let e = ready.setting.laid.stations in record { early = omega arith; late = l; done = done; station = omega (arith, e) }
-
-      by : (after.minute < table.layout.first + table.layout.minutes) ⊎ (table.layout.first + table.layout.minutes ≤ after.minute) → IsBestRest w net bid after AnyLeg (rest_at table after)
-      by (inl l) = subst (λ (b : Bool). IsBestRest w net bid after AnyLeg (if b then entry_at table (place_of table.layout after) else None))
-          (sym (lt-ltb after.minute (table.layout.first + table.layout.minutes) l)) (ready.later leg after move is_after (placed l))
-      by (inr l) =
-          let f = ready.setting.laid.first in
-          let m = ready.setting.laid.minutes in
-          let over : nat_lt after.minute (table.layout.first + table.layout.minutes) ≡ false = grind arith in
-          subst (λ (b : Bool). IsBestRest w net bid after AnyLeg (if b then entry_at table (place_of table.layout after) else None)) (sym over)
-          (record { greatest = λ n c. let before = rest_before net bid.path ready.setting.proper after (c.0 ∷ c.1) c.3.rest in omega (arith, before); size = tt })
 
   -- a leg by a way may be asked of
   usable : (way : Way) → IsWay net bid.path s way → AreWeightsFor w net bid.path → (a : Action) → dwell_of a ≤ 240 → IsUsable w.net w.kind (leg_by s way.track a)
@@ -175,7 +167,7 @@ module _ (w : Weights) (net : Net) (bid : Bid) (table : RestTable) (s : State) (
 
     -- ---- passing
 
-    pub pass_later : (way.pass < table.layout.first + table.layout.minutes → IsPlaced table.layout (after_pass net bid.path s way by))
+    pub pass_later : (way.pass < end_of table → IsPlaced table.layout (after_pass net bid.path s way by))
         × IsBestRest w net bid (after_pass net bid.path s way by) AnyLeg (rest_at table (after_pass net bid.path s way by))
     pass_later = let d = ready.placed.done in later_rest (leg_by s way.track Pass) (after_pass net bid.path s way by) (move_by net bid.path s way by Pass tt) (is_after_pass net bid.path s way by) by.station (omega (arith, d))
 
@@ -204,7 +196,7 @@ module _ (w : Weights) (net : Net) (bid : Bid) (table : RestTable) (s : State) (
       pub halt_usable : IsUsable w.net w.kind (leg_by s way.track (Halt d))
       halt_usable = usable way by for (Halt d) halt_few
 
-      pub halt_later : (way.halt + d < table.layout.first + table.layout.minutes → IsPlaced table.layout (after_halt net bid.path s way by d))
+      pub halt_later : (way.halt + d < end_of table → IsPlaced table.layout (after_halt net bid.path s way by d))
           × IsBestRest w net bid (after_halt net bid.path s way by d) AnyLeg (rest_at table (after_halt net bid.path s way by d))
       halt_later = let e = ready.setting.laid.slots in let l = by.halt_later in let more = halt_done in
           later_rest (leg_by s way.track (Halt d)) (after_halt net bid.path s way by d) move (is_after_halt net bid.path s way by d) by.station (omega (arith, e, more))
@@ -220,7 +212,7 @@ module _ (w : Weights) (net : Net) (bid : Bid) (table : RestTable) (s : State) (
       pub wait_few : d ≤ 240
       wait_few = let most = ready.setting.wait_max in let within = move.action.1 in omega arith
 
-      pub wait_later : (way.halt + d < table.layout.first + table.layout.minutes → IsPlaced table.layout (after_wait net bid.path s way by d))
+      pub wait_later : (way.halt + d < end_of table → IsPlaced table.layout (after_wait net bid.path s way by d))
           × IsBestRest w net bid (after_wait net bid.path s way by d) AnyLeg (rest_at table (after_wait net bid.path s way by d))
       wait_later = let l = by.halt_later in later_rest (leg_by s way.track (Wait d)) (after_wait net bid.path s way by d) move (is_after_wait net bid.path s way by d) by.station slots_room
 

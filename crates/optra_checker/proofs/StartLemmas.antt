@@ -10,42 +10,35 @@ use Rattle.optra_walk.specs.Values.{first_departure}
 use Rattle.optra_checker.specs.Weights.{Weights, IsOpenWalk, worth_of, IsBestWorth, IsWorthSize}
 use Rattle.optra_checker.specs.declared.states.State.{State}
 use Rattle.optra_checker.specs.declared.rest_table.RestTable.{RestTable}
-use Rattle.optra_checker.specs.Places.{IsPlaced, place_of}
+use Rattle.optra_checker.specs.Places.{IsPlaced}
 use Rattle.optra_checker.specs.Rests.{start_state, start_value, IsRest, IsOpenRest, IsRestWorth, IsGreatestOf, IsRestSize, IsBestRest, AnyLeg, greater_of, rest_worth}
 use Rattle.optra_checker.specs.Shares.{IsStartValue}
 use Rattle.optra_checker.specs.Sizes.{IsWholeRest}
 use Rattle.optra_checker.specs.Starts.{IsStartWorth, IsBestStart, IsAt, IsBefore}
-use Rattle.optra_checker.specs.Tables.{IsFilled, rest_at, entry_at}
+use Rattle.optra_checker.specs.Tables.{IsFilled, rest_at, end_of}
 use Rattle.optra_checker.proofs.BestLemmas.{same_greatest, both_greatest, greater_has}
-use Rattle.optra_checker.proofs.HorizonLemmas.{rest_before}
+use Rattle.optra_checker.proofs.FillLemmas.{rest_by, early_before}
 use Rattle.optra_checker.proofs.ReachLemmas.{reached_start}
 use Rattle.optra_checker.proofs.RestLemmas.{rest_of_walk, walk_of_rest}
 use Rattle.optra_checker.proofs.ValueLemmas.{walk_sum}
 
 module _ (w : Weights) (net : Net) (bid : Bid) where
-  -- what a filled table has for the state in which a walk begins
+  -- the state in which a walk begins has a place, where the table has minutes for it
+  pub start_placed : (table : RestTable) (minute : ℕ) → IsFilled w net bid table 0 → IsFromTo bid.path.depart.from bid.path.depart.to minute → minute < end_of table → IsPlaced table.layout (start_state bid.path minute)
+  start_placed table minute h within l =
+      let first = h.setting.laid.first in
+      let slots = h.setting.laid.slots in
+      let stations = h.setting.laid.stations in
+      let origin = h.setting.origin in
+      let from = within.0 in
+      record { early = omega arith; late = l; done = omega (arith, slots); station = omega (arith, stations) }
+
+  -- what a filled table has for it
   pub start_rest : (table : RestTable) (minute : ℕ) → IsFilled w net bid table 0 → IsFromTo bid.path.depart.from bid.path.depart.to minute
       → IsBestRest w net bid (start_state bid.path minute) AnyLeg (rest_at table (start_state bid.path minute))
-  start_rest table minute h within = by (cases_lt minute (table.layout.first + table.layout.minutes))
-    where
-      placed : minute < table.layout.first + table.layout.minutes → IsPlaced table.layout (start_state bid.path minute)
-      placed l =
-          let first = h.setting.laid.first in
-          let slots = h.setting.laid.slots in
-          let stations = h.setting.laid.stations in
-          let origin = h.setting.origin in
-          let from = within.0 in
-          record { early = omega arith; late = l; done = omega (arith, slots); station = omega (arith, stations) }
-
-      by : (minute < table.layout.first + table.layout.minutes) ⊎ (table.layout.first + table.layout.minutes ≤ minute) → IsBestRest w net bid (start_state bid.path minute) AnyLeg (rest_at table (start_state bid.path minute))
-      by (inl l) = subst (λ (b : Bool). IsBestRest w net bid (start_state bid.path minute) AnyLeg (if b then entry_at table (place_of table.layout (start_state bid.path minute)) else None))
-          (sym (lt-ltb minute (table.layout.first + table.layout.minutes) l)) (h.each (start_state bid.path minute) (placed l) (omega arith) (reached_start net bid.path table.reach h.reach (start_state bid.path minute) refl within.0))
-      by (inr l) =
-          let f = h.setting.laid.first in
-          let m = h.setting.laid.minutes in
-          let over : nat_lt minute (table.layout.first + table.layout.minutes) ≡ false = grind arith in
-          subst (λ (b : Bool). IsBestRest w net bid (start_state bid.path minute) AnyLeg (if b then entry_at table (place_of table.layout (start_state bid.path minute)) else None)) (sym over)
-          (record { greatest = λ n c. let before = rest_before net bid.path h.setting.proper (start_state bid.path minute) (c.0 ∷ c.1) c.3.rest in omega (arith, before); size = tt })
+  start_rest table minute h within =
+      rest_by w net bid table (start_state bid.path minute) h.reach h.setting
+      (λ early. h.each (start_state bid.path minute) (start_placed table minute h within (early_before table (start_state bid.path minute) early)) (omega arith) (reached_start net bid.path table.reach h.reach (start_state bid.path minute) refl within.0) early)
 
   -- a start and a rest behind it
   start_open : (minute : ℕ) → w.may_start minute ≡ true → IsFromTo bid.path.depart.from bid.path.depart.to minute → (leg : Leg) (rest : List Leg)

@@ -18,3 +18,4 @@ pub mod Leaves
 pub mod Bounds
 pub mod Reaches
 pub mod Asks
+pub mod Frees

@@ -1,4 +1,4 @@
--- The places of states: minute by minute, then by stops done and by mode, then by station.
+-- The places of states: minute by minute, then by station, then by stops done and by mode.
 use Rattle.std.specs.Prelude.{◌≡◌, ℕ, ◌+◌, ◌-◌, ◌*◌, ◌/◌, ◌%◌, ◌<◌, ◌≤◌, Bool, true, false, nat_eq, length}
 use Rattle.optra_network.specs.Net.{Net}
 use Rattle.optra_bid.specs.Specs.{Path}
@@ -24,29 +24,33 @@ abbrev pub mode_of : Bool → ℕ
 mode_of true = 1
 mode_of false = 0
 
--- the number of the minute, the stops done and the mode
-abbrev pub slot_of : Layout → State → ℕ
-slot_of layout s = (s.minute - layout.first) * layout.slots + (s.done * 2 + mode_of s.halted)
+-- the number of the stops done and the mode
+abbrev pub slot_of : State → ℕ
+slot_of s = s.done * 2 + mode_of s.halted
+
+-- where the places of a station in a minute begin, by the numbers of both
+abbrev pub spot_at : Layout → ℕ → ℕ → ℕ
+spot_at layout minute station = (minute * layout.stations + station) * layout.slots
 
 abbrev pub place_of : Layout → State → ℕ
-place_of layout s = slot_of layout s * layout.stations + s.station.0
+place_of layout s = spot_at layout (s.minute - layout.first) s.station.0 + slot_of s
 
--- how many places there are; this number itself stands for the end of a walk
+-- how many places there are
 abbrev pub places_of : Layout → ℕ
-places_of layout = layout.minutes * layout.slots * layout.stations
+places_of layout = layout.minutes * layout.stations * layout.slots
 
 -- the state has a place
 pub record IsPlaced (layout : Layout) (s : State) : Type 0 where
   pub early : layout.first ≤ s.minute
   pub late : s.minute < layout.first + layout.minutes
-  pub done : s.done * 2 + mode_of s.halted < layout.slots
+  pub done : slot_of s < layout.slots
   pub station : s.station.0 < layout.stations
 
 -- the state at a place
 abbrev pub state_of : Layout → ℕ → State
 state_of layout place = record {
-  station = record { 0 = place % layout.stations };
-  minute = layout.first + place / layout.stations / layout.slots;
-  halted = nat_eq (place / layout.stations % layout.slots % 2) 1;
-  done = place / layout.stations % layout.slots / 2;
+  station = record { 0 = place / layout.slots % layout.stations };
+  minute = layout.first + place / layout.slots / layout.stations;
+  halted = nat_eq (place % layout.slots % 2) 1;
+  done = place % layout.slots / 2;
 }

@@ -3,9 +3,12 @@ ghost use Rattle.std.specs.Prelude.{◌≡◌, ◌↔◌, All, IsTrue, IfOk, Som
 ghost use Rattle.optra_bid.specs.Instances.{IsInstance};
 ghost use Rattle.optra_node.specs.Trees.{IsTree, places};
 ghost use Rattle.optra_node.specs.Certificates.{IsFormedItem, SplitsUndecided, HasPrices, IsGreatestBound};
+ghost use Rattle.optra_checker.specs.Frees.{AreFree};
 ghost use Rattle.optra_checker.specs.Bounds.{IsItemBound, IsGreatestOf};
 
+use crate::frees::{Free, find_frees};
 use crate::open_node::OpenNode;
+use crate::rest_table::RestTable;
 use crate::rests::greater;
 use crate::terms::leaf_bound;
 use optra_network::{Cents, NoMemory};
@@ -25,15 +28,18 @@ fn item_bound<F: RowFamily>(
     alloc: Global,
     node: &OpenNode<'_, F>,
     item: &Item<F::Row>,
+    frees: &[Free],
+    table: &mut RestTable,
 ) -> Result<Option<i128>, NoMemory>
     requires instance { IsInstance node.now.net node.now.bids }
+    requires frees { AreFree node.now.net node.now.bids frees.now }
     requires formed { IsFormedItem F.Row.cmp node.now.net (length node.now.bids) item.now }
     requires prices { HasPrices (F.rows_of node.now.family node.now.net) item.now }
     ensures { IfOk result (IsItemBound node.now.net (F.rows_of node.now.family node.now.net) node.now.bids node.now.node item.now) }
 {
     match item {
         Item::Priced { prices } => {
-            let cents = leaf_bound(alloc, node, entries(prices))?;
+            let cents = leaf_bound(alloc, node, entries(prices), frees, table)?;
             Ok(Some(cents))
         }
         Item::Split { .. } | Item::NoWalk { .. } | Item::Forced { .. } => Ok(None),
@@ -55,9 +61,11 @@ fn greatest_bound<F: RowFamily>(
     ensures { IfOk result (IsGreatestOf inst.entry.net.now (F.rows_of rows.now inst.entry.net.now) inst.entry.bids.now (places tree.now)) }
 {
     let mut node = OpenNode::new(alloc, inst, rows)?;
+    let mut table = RestTable::new(alloc);
+    let frees = find_frees(alloc, inst, &mut table)?;
     let mut greatest = None;
     'items: for item in tree {
-        let cents = item_bound(alloc, &node, item)?;
+        let cents = item_bound(alloc, &node, item, &frees, &mut table)?;
         greatest = greater(greatest, cents);
         node = node.pass(item)?;
     }

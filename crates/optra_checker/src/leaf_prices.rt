@@ -1,5 +1,5 @@
 //! The prices of a leaf, looked up by row.
-ghost use Rattle.std.specs.Prelude.{◌≡◌, pos, ◌*ℤ◌, All};
+ghost use Rattle.std.specs.Prelude.{◌≡◌, ◌↔◌, [], pos, ◌*ℤ◌, All, IsTrue};
 ghost use Rattle.std.specs.Ordering.{eq_by_cmp};
 ghost use Rattle.optra_bid.specs.Specs.{IsBetween};
 ghost use Rattle.optra_walk.specs.Families.{IsUsable};
@@ -31,8 +31,8 @@ fn times(price: i64, count: u32) -> i128
     i128::from(price) * i128::from(count)
 }
 
-/// The price of a leg that the type may use: over the rows that it touches, price times use.
-pub(crate) fn leg_price<F: RowFamily>(
+/// What the rows that a leg touches come to, price times use.
+fn used_price<F: RowFamily>(
     inst: Instance<'_>,
     rows: &F,
     prices: &[(F::Row, i64)],
@@ -56,6 +56,34 @@ pub(crate) fn leg_price<F: RowFamily>(
         total += times(price, rows.leg_use(inst.net, kind, leg, row));
     }
     total
+}
+
+/// Whether no row has a price.
+fn are_none<R>(prices: &[(R, i64)]) -> bool
+    ensures { IsTrue result ↔ (prices.now ≡ []) }
+{
+    prices.is_empty()
+}
+
+/// The price of a leg that the type may use: over the rows that it touches, price times use. Where no row has a price, none
+/// is touched.
+pub(crate) fn leg_price<F: RowFamily>(
+    inst: Instance<'_>,
+    rows: &F,
+    prices: &[(F::Row, i64)],
+    kind: TypeId,
+    leg: Leg,
+) -> i128
+    requires usable { IsUsable inst.net.now kind leg }
+    requires ascending { AreAscending F.Row.cmp prices.now }
+    requires prices { ArePrices (F.rows_of rows.now inst.net.now) prices.now }
+    ensures value { result ≡ leg_price (F.rows_of rows.now inst.entry.net.now) prices.now kind leg }
+    ensures range { IsBetween (pos 0) (pos 16384000000000000) result }
+{
+    if are_none(prices) {
+        return 0;
+    }
+    used_price(inst, rows, prices, kind, leg)
 }
 
 /// The price of all capacity: over the listed rows, price times capacity.

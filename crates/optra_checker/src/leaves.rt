@@ -6,6 +6,7 @@ ghost use Rattle.optra_node.specs.Trees.{IsTree, places};
 ghost use Rattle.optra_node.specs.Certificates.{IsFormedItem, SplitsUndecided, EndsDead};
 
 use crate::open_node::OpenNode;
+use crate::rest_table::RestTable;
 use crate::terms::best_offer;
 use optra_network::NoMemory;
 use optra_node::Item;
@@ -19,7 +20,8 @@ fn is_stuck<F: RowFamily>(alloc: Global, node: &OpenNode<'_, F>, bid: u32) -> Re
     ensures { IfOk result (λ stuck. IsTrue stuck ↔ IsSomeAnd (slice_get node.now.bids bid) (λ b. IsStuck node.now.net (F.rows_of node.now.family node.now.net) node.now.bids node.now.node bid b)) }
 {
     let prices = Vec::new(alloc);
-    let best = best_offer(alloc, node, &prices, bid)?;
+    let mut table = RestTable::new(alloc);
+    let best = best_offer(alloc, node, &prices, bid, None, &mut table)?;
     Ok(best.is_none())
 }
 

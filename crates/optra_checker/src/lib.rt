@@ -3,6 +3,12 @@
 //!
 //! A certificate that is answered Yes shows, whoever wrote it, that its choice keeps the rule and earns the stated
 //! revenue, and that no choice that keeps the rule earns more than the stated bound: [`optra_node::bound_holds`].
+//!
+//! A bid's greatest offer at a leaf is found in two steps. Once a check, [`frees`] finds the best of all walks of each bid,
+//! where nothing is decided, used or priced, and keeps the legs of one. At a leaf that still allows that walk, at no price,
+//! nothing is better, so its few legs are all that is asked of. Only where the leaf doesn't, [`table`] searches the bid's
+//! walks by a table over minutes, stations and stops done, that is filled once from late to early: only where and when a
+//! train of the bid may be, and in room that stays from search to search.
 #![tactic(auto)]
 
 use optra_network::Cents;
@@ -11,6 +17,7 @@ mod asks;
 mod bounding;
 mod checking;
 mod fitting;
+mod frees;
 mod leaf_prices;
 mod leaf_weights;
 mod leaves;
@@ -26,6 +33,7 @@ mod states;
 mod table;
 mod taking;
 mod terms;
+mod tracing;
 mod walks;
 mod ways;
 mod weighing;

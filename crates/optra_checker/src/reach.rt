@@ -63,12 +63,14 @@ fn lower_by(net: &Network, kind: TypeId, back: bool, least: &mut [u16], track: T
     true
 }
 
-/// One pass over all tracks. Says whether it lowered a number.
-fn lower(net: &Network, kind: TypeId, back: bool, least: &mut [u16]) -> bool
+/// One pass over all tracks, from the first to the last. Says whether it lowered a number.
+fn lower_on(net: &Network, kind: TypeId, back: bool, least: &mut [u16]) -> bool
     requires len { length least.old ≡ length net.now.stations }
     ensures lowered { IsTrue result → sum least.new < sum least.old }
     ensures stays { result ≡ false → (n : ℕ) → n < length net.now.tracks → IsLeastAlong net.now kind back least.new (track_id n) }
     ensures no_more { (k : ℕ) → slice_index least.new k ≤ slice_index least.old k }
+    ensures sums { sum least.new ≤ sum least.old }
+    ensures same { result ≡ false → least.new ≡ least.old }
 {
     let mut lowered = false;
     for n in 0..net.track_count() {
@@ -77,6 +79,37 @@ fn lower(net: &Network, kind: TypeId, back: bool, least: &mut [u16]) -> bool
         }
     }
     lowered
+}
+
+/// One pass over all tracks, from the last to the first. Says whether it lowered a number.
+fn lower_down(net: &Network, kind: TypeId, back: bool, least: &mut [u16]) -> bool
+    requires len { length least.old ≡ length net.now.stations }
+    ensures lowered { IsTrue result → sum least.new < sum least.old }
+    ensures no_more { (k : ℕ) → slice_index least.new k ≤ slice_index least.old k }
+    ensures sums { sum least.new ≤ sum least.old }
+    ensures same { result ≡ false → least.new ≡ least.old }
+{
+    let mut lowered = false;
+    let count = net.track_count();
+    for n in 0..count {
+        if lower_by(net, kind, back, least, TrackId(count - 1 - n)) {
+            lowered = true;
+        }
+    }
+    lowered
+}
+
+/// A pass over all tracks in their order, and one in the other: lines of tracks are gone along in either. Says whether it
+/// lowered a number.
+fn lower(net: &Network, kind: TypeId, back: bool, least: &mut [u16]) -> bool
+    requires len { length least.old ≡ length net.now.stations }
+    ensures lowered { IsTrue result → sum least.new < sum least.old }
+    ensures stays { result ≡ false → (n : ℕ) → n < length net.now.tracks → IsLeastAlong net.now kind back least.new (track_id n) }
+    ensures no_more { (k : ℕ) → slice_index least.new k ≤ slice_index least.old k }
+{
+    let on = lower_on(net, kind, back, least);
+    let down = lower_down(net, kind, back, least);
+    on || down
 }
 
 /// For each station the least minutes of trains of the type from a station to it, or back from it.

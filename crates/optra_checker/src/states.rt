@@ -1,7 +1,7 @@
 //! States of a train under way, and their places in one dense numbering.
 ghost use Rattle.std.specs.Prelude.{◌≡◌, ℕ, ◌+◌, ◌-◌, ◌*◌, ◌<◌, ◌≤◌, length};
 ghost use Rattle.optra_bid.specs.Specs.{IsPathOn};
-ghost use Rattle.optra_checker.specs.Places.{place_of, slot_of, state_of, places_of, IsPlaced, IsSmall};
+ghost use Rattle.optra_checker.specs.Places.{place_of, places_of, slot_of, IsPlaced, IsSmall};
 ghost use Rattle.optra_checker.specs.Settings.{IsSetting};
 
 use optra_bid::Bid;
@@ -16,7 +16,7 @@ pub(crate) struct State {
     pub done: u16,
 }
 
-/// How the states of a bid are numbered: minute by minute, in each by stops done, then by mode, then by station.
+/// How the states of a bid are numbered: minute by minute, in each by station, then by stops done, then by mode.
 /// A state has one of `slots` for its stops and its mode.
 #[derive(Clone, Copy, Debug, PartialEq, Eq)]
 pub(crate) struct Layout {
@@ -41,50 +41,40 @@ pub(crate) fn make_layout(net: &Network, bid: &Bid) -> Layout
 }
 
 impl Layout {
-    /// How many places there are. This number itself is the place of the end.
+    /// How many places there are.
     pub(crate) fn places(self) -> u32
         requires { IsSmall self }
         ensures value { result ≡ places_of self }
         ensures small { result ≤ 15552000 }
     {
-        u32::from(self.minutes) * u32::from(self.slots) * u32::from(self.stations)
+        u32::from(self.minutes) * u32::from(self.stations) * u32::from(self.slots)
     }
 
-    fn slot(self, state: State) -> u32
+    fn spot(self, state: State) -> u32
         requires small { IsSmall self }
         requires placed { IsPlaced self state }
-        ensures value { result ≡ slot_of self state }
-        ensures small { result < self.minutes * self.slots }
+        ensures value { result ≡ (state.minute - self.first) * self.stations + state.station.0 }
+        ensures within { result < self.minutes * self.stations }
+        ensures small { result < 863700 }
     {
-        u32::from(state.minute - self.first) * u32::from(self.slots)
-            + (u32::from(state.done) * 2 + u32::from(state.halted))
+        u32::from(state.minute - self.first) * u32::from(self.stations) + u32::from(state.station.0)
     }
 
+    /// The number of the stops done and the mode.
+    fn slot(self, state: State) -> u32
+        ensures value { result ≡ slot_of state }
+        ensures small { result < 131072 }
+    {
+        u32::from(state.done) * 2 + u32::from(state.halted)
+    }
+
+    /// The place of a state.
     pub(crate) fn place(self, state: State) -> u32
         requires small { IsSmall self }
         requires placed { IsPlaced self state }
         ensures value { result ≡ place_of self state }
         ensures within { result < places_of self }
     {
-        self.slot(state) * u32::from(self.stations) + u32::from(state.station.0)
-    }
-
-    /// The state at a place.
-    pub(crate) fn state(self, place: u32) -> State
-        requires small { IsSmall self }
-        requires within { place < places_of self }
-        ensures value { result ≡ state_of self place }
-        ensures placed { IsPlaced self result }
-    {
-        let stations = u32::from(self.stations);
-        let slots = u32::from(self.slots);
-        let row = place / stations;
-        let slot = row % slots;
-        State {
-            station: StationId((place % stations) as u16),
-            minute: self.first + (row / slots) as u16,
-            halted: slot % 2 == 1,
-            done: (slot / 2) as u16,
-        }
+        self.spot(state) * u32::from(self.slots) + self.slot(state)
     }
 }

@@ -1,52 +1,103 @@
 //! The best walk of a bid, by a table over the minutes that is filled in one pass from late to early.
-ghost use Rattle.std.specs.Prelude.{◌≡◌, ◌+◌, ◌≤◌, IfOk, IfSome, ◌+ℤ◌};
+ghost use Rattle.std.specs.Prelude.{◌≡◌, ◌+◌, ◌-◌, ◌<◌, ◌≤◌, IfOk, IfSome, ◌+ℤ◌};
 ghost use Rattle.optra_bid.specs.Specs.{IsPathOn};
 ghost use Rattle.optra_network.specs.Net.{IsFromTo};
 ghost use Rattle.optra_checker.specs.Asks.{AreAsked};
-ghost use Rattle.optra_checker.specs.Places.{IsPlaced, place_of};
-ghost use Rattle.optra_checker.specs.Reaches.{IsReach, IsReached};
-ghost use Rattle.optra_checker.specs.Rests.{IsBestRest, AnyLeg, start_state};
+ghost use Rattle.optra_checker.specs.Places.{slot_of, spot_at};
+ghost use Rattle.optra_checker.specs.Reaches.{IsReach};
+ghost use Rattle.optra_checker.specs.Rests.{start_state};
 ghost use Rattle.optra_checker.specs.Shares.{IsStartValue};
 ghost use Rattle.optra_checker.specs.Sizes.{IsWholeRest};
 ghost use Rattle.optra_checker.specs.Settings.{IsSetting};
 ghost use Rattle.optra_checker.specs.Starts.{IsBestStart, IsAt};
-ghost use Rattle.optra_checker.specs.Tables.{IsTable, IsFilled};
+ghost use Rattle.optra_checker.specs.Tables.{IsTable, IsFilled, end_of};
 ghost use Rattle.optra_checker.specs.Weights.{AreWeightsFor, IsBestWorth, IsWorthSize};
 
 use crate::asks::Ask;
 use crate::reach::make_reach;
-use crate::rest_table::{RestTable, empty_table};
+use crate::rest_table::RestTable;
 use crate::rests::{greater, state_rest};
 use crate::shares::start_value;
 use crate::states::{State, make_layout};
 use crate::weighing::Weighing;
 use optra_bid::{Bid, Window};
-use optra_network::{Minute, Network, NoMemory};
+use optra_network::{Minute, Network, NoMemory, StationId};
 use std::alloc::Global;
 
-/// The best rest of a state in which a train may be, behind whose place the table is filled; `None` for any other state.
-fn place_rest<W: Weighing>(
+/// A state with so many stops done and this mode, by the number of both.
+fn state_at(minute: Minute, station: StationId, slot: u16) -> State
+    ensures minute { result.minute ≡ minute }
+    ensures station { result.station ≡ station }
+    ensures slot { slot_of result ≡ slot }
+{
+    State {
+        station,
+        minute,
+        halted: slot % 2 == 1,
+        done: slot / 2,
+    }
+}
+
+/// Fills the places of a station in a minute, behind which the table is filled; nothing where no train of the bid may be
+/// there then and still end its walk in time.
+fn fill_spot<W: Weighing>(
     net: &Network,
     bid: &Bid,
     weighing: &W,
     asks: &mut [Option<Ask>],
-    table: &RestTable,
-    state: State,
-) -> Option<i128>
+    table: &mut RestTable,
+    minute: Minute,
+    station: StationId,
+)
     requires asks { AreAsked (W.weights weighing.now) asks.old }
     requires weights { AreWeightsFor (W.weights weighing.now) net.now bid.now.path }
-    requires placed { IsPlaced table.now.layout state }
-    requires filled { IsFilled (W.weights weighing.now) net.now bid.now table.now (place_of table.now.layout state + 1) }
-    ensures best { IsReached bid.now.path table.now.reach state → IsBestRest (W.weights weighing.now) net.now bid.now state AnyLeg result }
+    requires minute { minute < end_of table.old }
+    requires early { table.old.layout.first ≤ minute }
+    requires station { station.0 < table.old.layout.stations }
+    requires filled { IsFilled (W.weights weighing.now) net.now bid.now table.old (spot_at table.old.layout (minute - table.old.layout.first) (station.0 + 1)) }
+    ensures filled { IsFilled (W.weights weighing.now) net.now bid.now table.new (spot_at table.old.layout (minute - table.old.layout.first) station.0) }
     ensures asks { AreAsked (W.weights weighing.now) asks.new }
+    ensures layout { table.new.layout ≡ table.old.layout }
 {
-    if !table.reach.has(bid, state) {
-        return None;
+    let at = state_at(minute, station, 0);
+    if !table.reach.has(bid, at) {
+        return;
     }
-    state_rest(net, bid, weighing, asks, table, state)
+    let mut left = table.layout.slots;
+    'slots: while left > 0 {
+        left -= 1;
+        let state = state_at(minute, station, left);
+        let rest = state_rest(net, bid, weighing, asks, table, state);
+        table.put(table.layout.place(state), rest);
+    }
 }
 
-/// Fills the table, from the last place to the first.
+/// Fills the places of a minute, behind which the table is filled.
+fn fill_minute<W: Weighing>(
+    net: &Network,
+    bid: &Bid,
+    weighing: &W,
+    asks: &mut [Option<Ask>],
+    table: &mut RestTable,
+    minute: Minute,
+)
+    requires asks { AreAsked (W.weights weighing.now) asks.old }
+    requires weights { AreWeightsFor (W.weights weighing.now) net.now bid.now.path }
+    requires minute { minute < end_of table.old }
+    requires early { table.old.layout.first ≤ minute }
+    requires filled { IsFilled (W.weights weighing.now) net.now bid.now table.old (spot_at table.old.layout (minute - table.old.layout.first) table.old.layout.stations) }
+    ensures filled { IsFilled (W.weights weighing.now) net.now bid.now table.new (spot_at table.old.layout (minute - table.old.layout.first) 0) }
+    ensures asks { AreAsked (W.weights weighing.now) asks.new }
+    ensures layout { table.new.layout ≡ table.old.layout }
+{
+    let mut left = table.layout.stations;
+    'stations: while left > 0 {
+        left -= 1;
+        fill_spot(net, bid, weighing, asks, table, minute, StationId(left));
+    }
+}
+
+/// Fills the table, from the last minute to the first.
 fn fill<W: Weighing>(
     net: &Network,
     bid: &Bid,
@@ -61,17 +112,16 @@ fn fill<W: Weighing>(
     requires reach { IsReach net.now bid.now.path table.old.reach }
     ensures { IsFilled (W.weights weighing.now) net.now bid.now table.new 0 }
 {
-    let mut left = table.layout.places();
-    while left > 0 {
+    let first = table.layout.first;
+    let mut left = table.layout.minutes;
+    'minutes: while left > 0 {
         left -= 1;
-        let state = table.layout.state(left);
-        let rest = place_rest(net, bid, weighing, asks, table, state);
-        table.put(left, rest);
+        fill_minute(net, bid, weighing, asks, table, first + left);
     }
 }
 
 /// The state in which a walk begins that departs then.
-fn make_start(bid: &Bid, minute: Minute) -> State
+pub(crate) fn make_start(bid: &Bid, minute: Minute) -> State
     ensures { result ≡ start_state bid.now.path minute }
 {
     State {
@@ -141,15 +191,16 @@ fn best_start<W: Weighing>(
 }
 
 /// The greatest worth of a walk of the bid that has a start and legs that it may have: in thousandths of a cent, its value
-/// less what its legs cost. `None` exactly where there is no such walk.
+/// less what its legs cost. `None` exactly where there is no such walk. The table is left filled for the bid.
 ///
 /// The bid's stations and its type must be positions of the network, and the weighing be one for legs of the bid's type on
 /// the network.
-pub(crate) fn best_walk<W: Weighing>(
+pub(crate) fn search<W: Weighing>(
     alloc: Global,
     net: &Network,
     bid: &Bid,
     weighing: &W,
+    table: &mut RestTable,
 ) -> Result<Option<i128>, NoMemory>
     requires path { IsPathOn net.now bid.now.path }
     requires weights { AreWeightsFor (W.weights weighing.now) net.now bid.now.path }
@@ -157,8 +208,8 @@ pub(crate) fn best_walk<W: Weighing>(
     ensures size { IfOk result (λ best. IfSome best IsWorthSize) }
 {
     let reach = make_reach(alloc, net, bid)?;
-    let mut table = empty_table(alloc, make_layout(net, bid), reach)?;
+    table.turn_to(make_layout(net, bid), reach)?;
     let mut asks = vec![in alloc; None; net.track_count() as usize]?;
-    fill(net, bid, weighing, &mut asks, &mut table);
-    Ok(best_start(net, bid, weighing, &table))
+    fill(net, bid, weighing, &mut asks, table);
+    Ok(best_start(net, bid, weighing, table))
 }

@@ -1,18 +1,25 @@
 //! What the bids add to the dual value of a node, and the dual value.
-ghost use Rattle.std.specs.Prelude.{◌≡◌, ◌⊎◌, ◌<◌, ◌≤◌, length, slice_get, Some, IfOk, IfSome, pos, ◌≤ℤ◌};
+ghost use Rattle.std.specs.Prelude.{◌≡◌, ◌↔◌, ◌⊎◌, ◌<◌, ◌≤◌, length, slice_get, Some, IfOk, IfSome, IsSomeAnd, IsTrue, All, true, not, is_some, pos, ◌≤ℤ◌};
 ghost use Rattle.optra_bid.specs.Specs.{IsBetween};
 ghost use Rattle.optra_bid.specs.Instances.{IsInstance};
 ghost use Rattle.optra_bid.specs.declared.bids.Bid.{Bid as Asked};
 ghost use Rattle.optra_node.specs.Duals.{ArePrices, whole_cents};
 ghost use Rattle.optra_node.specs.Certificates.{AreAscending, IsBoundOf};
-ghost use Rattle.optra_checker.specs.Leaves.{IsBestOffer, AreTerms, IsSumSize, plus_of, dual_by};
-ghost use Rattle.optra_checker.specs.Weights.{IsWorthSize};
+ghost use Rattle.optra_walk.specs.Families.{IsUsable};
+ghost use Rattle.optra_walk.specs.Values.{first_departure};
+ghost use Rattle.optra_node.specs.Nodes.{kind_at};
+ghost use Rattle.optra_checker.specs.Frees.{IsFree, AreFree, IsFreeLeg};
+ghost use Rattle.optra_checker.specs.Leaves.{IsBestOffer, AreTerms, IsSumSize, leaf_weights, plus_of, dual_by};
+ghost use Rattle.optra_checker.specs.Tests.{may_start_at};
+ghost use Rattle.optra_checker.specs.Weights.{IsBestWorth, IsWorthSize};
 
+use crate::frees::Free;
 use crate::leaf_weights::LeafWeights;
 use crate::open_node::OpenNode;
-use crate::table::best_walk;
+use crate::rest_table::RestTable;
+use crate::table::search;
 use optra_network::NoMemory;
-use optra_walk::RowFamily;
+use optra_walk::{Leg, RowFamily};
 use std::alloc::Global;
 
 /// The greater of zero and a number, which may be missing.
@@ -27,6 +34,132 @@ fn or_zero(best: Option<i128>) -> i128
     }
 }
 
+/// Whether the price is zero.
+fn is_zero(price: i128) -> bool
+    ensures { IsTrue result ↔ (price ≡ pos 0) }
+{
+    price == 0
+}
+
+/// Whether a walk of the bid may have the leg at the node, at no price.
+fn leg_stays_free<F: RowFamily>(
+    node: &OpenNode<'_, F>,
+    prices: &[(F::Row, i64)],
+    bid: u32,
+    leg: Leg,
+) -> bool
+    requires bid { bid < length node.now.bids }
+    requires usable { IsUsable node.now.net (kind_at node.now.bids bid) leg }
+    requires ascending { AreAscending F.Row.cmp prices.now }
+    requires proper { ArePrices (F.rows_of node.now.family node.now.net) prices.now }
+    ensures { IsTrue result ↔ IsFreeLeg (leaf_weights node.now.net (F.rows_of node.now.family node.now.net) (F.rows_used node.now.family node.now.net) node.now.bids node.now.node bid prices.now (kind_at node.now.bids bid)) leg }
+{
+    if !node.usable_leg_ok(bid, leg) {
+        return false;
+    }
+    is_zero(node.leg_price(prices, bid, leg))
+}
+
+/// Whether a walk of the bid may have each leg at the node, at no price.
+fn legs_stay_free<F: RowFamily>(
+    node: &OpenNode<'_, F>,
+    prices: &[(F::Row, i64)],
+    bid: u32,
+    legs: &[Leg],
+) -> bool
+    requires bid { bid < length node.now.bids }
+    requires usable { All (IsUsable node.now.net (kind_at node.now.bids bid)) legs.now }
+    requires ascending { AreAscending F.Row.cmp prices.now }
+    requires proper { ArePrices (F.rows_of node.now.family node.now.net) prices.now }
+    ensures { IsTrue result ↔ All (IsFreeLeg (leaf_weights node.now.net (F.rows_of node.now.family node.now.net) (F.rows_used node.now.family node.now.net) node.now.bids node.now.node bid prices.now (kind_at node.now.bids bid))) legs.now }
+{
+    'legs: for leg in legs {
+        if !leg_stays_free(node, prices, bid, *leg) {
+            return false;
+        }
+    }
+    true
+}
+
+/// The legs that are at hand.
+fn legs_of(free: &Free) -> &[Leg]
+    ensures { result.now ≡ free.now.legs.items }
+{
+    &free.legs
+}
+
+/// Whether a walk of the bid may start at the first departure of the legs.
+fn start_stays_free<F: RowFamily>(node: &OpenNode<'_, F>, bid: u32, legs: &[Leg]) -> bool
+    requires { bid < length node.now.bids }
+    ensures start { IsTrue result → may_start_at node.now.node bid (first_departure legs.now) ≡ true }
+    ensures some { IsTrue result → 0 < length legs.now }
+{
+    match legs.first() {
+        Some(leg) => node.may_start(bid, leg.depart),
+        None => false,
+    }
+}
+
+/// Whether there is no number.
+fn is_missing(best: Option<i128>) -> bool
+    ensures { result ≡ not (is_some best) }
+{
+    best.is_none()
+}
+
+/// Whether it is seen at once that the best of all walks of the bid is the best that the node allows, too.
+fn stays_free<F: RowFamily>(
+    node: &OpenNode<'_, F>,
+    prices: &[(F::Row, i64)],
+    bid: u32,
+    free: &Free,
+) -> bool
+    requires instance { IsInstance node.now.net node.now.bids }
+    requires bid { bid < length node.now.bids }
+    requires free { IsSomeAnd (slice_get node.now.bids bid) (λ b. IsFree node.now.net b free.now) }
+    requires ascending { AreAscending F.Row.cmp prices.now }
+    requires proper { ArePrices (F.rows_of node.now.family node.now.net) prices.now }
+    ensures { IsTrue result → (b : Asked) → slice_get node.now.bids bid ≡ Some b → IsBestWorth (leaf_weights node.now.net (F.rows_of node.now.family node.now.net) (F.rows_used node.now.family node.now.net) node.now.bids node.now.node bid prices.now (kind_at node.now.bids bid)) node.now.net b free.now.best }
+{
+    if is_missing(free.best) {
+        return true;
+    }
+    let _ = node.inst().net.track_count();
+    let legs = legs_of(free);
+    if !start_stays_free(node, bid, legs) {
+        return false;
+    }
+    legs_stay_free(node, prices, bid, legs)
+}
+
+/// What the best walk of the bid is worth that the node allows, in thousandths of a cent; `None` exactly where there is
+/// none. Where the best of all walks is at hand and the node allows it, nothing is searched.
+fn best_at<F: RowFamily>(
+    alloc: Global,
+    node: &OpenNode<'_, F>,
+    prices: &[(F::Row, i64)],
+    bid: u32,
+    free: Option<&Free>,
+    table: &mut RestTable,
+) -> Result<Option<i128>, NoMemory>
+    requires instance { IsInstance node.now.net node.now.bids }
+    requires bid { bid < length node.now.bids }
+    requires free { IfSome free (λ f. IsSomeAnd (slice_get node.now.bids bid) (λ b. IsFree node.now.net b f.now)) }
+    requires ascending { AreAscending F.Row.cmp prices.now }
+    requires proper { ArePrices (F.rows_of node.now.family node.now.net) prices.now }
+    ensures best { IfOk result (λ best. (b : Asked) → slice_get node.now.bids bid ≡ Some b → IsBestWorth (leaf_weights node.now.net (F.rows_of node.now.family node.now.net) (F.rows_used node.now.family node.now.net) node.now.bids node.now.node bid prices.now (kind_at node.now.bids bid)) node.now.net b best) }
+    ensures size { IfOk result (λ best. IfSome best IsWorthSize) }
+{
+    if let Some(free) = free {
+        if stays_free(node, prices, bid, free) {
+            return Ok(free.best);
+        }
+    }
+    let inst = node.inst();
+    let weights = LeafWeights { node, bid, prices };
+    search(alloc, inst.net, &inst.bids[bid as usize], &weights, table)
+}
+
 /// The greatest offer to a bid at the node and prices, in thousandths of a cent: the greatest reduced value of its allowed
 /// walks, and zero where it has no yes leg. `None` exactly where it has a yes leg and no allowed walk.
 pub(crate) fn best_offer<F: RowFamily>(
@@ -34,9 +167,12 @@ pub(crate) fn best_offer<F: RowFamily>(
     node: &OpenNode<'_, F>,
     prices: &[(F::Row, i64)],
     bid: u32,
+    free: Option<&Free>,
+    table: &mut RestTable,
 ) -> Result<Option<i128>, NoMemory>
     requires instance { IsInstance node.now.net node.now.bids }
     requires bid { bid < length node.now.bids }
+    requires free { IfSome free (λ f. IsSomeAnd (slice_get node.now.bids bid) (λ b. IsFree node.now.net b f.now)) }
     requires ascending { AreAscending F.Row.cmp prices.now }
     requires proper { ArePrices (F.rows_of node.now.family node.now.net) prices.now }
     ensures best { IfOk result (λ best. (b : Asked) → slice_get node.now.bids bid ≡ Some b → IsBestOffer node.now.net (F.rows_of node.now.family node.now.net) node.now.bids node.now.node prices.now bid b best) }
@@ -44,8 +180,7 @@ pub(crate) fn best_offer<F: RowFamily>(
 {
     let inst = node.inst();
     let _ = inst.net.track_count();
-    let weights = LeafWeights { node, bid, prices };
-    let best = best_walk(alloc, inst.net, &inst.bids[bid as usize], &weights)?;
+    let best = best_at(alloc, node, prices, bid, free, table)?;
     if node.has_yes(bid) {
         Ok(best)
     } else {
@@ -70,8 +205,11 @@ fn term_sum<F: RowFamily>(
     alloc: Global,
     node: &OpenNode<'_, F>,
     prices: &[(F::Row, i64)],
+    frees: &[Free],
+    table: &mut RestTable,
 ) -> Result<Option<i128>, NoMemory>
     requires instance { IsInstance node.now.net node.now.bids }
+    requires frees { AreFree node.now.net node.now.bids frees.now }
     requires ascending { AreAscending F.Row.cmp prices.now }
     requires proper { ArePrices (F.rows_of node.now.family node.now.net) prices.now }
     ensures terms { IfOk result (AreTerms node.now.net (F.rows_of node.now.family node.now.net) node.now.bids node.now.node prices.now (length node.now.bids)) }
@@ -80,7 +218,7 @@ fn term_sum<F: RowFamily>(
     let count = node.inst().bids.len() as u32;
     let mut sum = Some(0);
     'bids: for bid in 0..count {
-        let best = best_offer(alloc, node, prices, bid)?;
+        let best = best_offer(alloc, node, prices, bid, Some(&frees[bid as usize]), table)?;
         sum = plus(sum, best);
     }
     Ok(sum)
@@ -110,13 +248,16 @@ pub(crate) fn leaf_bound<F: RowFamily>(
     alloc: Global,
     node: &OpenNode<'_, F>,
     prices: &[(F::Row, i64)],
+    frees: &[Free],
+    table: &mut RestTable,
 ) -> Result<i128, NoMemory>
     requires instance { IsInstance node.now.net node.now.bids }
+    requires frees { AreFree node.now.net node.now.bids frees.now }
     requires ascending { AreAscending F.Row.cmp prices.now }
     requires proper { ArePrices (F.rows_of node.now.family node.now.net) prices.now }
     ensures { IfOk result (IsBoundOf node.now.net (F.rows_of node.now.family node.now.net) node.now.bids node.now.node prices.now) }
 {
-    let sum = term_sum(alloc, node, prices)?;
+    let sum = term_sum(alloc, node, prices, frees, table)?;
     let value = dual_by(node.capacity_price(prices), sum);
     Ok(whole_cents(value))
 }

@@ -1,44 +1,52 @@
--- One more place.
-use Rattle.std.proofs.Common.{arith, ◌≡◌, ℕ, ◌+◌, ◌-◌, ◌<◌, subst, sym, ap, ◌∙◌}
-use Rattle.optra_checker.specs.declared.states.State.{State}
-use Rattle.optra_checker.specs.Places.{places_of}
-use Rattle.optra_checker.specs.Rests.{IsBestRest, AnyLeg}
+-- One more minute.
+use Rattle.std.proofs.Common.{arith, ◌≡◌, ℕ, ◌+◌, ◌-◌, ◌*◌, sym, ap, ◌∙◌, refl, subst}
+use Rattle.optra_checker.specs.declared.states.Layout.{Layout}
+use Rattle.optra_checker.specs.Places.{spot_at, places_of}
 use Rattle.optra_checker.specs.Tables.{IsFilled}
-use Rattle.optra_checker.proofs.FillLemmas.{filled_none, filled_more}
-use Rattle.optra_checker.proofs.PlaceLemmas.{place_back}
-use Rattle.optra_checker.specs.Places.{place_of}
-use Rattle.optra_checker.specs.Reaches.{IsReached}
-use Rattle.optra_checker.proofs.PlaceLemmas.{place_back}
+use Rattle.optra_checker.proofs.FillLemmas.{filled_none}
 use Rattle.optra_checker.proofs.table.fill.Goals as goal
 
-pub loop-left-init : goal.loop-left-init
-loop-left-init g c =
+pub minutes-init : goal.minutes-init
+minutes-init g c =
     let w = g.W.Weighing.weights c.args.weighing.now in
-    let e = c.places-left.ensures.value in
+    let lay = c.args.table.now.layout in
+    let e : places_of lay ≡ spot_at lay lay.minutes 0 = omega arith in
     record {
-      filled = subst (λ (n : ℕ). IsFilled w c.args.net.now c.args.bid.now c.args.table.now n) (sym e) (filled_none w c.args.net.now c.args.bid.now c.args.table.now c.requires.table c.requires.setting c.requires.reach);
+      filled = subst (λ (n : ℕ). IsFilled w c.args.net.now c.args.bid.now c.args.table.now n) e (filled_none w c.args.net.now c.args.bid.now c.args.table.now c.requires.table c.requires.setting c.requires.reach);
       asks = c.requires.asks;
       few = omega arith;
+      first = refl;
     }
 
-pub place_rest-rest-requires-clause-filled : goal.place_rest-rest-requires-clause-filled
-place_rest-rest-requires-clause-filled g c =
+pub fill_minute-requires-clause-filled : goal.fill_minute-requires-clause-filled
+fill_minute-requires-clause-filled g c =
     let w = g.W.Weighing.weights c.args.weighing.now in
-    let e : c.loop-left.left ≡ c.loop-left.left - 1 + 1 = omega (arith, c.loop-left-test.true) in
-    let p : place_of c.loop-left.table.layout c.state-state.result ≡ c.loop-left.left - 1 = ap (place_of c.loop-left.table.layout) c.state-state.ensures.value ∙ place_back c.loop-left.table.layout (c.loop-left.left - 1) in
-    subst (λ (n : ℕ). IsFilled w c.args.net.now c.args.bid.now c.loop-left.table n) (e ∙ ap (λ (n : ℕ). n + 1) (sym p)) c.loop-left.invariant.filled
+    let table = c.minutes.table in
+    let first = c.minutes.invariant.first in
+    let some = c.minutes-test.true in
+    let m : c.args.table.now.layout.first + (c.minutes.left - 1) - table.layout.first ≡ c.minutes.left - 1 = omega arith in
+    let left : ℕ = c.minutes.left - 1 in
+    let step : c.minutes.left ≡ left + 1 = omega arith in
+    let at : spot_at table.layout (left + 1) 0 ≡ spot_at table.layout left table.layout.stations = omega arith in
+    subst (λ (n : ℕ). IsFilled w c.args.net.now c.args.bid.now table n) (ap (λ (n : ℕ). spot_at table.layout n 0) step ∙ at ∙ ap (λ (n : ℕ). spot_at table.layout n table.layout.stations) (sym m)) c.minutes.invariant.filled
 
-pub loop-left-preserved : goal.loop-left-preserved
-loop-left-preserved g c =
+pub minutes-preserved : goal.minutes-preserved
+minutes-preserved g c =
     let w = g.W.Weighing.weights c.args.weighing.now in
-    let few = c.loop-left.invariant.few in
-    let l : c.loop-left.left - 1 < places_of c.loop-left.table.layout = omega (arith, c.loop-left-test.true) in
-    let e : c.loop-left.left ≡ c.loop-left.left - 1 + 1 = omega (arith, c.loop-left-test.true) in
+    let table = c.minutes.table in
+    let lay = c.fill_minute.ensures.layout in
+    let first = c.minutes.invariant.first in
+    let m : c.args.table.now.layout.first + (c.minutes.left - 1) - table.layout.first ≡ c.minutes.left - 1 = omega arith in
     record {
-      filled = filled_more w c.args.net.now c.args.bid.now c.loop-left.table c.put.new.self (c.loop-left.left - 1) c.place_rest-rest.result l
-          (subst (λ (n : ℕ). IsFilled w c.args.net.now c.args.bid.now c.loop-left.table n) e c.loop-left.invariant.filled)
-          (subst (λ (s : State). IsReached c.args.bid.now.path c.loop-left.table.reach s → IsBestRest w c.args.net.now c.args.bid.now s AnyLeg c.place_rest-rest.result) c.state-state.ensures.value c.place_rest-rest.ensures.best)
-          c.put.ensures.rests c.put.ensures.layout c.put.ensures.reach;
-      asks = c.place_rest-rest.ensures.asks;
-      few = let f = ap places_of c.put.ensures.layout in omega arith;
+      filled = subst (λ (n : ℕ). IsFilled w c.args.net.now c.args.bid.now c.fill_minute.new.table n) (ap (λ (n : ℕ). spot_at table.layout n 0) m ∙ ap (λ (l : Layout). spot_at l (c.minutes.left - 1) 0) (sym lay)) c.fill_minute.ensures.filled;
+      asks = c.fill_minute.ensures.asks;
+      few = let e = ap (λ (l : Layout). l.minutes) lay in let f = c.minutes.invariant.few in omega arith;
+      first = first ∙ ap (λ (l : Layout). l.first) (sym lay);
     }
+
+pub returns : goal.returns
+returns g c =
+    let w = g.W.Weighing.weights c.args.weighing.now in
+    let table = c.minutes.table in
+    let zero : c.minutes.left ≡ 0 = omega (arith, c.minutes-test.false) in
+    subst (λ (n : ℕ). IsFilled w c.args.net.now c.args.bid.now table n) (ap (λ (n : ℕ). spot_at table.layout n 0) zero ∙ (omega arith)) c.minutes.invariant.filled

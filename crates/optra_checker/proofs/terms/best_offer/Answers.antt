@@ -1,13 +1,9 @@
-use Rattle.std.proofs.Common.{◌≡◌, ◌∙◌, sym, ap, subst, rules, get_or}
+use Rattle.std.proofs.Common.{◌≡◌, ◌∙◌, sym, ap, subst, rules}
 use Rattle.std.specs.Prelude.{FitsSigned}
 use Rattle.std.specs.Int.{w128}
 use Rattle.std.proofs.lemmas.Int.{to_z-of_z}
-use Rattle.std.proofs.lemmas.Option.{get_or_from_slice_get}
 use Rattle.optra_network.specs.Net.{IsProper}
-use Rattle.optra_node.specs.Nodes.{kind_at}
 use Rattle.optra_node.specs.Duals.{IsGreatest, IsOffer}
-use Rattle.optra_checker.specs.Leaves.{leaf_weights}
-use Rattle.optra_checker.specs.Weights.{IsBestWorth}
 use Rattle.optra_checker.proofs.LeafLemmas.{best_yes, best_no}
 use Rattle.optra_checker.proofs.terms.best_offer.Goals as goal
 
@@ -17,11 +13,7 @@ returns-then-has_yes-clause-best g c b at =
     let rows = g.F.RowFamily.rows_of node.family node.net in
     let used = g.F.RowFamily.rows_used node.family node.net in
     let proper : IsProper node.net = subst IsProper c.inst-inst.ensures.net c.track_count.ensures.proper in
-    let r = c.index-inst-bid.result in
-    let same : get_or c.inst-inst.result.bids.now c.args.bid r ≡ b = ap (λ bs. get_or bs c.args.bid r) c.inst-inst.ensures.bids ∙ get_or_from_slice_get node.bids c.args.bid b r at in
-    let weights = leaf_weights node.net rows used node.bids node.node c.args.bid c.args.prices.now (kind_at node.bids c.args.bid) in
-    let is : IsBestWorth weights node.net b c.in_ok-best.best = subst (λ x. IsBestWorth weights node.net x c.in_ok-best.best) same (subst (λ n. IsBestWorth weights n (get_or c.inst-inst.result.bids.now c.args.bid r) c.in_ok-best.best) c.inst-inst.ensures.net c.in_ok-best.ensures.best) in
-    best_yes g.F.Row.Ord.cmp node.net proper rows used (λ kind leg usable. g.met.F.RowFamily.lists_rows node.family node.net kind leg proper usable) node.bids node.node c.args.prices.now c.args.bid b at c.in_ok-best.best is
+    best_yes g.F.Row.Ord.cmp node.net proper rows used (λ kind leg usable. g.met.F.RowFamily.lists_rows node.family node.net kind leg proper usable) node.bids node.node c.args.prices.now c.args.bid b at c.in_ok-best.best (c.in_ok-best.ensures.best b at)
     (sym c.has_yes.ensures ∙ c.if-has_yes.true)
 
 pub returns-else-has_yes-clause-best : goal.returns-else-has_yes-clause-best
@@ -30,11 +22,7 @@ returns-else-has_yes-clause-best g c b at =
     let rows = g.F.RowFamily.rows_of node.family node.net in
     let used = g.F.RowFamily.rows_used node.family node.net in
     let proper : IsProper node.net = subst IsProper c.inst-inst.ensures.net c.track_count.ensures.proper in
-    let r = c.index-inst-bid.result in
-    let same : get_or c.inst-inst.result.bids.now c.args.bid r ≡ b = ap (λ bs. get_or bs c.args.bid r) c.inst-inst.ensures.bids ∙ get_or_from_slice_get node.bids c.args.bid b r at in
-    let weights = leaf_weights node.net rows used node.bids node.node c.args.bid c.args.prices.now (kind_at node.bids c.args.bid) in
-    let is : IsBestWorth weights node.net b c.in_ok-best.best = subst (λ x. IsBestWorth weights node.net x c.in_ok-best.best) same (subst (λ n. IsBestWorth weights n (get_or c.inst-inst.result.bids.now c.args.bid r) c.in_ok-best.best) c.inst-inst.ensures.net c.in_ok-best.ensures.best) in
     let fits : FitsSigned w128 c.or_zero.result = search rules in
     subst (IsGreatest (IsOffer node.net rows node.bids node.node c.args.prices.now c.args.bid b)) (sym (to_z-of_z w128 c.or_zero.result fits))
-    (best_no g.F.Row.Ord.cmp node.net proper rows used (λ kind leg usable. g.met.F.RowFamily.lists_rows node.family node.net kind leg proper usable) node.bids node.node c.args.prices.now c.args.bid b at c.in_ok-best.best is
+    (best_no g.F.Row.Ord.cmp node.net proper rows used (λ kind leg usable. g.met.F.RowFamily.lists_rows node.family node.net kind leg proper usable) node.bids node.node c.args.prices.now c.args.bid b at c.in_ok-best.best (c.in_ok-best.ensures.best b at)
     (sym c.has_yes.ensures ∙ c.if-has_yes.false) c.or_zero.result c.or_zero.ensures.least c.or_zero.ensures.most c.or_zero.ensures.reached)

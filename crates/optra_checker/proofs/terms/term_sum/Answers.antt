@@ -1,7 +1,8 @@
-use Rattle.std.proofs.Common.{◌+◌, IfSome, sym, ap, subst, arith, length}
+use Rattle.std.proofs.Common.{◌≡◌, ◌+◌, ◌<◌, IfSome, sym, ap, subst, arith, length}
 use Rattle.std.proofs.lemmas.Int.{ints}
 use Rattle.optra_node.proofs.ChildLemmas.{some_at}
 use Rattle.optra_checker.specs.Leaves.{AreTerms, IsSumSize}
+use Rattle.optra_checker.proofs.FreeLemmas.{free_at}
 use Rattle.optra_checker.proofs.LeafLemmas.{terms_none, terms_more, size_more, size_below}
 use Rattle.optra_checker.proofs.terms.term_sum.Goals as goal
 
@@ -9,6 +10,21 @@ pub bids-init : goal.bids-init
 bids-init g c =
     let node = c.args.node.now in
     record { terms = terms_none node.net (g.F.RowFamily.rows_of node.family node.net) node.bids node.node c.args.prices.now; size = (omega (arith, ints), omega (arith, ints)) }
+
+pub bounds-frees-bid : goal.bounds-frees-bid
+bounds-frees-bid g c =
+    let l = c.bids-test.true in
+    let same = ap length c.inst.ensures.bids in
+    let count = c.requires.frees.count in
+    omega arith
+
+pub best_offer-requires-clause-free : goal.best_offer-requires-clause-free
+best_offer-requires-clause-free g c =
+    let node = c.args.node.now in
+    let l = c.bids-test.true in
+    let same = ap length c.inst.ensures.bids in
+    let within : c.bids.bid < length node.bids = omega arith in
+    free_at node.net node.bids c.args.frees.now c.bids.bid c.index-frees-bid.result c.index-frees-bid.result within c.index-frees-bid.is c.requires.frees
 
 pub plus-sum-requires-clause-sum : goal.plus-sum-requires-clause-sum
 plus-sum-requires-clause-sum g c =

@@ -1,12 +1,14 @@
 -- A place comes before the end.
-use Rattle.std.proofs.Common.{◌*◌}
-use Rattle.optra_checker.proofs.PlaceLemmas.{below_product}
+use Rattle.std.proofs.Common.{◌≡◌, ◌+◌, ◌*◌, ◌<◌, sym, subst}
+use Rattle.optra_checker.specs.Places.{place_of, places_of}
+use Rattle.optra_checker.proofs.PlaceLemmas.{place_below}
 use Rattle.optra_checker.proofs.states.Layout.place.Goals as goal
 
 pub returns-clause-within : goal.returns-clause-within
 returns-clause-within c =
-    let e = c.from.ensures in
-    let f = c.from-2.ensures in
-    let there = c.requires.placed.station in
-    let p = below_product c.slot.result (c.args.self.minutes * c.args.self.slots) c.args.state.station.0 c.args.self.stations c.slot.ensures.small there in
-    rw (e, f) p
+    let p = place_below c.args.self c.args.state c.requires.placed in
+    let v = c.spot.ensures.value in
+    let f = c.from.ensures in
+    let s = c.slot.ensures.value in
+    let same : c.spot.result * c.from.result + c.slot.result ≡ place_of c.args.self c.args.state = (λ i. v i * f i + s i) in
+    subst (λ n. n < places_of c.args.self) (sym same) p

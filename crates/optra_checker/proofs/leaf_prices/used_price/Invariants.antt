@@ -2,7 +2,7 @@ use Rattle.std.proofs.Common.{◌≡◌, ◌*◌, take, sum_by}
 use Rattle.std.specs.Prelude.{pos, ◌*ℤ◌, ◌≤ℤ◌}
 use Rattle.std.specs.Ordering.{eq_by_cmp}
 use Rattle.optra_node.specs.Duals.{sum_of, price_of}
-use Rattle.optra_checker.proofs.leaf_prices.leg_price.Given as goal
+use Rattle.optra_checker.proofs.leaf_prices.used_price.Given as goal
 
 abbrev pub invariant-loop-k : goal.invariant-loop-k
 invariant-loop-k g l =

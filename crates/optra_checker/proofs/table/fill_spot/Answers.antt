@@ -1,0 +1,81 @@
+-- One more place of the spot.
+use Rattle.std.proofs.Common.{arith, ◌≡◌, ℕ, ◌+◌, ◌-◌, ◌<◌, ◌≤◌, List, Option, sym, ap, ◌∙◌, subst, slice_set}
+use Rattle.std.specs.Prelude.{ℤ}
+use Rattle.optra_checker.specs.declared.reach.Reach.{Reach}
+use Rattle.optra_checker.specs.declared.states.Layout.{Layout}
+use Rattle.optra_checker.specs.Places.{IsPlaced, spot_at, place_of}
+use Rattle.optra_checker.specs.Reaches.{IsReached}
+use Rattle.optra_checker.specs.Tables.{IsFilled, end_of}
+use Rattle.optra_checker.proofs.FillLemmas.{filled_skip, filled_ready, filled_more, same_spot, spot_placed, spot_place, spot_next}
+use Rattle.optra_checker.proofs.table.fill_spot.Goals as goal
+
+pub returns-then-not-has-clause-filled : goal.returns-then-not-has-clause-filled
+returns-then-not-has-clause-filled g c =
+    let w = g.W.Weighing.weights c.args.weighing.now in
+    let path = c.args.bid.now.path in
+    let table = c.args.table.now in
+    let at = c.state_at-at.result in
+    filled_skip w c.args.net.now c.args.bid.now table c.args.minute c.args.station.0 c.requires.early c.requires.station
+    (λ s m t from on.
+    let same = same_spot path table.reach s at (m ∙ sym c.state_at-at.ensures.minute) (t ∙ ap (λ x. x.0) (sym c.state_at-at.ensures.station)) from on in
+    let told = c.has.ensures.1 same in cc)
+    c.requires.filled
+
+pub state_rest-rest-requires-clause-ready : goal.state_rest-rest-requires-clause-ready
+state_rest-rest-requires-clause-ready g c =
+    let w = g.W.Weighing.weights c.args.weighing.now in
+    let table = c.slots.table in
+    let state = c.state_at-state.result in
+    let has = c.has.ensures.0 c.if-not-has.false in
+    let some : 0 < c.slots.left = omega (arith, c.slots-test.true) in
+    let lay = c.slots.invariant.layout in
+    let first = ap (λ (l : Layout). l.first) lay in
+    let minutes = ap (λ (l : Layout). l.minutes) lay in
+    let stations = ap (λ (l : Layout). l.stations) lay in
+    let from : table.layout.first ≤ c.args.minute = let e = c.requires.early in omega arith in
+    let to : c.args.minute < end_of table = let e = c.requires.minute in omega arith in
+    let within : c.args.station.0 < table.layout.stations = let e = c.requires.station in omega arith in
+    let is = c.state_at-state.ensures in
+    let placed = spot_placed table state c.args.minute c.args.station c.slots.left is.minute is.station is.slot some c.slots.invariant.few from to within in
+    let next = spot_next table state c.args.minute c.args.station c.slots.left is.minute is.station is.slot some in
+    let filled = subst (λ (n : ℕ). IsFilled w c.args.net.now c.args.bid.now table n) (sym next) c.slots.invariant.filled in
+    let reached = (same_spot c.args.bid.now.path c.args.table.now.reach c.state_at-at.result state (c.state_at-at.ensures.minute ∙ sym is.minute) (ap (λ x. x.0) (c.state_at-at.ensures.station ∙ sym is.station)) has.0 has.1).0 in
+    filled_ready w c.args.net.now c.args.bid.now table state placed filled (subst (λ (r : Reach). IsReached c.args.bid.now.path r state) (sym c.slots.invariant.reach) reached)
+
+pub slots-preserved : goal.slots-preserved
+slots-preserved g c =
+    let w = g.W.Weighing.weights c.args.weighing.now in
+    let table = c.slots.table in
+    let after = c.put.new.self in
+    let state = c.state_at-state.result in
+    let some : 0 < c.slots.left = omega (arith, c.slots-test.true) in
+    let lay = c.slots.invariant.layout in
+    let first = ap (λ (l : Layout). l.first) lay in
+    let minutes = ap (λ (l : Layout). l.minutes) lay in
+    let stations = ap (λ (l : Layout). l.stations) lay in
+    let from : table.layout.first ≤ c.args.minute = let e = c.requires.early in omega arith in
+    let to : c.args.minute < end_of table = let e = c.requires.minute in omega arith in
+    let within : c.args.station.0 < table.layout.stations = let e = c.requires.station in omega arith in
+    let is = c.state_at-state.ensures in
+    let placed = spot_placed table state c.args.minute c.args.station c.slots.left is.minute is.station is.slot some c.slots.invariant.few from to within in
+    let next = spot_next table state c.args.minute c.args.station c.slots.left is.minute is.station is.slot some in
+    let place = spot_place table state c.args.minute c.args.station c.slots.left is.minute is.station is.slot some in
+    let filled = subst (λ (n : ℕ). IsFilled w c.args.net.now c.args.bid.now table n) (sym next) c.slots.invariant.filled in
+    let rests = c.put.ensures.rests ∙ ap (λ (n : ℕ). slice_set table.rests.items n c.state_rest-rest.result) c.place.ensures.value in
+    let more = filled_more w c.args.net.now c.args.bid.now table after state c.state_rest-rest.result placed filled c.state_rest-rest.ensures.best rests c.put.ensures.layout c.put.ensures.reach in
+    record {
+      filled = subst (λ (n : ℕ). IsFilled w c.args.net.now c.args.bid.now after n) (place ∙ ap (λ (l : Layout). spot_at l (c.args.minute - l.first) c.args.station.0 + (c.slots.left - 1)) (sym c.put.ensures.layout)) more;
+      asks = c.state_rest-rest.ensures.asks;
+      few = let e = ap (λ (l : Layout). l.slots) c.put.ensures.layout in let f = c.slots.invariant.few in omega arith;
+      layout = c.put.ensures.layout ∙ c.slots.invariant.layout;
+      reach = c.put.ensures.reach ∙ c.slots.invariant.reach;
+    }
+
+pub returns-clause-filled : goal.returns-clause-filled
+returns-clause-filled g c =
+    let w = g.W.Weighing.weights c.args.weighing.now in
+    let zero : c.slots.left ≡ 0 = omega (arith, c.slots-test.false) in
+    let lay = c.slots.invariant.layout in
+    let at : spot_at c.slots.table.layout (c.args.minute - c.slots.table.layout.first) c.args.station.0 + c.slots.left ≡ spot_at c.args.table.now.layout (c.args.minute - c.args.table.now.layout.first) c.args.station.0 + 0 =
+    (λ i. spot_at (lay i) (c.args.minute - (lay i).first) c.args.station.0 + zero i) in
+    subst (λ (n : ℕ). IsFilled w c.args.net.now c.args.bid.now c.slots.table n) (at ∙ (omega arith)) c.slots.invariant.filled
