@@ -91,25 +91,54 @@ fn a_crash_tears_what_was_not_synced(rt: HostRuntime) -> Result<(), Fail> {
     Ok(())
 }
 
-/// With room for a name of one byte and a piece of two, each with 64 bytes more.
-fn check_room(rt: &impl Abort, disk: &mut MemoryDisk) -> Result<(), DiskFailed> {
-    disk.choose("j")?;
-    assert_eq!(rt; disk.write_at(0, b"abc"), Err(DiskFailed));
-    disk.write_at(0, b"ab")?;
-    assert_eq!(rt; disk.sync(), Err(DiskFailed));
-    Ok(())
+/// A call of a disk on which a file is chosen. Writes begin at the file's start.
+enum Call {
+    Write(&'static [u8]),
+    Sync,
+    Len,
+    StopAfter(u64),
+    Crash,
 }
 
-/// Where the third call fails.
-fn check_failing_sync(rt: &impl Abort, disk: &mut MemoryDisk) -> Result<(), DiskFailed> {
+/// With room for the name of one byte and a piece of two, each with 64 bytes more.
+static FULL: [(Call, Result<u64, DiskFailed>); 3] = [
+    (Call::Write(b"abc"), Err(DiskFailed)),
+    (Call::Write(b"ab"), Ok(0)),
+    (Call::Sync, Err(DiskFailed)),
+];
+
+/// Where the third call fails, which is the first sync. The crash leaves what was written, since three calls were made.
+static FAILING: [(Call, Result<u64, DiskFailed>); 7] = [
+    (Call::Write(b"ab"), Ok(0)),
+    (Call::Sync, Err(DiskFailed)),
+    (Call::Crash, Ok(0)),
+    (Call::Len, Ok(2)),
+    (Call::StopAfter(1), Ok(0)),
+    (Call::Len, Ok(2)),
+    (Call::Len, Err(DiskFailed)),
+];
+
+/// Makes the call, and answers the length where it is asked for.
+fn make(disk: &mut MemoryDisk, call: &Call) -> Result<u64, DiskFailed> {
+    match call {
+        Call::Write(bytes) => disk.write_at(0, bytes)?,
+        Call::Sync => disk.sync()?,
+        Call::Len => return disk.len(),
+        Call::StopAfter(calls) => disk.stop_after(*calls),
+        Call::Crash => disk.crash(),
+    }
+    Ok(0)
+}
+
+fn check_calls(
+    rt: &impl Abort,
+    disk: &mut MemoryDisk,
+    calls: &[(Call, Result<u64, DiskFailed>)],
+) -> Result<(), DiskFailed> {
     disk.choose("j")?;
-    disk.write_at(0, b"ab")?;
-    assert_eq!(rt; disk.sync(), Err(DiskFailed));
-    disk.crash();
-    assert_eq!(rt; disk.len()?, 2);
-    disk.stop_after(1);
-    assert_eq!(rt; disk.len(), Ok(2));
-    assert_eq!(rt; disk.len(), Err(DiskFailed));
+    for (call, want) in calls {
+        assert_eq!(rt; make(disk, call), *want);
+    }
     Ok(())
 }
 
@@ -117,9 +146,9 @@ fn check_failing_sync(rt: &impl Abort, disk: &mut MemoryDisk) -> Result<(), Disk
 fn a_disk_in_memory_fails_where_it_is_told(rt: HostRuntime) -> Result<(), Fail> {
     let alloc = rt.alloc();
     let mut full = MemoryDisk::new(alloc, 131, Vec::new(alloc))?;
-    check_room(&rt, &mut full)?;
+    check_calls(&rt, &mut full, &FULL)?;
     let mut failing = MemoryDisk::new(alloc, 1000, Vec::from_slice(alloc, &[3])?)?;
-    check_failing_sync(&rt, &mut failing)?;
+    check_calls(&rt, &mut failing, &FAILING)?;
     Ok(())
 }
 

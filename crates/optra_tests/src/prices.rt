@@ -250,12 +250,10 @@ fn stepped<G: Graphs>(
 /// Whether the prices are those of the minutes 0 to 4 at one price.
 fn check_prices(rt: &impl Abort, prices: &Prices<HRow>, want: i64) {
     assert_eq!(rt; prices.entries.len(), 5);
-    for (minute, entry) in prices.entries.iter().enumerate() {
-        let row = HRow::Window {
-            track: AB,
-            minute: minute as u16,
-        };
-        assert_eq!(rt; *entry, (row, want));
+    for (minute, (row, price)) in prices.entries.iter().enumerate() {
+        let minute = minute as u16;
+        assert!(rt; *row == HRow::Window { track: AB, minute }, "at {minute}");
+        assert_eq!(rt; *price, want, "at {minute}");
     }
 }
 
