@@ -12,3 +12,5 @@ pub mod CompleteLemmas
 pub mod BidLemmas
 pub mod BidStepLemmas
 pub mod KeptLemmas
+pub mod ActionLemmas
+pub mod RulesLemmas

@@ -5,4 +5,6 @@ pub mod Rows
 pub mod Networks
 pub mod Bids
 pub mod Stops
+pub mod Rules
+pub mod Actions
 pub mod Written

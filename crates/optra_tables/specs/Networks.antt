@@ -1,5 +1,5 @@
 -- The network that five tables mean, or their first fault.
-use Rattle.std.specs.Prelude.{◌≡◌, ◌≤◌, ℕ, Bool, List, [], ◌∷◌, length, ◌++◌, ◌&&◌, ◌||◌, not, nat_eq, is_some, Option, None, Some, Result, codes, unwrap_or, if◌then◌else◌}
+use Rattle.std.specs.Prelude.{◌≡◌, ◌≤◌, ℕ, Bool, List, [], ◌∷◌, length, ◌++◌, ◌||◌, not, nat_eq, is_some, Option, None, Some, Result, codes, unwrap_or, if◌then◌else◌}
 use Rattle.std.specs.List.{list_all}
 use Rattle.std.specs.Map.{lookup}
 use Rattle.optra_network.specs.Net.{Net, empty_net, same_triple}

@@ -4,7 +4,6 @@ use Rattle.optra_network.specs.Names.{place_of}
 use Rattle.optra_network.specs.Net.{Net}
 use Rattle.optra_network.specs.Refusals.{station_named}
 use Rattle.optra_bid.specs.Bids.{stop_of, stop_refusal}
-use Rattle.optra_bid.specs.Specs.{Path}
 use Rattle.optra_bid.specs.declared.BidRefusal.TheVariants.{UnknownName}
 use Rattle.optra_bid.specs.declared.RawStop.{RawStop}
 use Rattle.optra_bid.specs.declared.Stop.{Stop}

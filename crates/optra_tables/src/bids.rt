@@ -88,7 +88,7 @@ fn raw_at(net: &Network, row: u32, told: &ToldBid<'_>) -> Result<RawBid, ReadErr
 }
 
 /// A text that is a name, as a name.
-fn name_from(alloc: Global, text: &str) -> Result<Name, NoMemory>
+pub fn name_from(alloc: Global, text: &str) -> Result<Name, NoMemory>
     requires { IsTrue (is_name text.now) }
     ensures { IfOk result (λ name. name ≡ text.now) }
 {

@@ -1,11 +1,12 @@
-//! The tables of a network and of its bids: what they mean, or exactly their first fault, and how bids are written
-//! so that they are read again.
+//! The tables of a network, of its bids and of an auction: what they mean, or exactly their first fault, and how bids
+//! are written so that they are read again.
 //!
 //! Each table is read once, one record at a time, so that a fault in an early row is found without holding the later
 //! ones. A record that is read is tested in this order: its form, its fields from left to right, and then what the
 //! network or the bid refuses.
 #![tactic(auto)]
 
+mod actions;
 mod bid_list;
 mod bids;
 mod fields;
@@ -13,6 +14,7 @@ mod headways;
 mod networks;
 mod outcomes;
 mod rows;
+mod rules;
 mod running;
 mod stations;
 mod stops;
@@ -20,9 +22,12 @@ mod tracks;
 mod types;
 mod writing;
 
+pub use actions::read_actions;
 pub use networks::read_network;
+use optra_auction::Act;
 use optra_bid::BidRefusal;
 use optra_network::NetRefusal;
+pub use rules::read_rules;
 use std::alloc::{AllocError, AllocFailed};
 pub use stops::read_bids;
 use thiserror::Error;
@@ -38,6 +43,8 @@ pub enum Table {
     Headways,
     Bids,
     Stops,
+    Rules,
+    Actions,
 }
 
 /// What is wrong with a record, or with the whole table.
@@ -55,7 +62,8 @@ pub enum Kind {
     /// A field that is to be a number isn't 1 to 10 ASCII digits.
     #[error("a field isn't a number")]
     Number,
-    /// The network refuses what the record says, or there are too many bids, or a bid's name is taken.
+    /// The network refuses what the record says, or there are too many bids or actions, or a bid's name is taken, or an
+    /// action is unknown, or a number of rules or of an action is out of range.
     #[error(transparent)]
     Net(NetRefusal),
     /// A bid or a stop is refused, or names something that isn't there.
@@ -92,6 +100,17 @@ pub struct NetFiles<'a> {
     pub types: &'a [u8],
     pub running: &'a [u8],
     pub headways: &'a [u8],
+}
+
+/// An action of an auction, with the row of its record and the round in which it is taken.
+#[derive(Drop)]
+pub struct TimedAct {
+    /// The row in the table of actions, from 2.
+    pub row: u32,
+    /// The round, 1 to 100.
+    pub round: u16,
+    /// What is asked for. An amount is 0 to 1,000,000,000 cents.
+    pub act: Act,
 }
 
 impl From<AllocError> for ReadError {

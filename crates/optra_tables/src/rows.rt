@@ -17,7 +17,8 @@ use optra_records::Records;
 /// The row of the first record after the header.
 pub const FIRST_ROW: u32 = 2;
 
-fn is_cell(cells: &ByteRecord, i: usize, text: &str) -> bool
+/// Whether a field of a record is this text.
+pub fn is_cell(cells: &ByteRecord, i: usize, text: &str) -> bool
     ensures { result ≡ bytes_eq (field (fields_of cells.now) i) text.now }
 {
     field(cells, i) == text.as_bytes()
