@@ -2,6 +2,7 @@
 pub mod PieceLemmas
 pub mod TrackLemmas
 pub mod TrainLemmas
+pub mod RoundLemmas
 pub mod LegsTold
 pub mod TrainsTold
 pub mod PlanTold

@@ -2,6 +2,8 @@
 pub mod FaultLines
 pub mod PlanTexts
 pub mod PlanLaws
+pub mod RoundTexts
+pub mod RoundViews
 pub mod CommandForms
 pub mod Words
 pub mod VerdictTexts

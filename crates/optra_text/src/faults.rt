@@ -89,6 +89,8 @@ fn table_word(table: Table) -> &'static str
         Table::Headways => "headways",
         Table::Bids => "bids",
         Table::Stops => "stops",
+        Table::Rules => "rules",
+        Table::Actions => "actions",
     }
 }
 

@@ -6,11 +6,13 @@ mod command_forms;
 mod faults;
 mod path_text;
 mod plans;
+mod rounds;
 mod verdicts;
 mod words;
 
 pub use faults::{FaultView, fault_text};
 pub use path_text::PathText;
 pub use plans::{PlanView, plan_text, text_tells_plan};
+pub use rounds::{Award, CloseView, RoundView, close_text, round_text};
 pub use verdicts::{VerdictView, verdict_text};
 pub use words::{Words, WordsError, read_words};

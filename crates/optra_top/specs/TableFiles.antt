@@ -3,7 +3,7 @@ use Rattle.std.specs.Prelude.{◌≡◌, ℕ, List, [], ◌∷◌, ◌++◌, len
 use Rattle.std.specs.Option.{option_map}
 use Rattle.optra_network.specs.Net.{Net}
 use Rattle.optra_tables.specs.declared.Table.{Table}
-use Rattle.optra_tables.specs.declared.Table.TheVariants.{Stations, Tracks, Types, Running, Headways, Bids, Stops}
+use Rattle.optra_tables.specs.declared.Table.TheVariants.{Stations, Tracks, Types, Running, Headways, Bids, Stops, Rules, Actions}
 use Rattle.optra_tables.specs.declared.TableFault.{TableFault}
 use Rattle.optra_tables.specs.Outcomes.{◌>>=◌}
 use Rattle.optra_tables.specs.Networks as networks
@@ -21,7 +21,7 @@ use Rattle.optra_top.specs.Statuses.{refused_status}
 abbrev pub all_tables : List Table
 all_tables = Stations ∷ Tracks ∷ Types ∷ Running ∷ Headways ∷ Bids ∷ Stops ∷ []
 
--- the name of a table's file, where the words name the network's folder, the bids and the stops
+-- the name of a table's file, where the words name the network's folder, the bids and the stops; the tables of an auction have none
 abbrev pub table_file_name : List ℕ → List ℕ → List ℕ → Table → List ℕ
 table_file_name net bids stops Stations = net ++ codes "/stations.csv"
 table_file_name net bids stops Tracks = net ++ codes "/tracks.csv"
@@ -30,6 +30,8 @@ table_file_name net bids stops Running = net ++ codes "/running.csv"
 table_file_name net bids stops Headways = net ++ codes "/headways.csv"
 table_file_name net bids stops Bids = bids
 table_file_name net bids stops Stops = stops
+table_file_name net bids stops Rules = []
+table_file_name net bids stops Actions = []
 
 -- a table's file
 abbrev pub table_file : List ℕ → List ℕ → List ℕ → Table → File

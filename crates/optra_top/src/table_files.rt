@@ -56,7 +56,7 @@ fn table_at(place: usize) -> Option<Table>
     ALL_TABLES.get(place).copied()
 }
 
-/// The name of a table's file.
+/// The name of a table's file. The tables of an auction have none among these words.
 fn file_name(
     alloc: Global,
     net: &str,
@@ -74,6 +74,7 @@ fn file_name(
         Table::Headways => joined(alloc, net, "/headways.csv"),
         Table::Bids => joined(alloc, bids, ""),
         Table::Stops => joined(alloc, stops, ""),
+        Table::Rules | Table::Actions => Ok(String::new(alloc)),
     }
 }
 

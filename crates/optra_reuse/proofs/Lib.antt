@@ -1,0 +1,2 @@
+-- What a store keeps.
+pub mod StoreLemmas
