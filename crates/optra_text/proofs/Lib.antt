@@ -6,3 +6,4 @@ pub mod LegsTold
 pub mod TrainsTold
 pub mod PlanTold
 pub mod Accepted
+pub mod DemoPieces

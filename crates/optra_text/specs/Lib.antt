@@ -5,3 +5,4 @@ pub mod PlanLaws
 pub mod CommandForms
 pub mod Words
 pub mod VerdictTexts
+pub mod DemoTexts

@@ -122,7 +122,7 @@ fn print_amount(
 }
 
 /// Prints a word and a count.
-fn print_count(
+pub(crate) fn print_count(
     printer: &mut Printer,
     fields: &mut Fields,
     word: &str,
