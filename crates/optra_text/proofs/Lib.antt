@@ -7,3 +7,4 @@ pub mod LegsTold
 pub mod TrainsTold
 pub mod PlanTold
 pub mod Accepted
+pub mod DemoPieces

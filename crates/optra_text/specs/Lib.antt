@@ -7,3 +7,4 @@ pub mod RoundViews
 pub mod CommandForms
 pub mod Words
 pub mod VerdictTexts
+pub mod DemoTexts

@@ -1,8 +1,9 @@
-//! What goes in and out as text: the words of a command line, the printed plan, the verdict on a certificate,
-//! and the line of each fault.
+//! What goes in and out as text: the words of a command line, the printed plan, the summary of a demo, the
+//! verdict on a certificate, and the line of each fault.
 #![tactic(auto)]
 
 mod command_forms;
+mod demos;
 mod faults;
 mod path_text;
 mod plans;
@@ -10,6 +11,7 @@ mod rounds;
 mod verdicts;
 mod words;
 
+pub use demos::demo_text;
 pub use faults::{FaultView, fault_text};
 pub use path_text::PathText;
 pub use plans::{PlanView, plan_text, text_tells_plan};

@@ -44,7 +44,7 @@ pub fn verdict_text(alloc: Global, view: VerdictView) -> Result<Vec<u8>, NoMemor
 }
 
 /// Prints the record of a verdict.
-fn print_verdict(
+pub(crate) fn print_verdict(
     alloc: Global,
     printer: &mut Printer,
     fields: &mut Fields,

@@ -1,0 +1,3 @@
+-- Lemmas on draws and on the records of a demo.
+mod DrawLemmas
+mod RowLemmas
