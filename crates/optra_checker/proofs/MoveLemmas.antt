@@ -1,9 +1,9 @@
 -- The legs by one way: which may be next, and what is behind them.
-use Rattle.std.proofs.Common.{◌≡◌, ℕ, ◌+◌, ◌-◌, ◌*◌, ◌≤◌, ◌<◌, ◌⊎◌, inl, inr, Bool, true, false, ◌∷◌, length, Option, None, Some, IfSome, IsSomeAnd, slice_get, refl, sym, ap, ◌∙◌, subst, arith, nat_lt}
-use Rattle.std.specs.Prelude.{ℤ, pos, ◌-ℤ◌, ◌≤ℤ◌, if◌then◌else◌, unwrap_or}
+use Rattle.std.proofs.Common.{◌≡◌, ℕ, ◌+◌, ◌-◌, ◌*◌, ◌≤◌, ◌<◌, ◌⊎◌, inl, inr, true, false, length, Option, None, Some, IfSome, IsSomeAnd, slice_get, refl, sym, ap, ◌∙◌, subst, arith}
+use Rattle.std.specs.Prelude.{ℤ, pos, ◌-ℤ◌, ◌≤ℤ◌, unwrap_or}
 use Rattle.std.specs.Option.{option_map}
 use Rattle.std.proofs.lemmas.Int.{ints}
-use Rattle.std.proofs.lemmas.Bool.{cases_lt, lt-ltb}
+use Rattle.std.proofs.lemmas.Bool.{cases_lt}
 use Rattle.std.proofs.lemmas.Option.{get_or_from_slice_get, slice_get_within}
 use Rattle.optra_network.specs.Net.{Net, IsFromTo}
 use Rattle.optra_network.specs.declared.TrackId.{TrackId}
@@ -21,7 +21,7 @@ use Rattle.optra_checker.specs.Weights.{Weights, AreWeightsFor}
 use Rattle.optra_checker.specs.declared.states.State.{State}
 use Rattle.optra_checker.specs.declared.ways.Way.{Way}
 use Rattle.optra_checker.specs.declared.rest_table.RestTable.{RestTable}
-use Rattle.optra_checker.specs.Places.{IsPlaced, place_of, mode_of}
+use Rattle.optra_checker.specs.Places.{IsPlaced, mode_of}
 use Rattle.optra_checker.specs.Rests.{FitsAction, IsMove, IsAfter, IsRestSize, IsBestRest, AnyLeg, greater_of, worth_by, end_price, wait_price}
 use Rattle.optra_checker.specs.Tables.{IsReadyFor, rest_at, end_of}
 use Rattle.optra_checker.specs.Ways.{leg_by, IsWay, IsOn, IsLegBy, IsHaltBelow, IsHaltBy, IsWaitBelow, IsWaitBy}

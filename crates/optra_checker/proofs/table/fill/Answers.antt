@@ -1,5 +1,5 @@
 -- One more minute.
-use Rattle.std.proofs.Common.{arith, ◌≡◌, ℕ, ◌+◌, ◌-◌, ◌*◌, sym, ap, ◌∙◌, refl, subst}
+use Rattle.std.proofs.Common.{arith, ◌≡◌, ℕ, ◌+◌, ◌-◌, sym, ap, ◌∙◌, refl, subst}
 use Rattle.optra_checker.specs.declared.states.Layout.{Layout}
 use Rattle.optra_checker.specs.Places.{spot_at, places_of}
 use Rattle.optra_checker.specs.Tables.{IsFilled}

@@ -1,9 +1,8 @@
 -- One more place of the spot.
-use Rattle.std.proofs.Common.{arith, ◌≡◌, ℕ, ◌+◌, ◌-◌, ◌<◌, ◌≤◌, List, Option, sym, ap, ◌∙◌, subst, slice_set}
-use Rattle.std.specs.Prelude.{ℤ}
+use Rattle.std.proofs.Common.{arith, ◌≡◌, ℕ, ◌+◌, ◌-◌, ◌<◌, ◌≤◌, sym, ap, ◌∙◌, subst, slice_set}
 use Rattle.optra_checker.specs.declared.reach.Reach.{Reach}
 use Rattle.optra_checker.specs.declared.states.Layout.{Layout}
-use Rattle.optra_checker.specs.Places.{IsPlaced, spot_at, place_of}
+use Rattle.optra_checker.specs.Places.{spot_at}
 use Rattle.optra_checker.specs.Reaches.{IsReached}
 use Rattle.optra_checker.specs.Tables.{IsFilled, end_of}
 use Rattle.optra_checker.proofs.FillLemmas.{filled_skip, filled_ready, filled_more, same_spot, spot_placed, spot_place, spot_next}

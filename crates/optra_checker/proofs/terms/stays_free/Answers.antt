@@ -1,6 +1,6 @@
 use Rattle.std.proofs.Common.{◌≡◌, ◌∙◌, ◌<◌, true, length, List, sym, subst}
 use Rattle.std.specs.Prelude.{All}
-use Rattle.optra_network.specs.Net.{Net, IsProper}
+use Rattle.optra_network.specs.Net.{IsProper}
 use Rattle.optra_walk.specs.declared.Leg.{Leg}
 use Rattle.optra_walk.specs.Families.{IsUsable}
 use Rattle.optra_walk.specs.Values.{first_departure}

@@ -1,4 +1,4 @@
-use Rattle.std.proofs.Common.{◌≡◌, ◌+◌, ◌<◌, IfSome, sym, ap, subst, arith, length}
+use Rattle.std.proofs.Common.{◌+◌, ◌<◌, IfSome, sym, ap, subst, arith, length}
 use Rattle.std.proofs.lemmas.Int.{ints}
 use Rattle.optra_node.proofs.ChildLemmas.{some_at}
 use Rattle.optra_checker.specs.Leaves.{AreTerms, IsSumSize}
