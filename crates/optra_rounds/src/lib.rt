@@ -1,0 +1,10 @@
+//! The rounds of an auction over the list of all its actions: what becomes of each round's actions, and what is printed of it.
+#![tactic(auto)]
+
+mod actions;
+mod standing;
+mod winners;
+
+pub use actions::{Taken, rows_of, take_actions};
+pub use standing::{names_of, spec_names, values_of};
+pub use winners::close_of;
