@@ -2,7 +2,7 @@
 use crate::cases::{Case, PenRules, ShelfRules};
 use crate::faults::Wrong;
 use crate::sheets::Section;
-use crate::texts::{escaped, joined, numbered, plain};
+use crate::texts::{escaped, joined, numbered, plain, repeated};
 use indexmap::IndexMap;
 use std::alloc::{AllocError, Global};
 
@@ -51,6 +51,11 @@ fn content(
         ("many", [count, rest]) => {
             let lines = numbered(alloc, number(&[count])?, rest)?;
             joined(alloc, case.content(name), lines.as_bytes())?
+        }
+        ("repeat", [count]) => {
+            let once = plain(alloc, &section.body)?;
+            let lines = repeated(alloc, &once, number(&[count])?)?;
+            joined(alloc, case.content(name), &lines)?
         }
         _ => return Err(Wrong::Head),
     };

@@ -24,6 +24,15 @@ pub fn numbered(alloc: Global, count: u64, rest: &str) -> Result<String, AllocEr
     Ok(lines)
 }
 
+/// The same bytes so many times, one time behind the other.
+pub fn repeated(alloc: Global, once: &[u8], count: u64) -> Result<Vec<u8>, AllocError> {
+    let mut bytes = Vec::new(alloc);
+    for _ in 0..count {
+        bytes.extend_from_slice(once)?;
+    }
+    Ok(bytes)
+}
+
 /// Bytes, and others behind them.
 pub fn joined(alloc: Global, front: &[u8], back: &[u8]) -> Result<Vec<u8>, AllocError> {
     let mut bytes = Vec::from_slice(alloc, front)?;

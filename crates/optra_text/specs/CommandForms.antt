@@ -12,6 +12,10 @@ Word = List ℕ
 abbrev pub option_rule : Word → Bool → Rule
 option_rule name is_required = record (new_rule name) { long = Some name; action = Some Set; required = is_required }
 
+-- a value that is required and has no option name
+abbrev pub value_rule : Word → Rule
+value_rule name = record (new_rule name) { action = Some Set; required = true }
+
 -- a command without help, version or words of its own
 abbrev pub bare_app : Word → App
 bare_app name = let app = new_app name in
@@ -39,3 +43,7 @@ plan_app = with_rule (with_rule (with_rule (tables_app (codes "plan"))
 -- check --net DIR --bids FILE --stops FILE --cert FILE
 abbrev pub check_app : App
 check_app = with_rule (tables_app (codes "check")) (option_rule (codes "cert") true)
+
+-- demo SEED SIZE
+abbrev pub demo_app : App
+demo_app = with_rule (with_rule (bare_app (codes "demo")) (value_rule (codes "seed"))) (value_rule (codes "size"))

@@ -5,10 +5,10 @@ use Rattle.clap.specs.Words.{Row, first_of}
 use Rattle.clap.specs.declared.error.kind.ErrorKind.{ErrorKind}
 use Rattle.clap.specs.declared.error.kind.ErrorKind.TheVariants as kind
 use Rattle.optra_records.specs.Numbers.{number_of}
-use Rattle.optra_text.specs.CommandForms.{Word, rows_given, plan_app, check_app}
+use Rattle.optra_text.specs.CommandForms.{Word, rows_given, plan_app, check_app, demo_app}
 use Rattle.optra_text.specs.declared.words.TablePaths.{TablePaths}
 use Rattle.optra_text.specs.declared.words.Words.{Words}
-use Rattle.optra_text.specs.declared.words.Words.TheVariants.{Plan, Check}
+use Rattle.optra_text.specs.declared.words.Words.TheVariants.{Plan, Check, Demo}
 use Rattle.optra_text.specs.declared.words.WordsError.{WordsError}
 use Rattle.optra_text.specs.declared.words.WordsError.TheVariants as errors
 
@@ -83,17 +83,31 @@ check_words words = do
   cert ← needed_path (first_of (codes "cert") rows)
   Some (Check tables.net tables.bids tables.stops cert)
 
+-- the number of a value that is required
+abbrev pub needed_number : ℕ → ℕ → Option Word → Option ℕ
+needed_number least most given = given >>= number_within least most
+
+-- what the words behind `demo` ask for: a seed of 32 bits and a size of 1 to 9
+unfoldable pub demo_words : List Word → Option Words
+demo_words words = do
+  rows ← rows_given demo_app words
+  seed ← needed_number 0 4294967295 (first_of (codes "seed") rows)
+  size ← needed_number 1 9 (first_of (codes "size") rows)
+  Some (Demo seed size)
+
 -- What the words ask for, where they are a command form: the first is the command, and the others are its options.
 abbrev pub words_of : List Word → Option Words
 words_of [] = None
 words_of (command ∷ words) =
     if bytes_eq command (codes "plan") then plan_words words else (
-    if bytes_eq command (codes "check") then check_words words else None)
+    if bytes_eq command (codes "check") then check_words words else (
+    if bytes_eq command (codes "demo") then demo_words words else None))
 
--- a plan has a budget of at least one node
+-- a plan has a budget of at least one node, and a demo a size from 1 to 9
 abbrev pub HasBudget : Words → Type 0
 HasBudget (Plan net bids stops steps budget cert) = 1 ≤ budget
 HasBudget (Check net bids stops cert) = ⊤
+HasBudget (Demo seed size) = (1 ≤ size) × (size ≤ 9)
 
 -- ---- answers
 

@@ -1,7 +1,7 @@
 //! The commands, as `clap` knows them.
 ghost use Rattle.std.specs.Prelude.{◌≡◌, IfOk, false};
 ghost use Rattle.clap.specs.Words.{app_of, rule_of, with_rule};
-ghost use Rattle.optra_text.specs.CommandForms.{bare_app, check_app, option_rule, plan_app, tables_app};
+ghost use Rattle.optra_text.specs.CommandForms.{bare_app, check_app, demo_app, option_rule, plan_app, tables_app, value_rule};
 
 use clap::{Arg, ArgAction, Command};
 use std::alloc::{AllocError, Global};
@@ -23,6 +23,16 @@ pub fn check_command<'a>(alloc: Global) -> Result<Command<'a>, AllocError>
 {
     let command = tables_command(alloc, "check")?;
     let command = with_option(alloc, command, "cert", true)?;
+    Ok(command)
+}
+
+/// demo SEED SIZE
+pub fn demo_command<'a>(alloc: Global) -> Result<Command<'a>, AllocError>
+    ensures { IfOk result (λ command. app_of command ≡ demo_app) }
+{
+    let command = bare_command(alloc, "demo");
+    let command = with_value(alloc, command, "seed")?;
+    let command = with_value(alloc, command, "size")?;
     Ok(command)
 }
 
@@ -68,4 +78,23 @@ fn option<'a>(alloc: Global, name: &'a str, is_required: bool) -> Arg<'a>
         .long(name)
         .required(is_required)
         .action(ArgAction::Set)
+}
+
+/// The command with one more value, which is required and has no option name.
+fn with_value<'a>(
+    alloc: Global,
+    command: Command<'a>,
+    name: &'a str,
+) -> Result<Command<'a>, AllocError>
+    ensures { IfOk result (λ more. app_of more ≡ with_rule (app_of command.entry) (value_rule name.entry.now)) }
+{
+    command.arg(value(alloc, name))
+}
+
+/// A value that is required and has no option name.
+fn value<'a>(alloc: Global, name: &'a str) -> Arg<'a>
+    ensures rule { rule_of result ≡ value_rule name.entry.now }
+    ensures local { result.global ≡ false }
+{
+    Arg::new(alloc, name).required(true).action(ArgAction::Set)
 }

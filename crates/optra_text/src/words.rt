@@ -2,10 +2,10 @@
 ghost use Rattle.std.specs.Prelude.{◌≡◌, ◌≤◌, map, string_bytes, option_map, IfSome, IfOk};
 ghost use Rattle.clap.specs.Words.{app_of, first_of, found_of, rows_of};
 ghost use Rattle.optra_text.specs.CommandForms.{IsSimple, rows_given};
-ghost use Rattle.optra_text.specs.Words.{HasBudget, IsRefusal, Reads, check_words, is_path, needed_path, number_or, number_within, optional_path, plan_words, tables_given, words_of};
+ghost use Rattle.optra_text.specs.Words.{HasBudget, IsRefusal, Reads, check_words, demo_words, is_path, needed_number, needed_path, number_or, number_within, optional_path, plan_words, tables_given, words_of};
 ghost use Rattle.optra_text.specs.declared.words.WordsError.TheVariants.{NoMemory};
 
-use crate::command_forms::{check_command, plan_command};
+use crate::command_forms::{check_command, demo_command, plan_command};
 use crate::path_text::PathText;
 use clap::error::ErrorKind;
 use clap::{ArgMatches, Command};
@@ -22,6 +22,11 @@ const MOST_STEPS: u64 = 1000;
 const DEFAULT_BUDGET: u64 = 200;
 
 const MOST_BUDGET: u64 = 10_000;
+
+/// The greatest seed of a demo.
+const MOST_SEED: u64 = 4_294_967_295;
+/// The greatest size of a demo.
+const MOST_SIZE: u64 = 9;
 
 /// What words ask for.
 #[derive(Debug, Drop)]
@@ -51,6 +56,13 @@ pub enum Words {
         stops: PathText,
         /// The certificate that is to be checked.
         cert: PathText,
+    },
+    /// demo SEED SIZE
+    Demo {
+        /// What the tables are drawn from: 0 to 4,294,967,295.
+        seed: u32,
+        /// How large they are: 1 to 9.
+        size: u8,
     },
 }
 
@@ -86,6 +98,7 @@ pub fn read_words(alloc: Global, words: &[String]) -> Result<Words, WordsError>
     match command.as_str() {
         "plan" => read_plan(alloc, options),
         "check" => read_check(alloc, options),
+        "demo" => read_demo(alloc, options),
         _ => Err(WordsError::Usage),
     }
 }
@@ -125,6 +138,21 @@ fn read_check(alloc: Global, words: &[String]) -> Result<Words, WordsError>
         bids,
         stops,
         cert,
+    })
+}
+
+/// What the words behind `demo` ask for.
+#[tactic(auto, unfolding(crate::specs::Words::demo_words))]
+fn read_demo(alloc: Global, words: &[String]) -> Result<Words, WordsError>
+    ensures read { Reads (λ read. read) result (demo_words (map string_bytes words.now)) }
+    ensures budget { IfOk result HasBudget }
+{
+    let matches = matches_of(demo_command(alloc)?, words)?;
+    let seed = number_of(0, MOST_SEED, given(&matches, "seed"))?;
+    let size = number_of(1, MOST_SIZE, given(&matches, "size"))?;
+    Ok(Words::Demo {
+        seed: seed as u32,
+        size: size as u8,
     })
 }
 
@@ -212,6 +240,18 @@ fn number_or(default: u64, least: u64, most: u64, given: Option<&str>) -> Result
 {
     match given {
         None => Ok(default),
+        Some(text) => number_within(least, most, text).ok_or(WordsError::Usage),
+    }
+}
+
+/// The number of a value that is required.
+fn number_of(least: u64, most: u64, given: Option<&str>) -> Result<u64, WordsError>
+    ensures read { Reads (λ n. n) result (needed_number least most (option_map (λ text. text.now) given.entry)) }
+    ensures least { IfOk result (λ n. least ≤ n) }
+    ensures most { IfOk result (λ n. n ≤ most) }
+{
+    match given {
+        None => Err(WordsError::Usage),
         Some(text) => number_within(least, most, text).ok_or(WordsError::Usage),
     }
 }

@@ -4,7 +4,7 @@ use Rattle.optra_outside.specs.Disk.{DiskState}
 use Rattle.optra_outside.specs.declared.shelves.ShelfError.TheVariants.{Absent as NotThere, TooLong as Overlong}
 use Rattle.optra_top.specs.declared.faults.Fault.{Fault}
 use Rattle.optra_top.specs.declared.faults.Fault.TheVariants.{Refused, Read, Absent, TooLong, Write, NoMemory}
-use Rattle.optra_text.specs.declared.words.Words.TheVariants.{Plan, Check}
+use Rattle.optra_text.specs.declared.words.Words.TheVariants.{Plan, Check, Demo}
 use Rattle.optra_top.specs.CheckCommand.{PrintsHeadwayVerdict, certificate_in}
 use Rattle.optra_top.specs.Commands.{Command, MayReply}
 use Rattle.optra_top.specs.Ending.{Completes, IsValid, IsRefused, Holds, IsMissing, Replies, IsDone, NoFaults, NoReadFaults}
@@ -29,6 +29,7 @@ refused-alone (Plan net bids stops steps budget cert) contents before now now' s
     tables-refused-alone (PrintsHeadwayPlan (record { steps = steps; budget = budget; cert = cert })) contents status line reply refuses replies
 refused-alone (Check net bids stops cert) contents before now now' status line reply refuses replies =
     tables-refused-alone (PrintsHeadwayVerdict (certificate_in contents)) contents status line reply refuses replies
+refused-alone (Demo seed size) contents before now now' status line reply refuses replies = absurd refuses
 
 not_both : (due : ℕ) (line : List ℕ) (status : ℕ) (text : List ℕ) (puts : List (List ℕ × List ℕ)) → answered status text puts ≡ refused due line → ⊥
 not_both due line status text puts is = cc

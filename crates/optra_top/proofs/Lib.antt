@@ -6,7 +6,16 @@ mod RefusalLemmas
 mod EndingLemmas
 mod CompletionLemmas
 mod PlanLemmas
+mod DecidedFacts
+mod FiniteLists
+mod PairLemmas
 mod BidLemmas
 mod TextLemmas
 mod VerdictLemmas
 pub mod AmountLemmas
+mod NetsWritten
+mod DemoNames
+mod DemoNets
+mod DemoBids
+mod DemoMeans
+mod DemoLemmas

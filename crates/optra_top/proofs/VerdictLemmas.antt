@@ -65,7 +65,7 @@ module _ (net : Net) (bids : List Bid) (tells : TextTellsCert row_cmp headway_te
   ValidHere cert = IsValid net (headway_rows net) (KeepsHeadwayRule net) bids cert.revenue cert.bound cert.choice cert.tree
 
   -- the verdict on the text of a valid certificate is Yes, with its numbers
-  verdict-yes : (bytes : List ℕ) (cert : Cert HRow) (verdict : VerdictView) → IsTextOf row_cmp headway_texts net (length bids) bytes cert → ValidHere cert
+  pub verdict-yes : (bytes : List ℕ) (cert : Cert HRow) (verdict : VerdictView) → IsTextOf row_cmp headway_texts net (length bids) bytes cert → ValidHere cert
       → IsVerdictOn (headway_family net) (KeepsHeadwayRule net) net bids bytes verdict → verdict ≡ Yes cert.revenue cert.bound
   verdict-yes bytes cert (Yes revenue bound) text valid found =
       let same : found.cert ≡ cert = tells bytes found.cert cert found.text text in

@@ -8,6 +8,7 @@ pub mod Families
 pub mod TableFiles
 pub mod PlanCommand
 pub mod CheckCommand
+pub mod DemoCommand
 pub mod PlanLaws
 pub mod CheckLaws
 pub mod PlansAsked
@@ -17,3 +18,4 @@ pub mod Gets
 pub mod Outside
 pub mod Ending
 pub mod Faults
+pub mod MadeTables

@@ -29,6 +29,10 @@ abbrev pub IsMetFrom : Net → List Bid → ℕ → ℤ → ℤ → Type 0
 IsMetFrom net bids budget revenue bound =
     (pairs : List (ℕ × Leg)) → ArePairs net bids pairs → 2 ^ (length pairs + 1) - 1 ≤ budget → bound ≡ revenue
 
+-- there is a list of these pairs
+abbrev pub HasPairs : Net → List Bid → Type 0
+HasPairs net bids = (pairs : List (ℕ × Leg)) × ArePairs net bids pairs
+
 -- This is the plan of the bids, by rows that state the rule, with so many price steps and this budget. It is the plan of
 -- the plain planner, of which there is one; it keeps the planning promise; its parts are a formed and valid certificate;
 -- its bound is above its revenue only where the budget was spent; and there is a budget from which on it is not.

@@ -95,7 +95,7 @@ fn answer_by<F: RowText>(
 }
 
 /// The verdict on bytes, by a family of rows.
-fn verdict_on<F: RowText>(
+pub fn verdict_on<F: RowText>(
     alloc: Global,
     inst: Instance<'_>,
     rows: &F,

@@ -2,8 +2,9 @@
 ghost use Rattle.std.specs.Prelude.{◌≤◌, length};
 ghost use Rattle.optra_rows.specs.Headways.{KeepsHeadwayRule};
 ghost use Rattle.optra_top.specs.CheckLaws.{ConfirmsPlan};
+ghost use Rattle.optra_top.specs.DemoCommand.{IsAcceptedDemo};
 ghost use Rattle.optra_top.specs.PlanLaws.{OneText};
-ghost use Rattle.optra_top.specs.Plans.{TellsConflicts};
+ghost use Rattle.optra_top.specs.Plans.{HasPairs, TellsConflicts};
 
 use optra_cert::{headway_kinds_are_apart, text_has_no_fault, text_tells_cert};
 use optra_rows::HeadwayRows;
@@ -15,6 +16,14 @@ pub fn headways_tell_conflicts(inst: Instance<'_>)
     ensures { TellsConflicts inst.entry.net.now inst.entry.bids.now (KeepsHeadwayRule inst.entry.net.now) }
 {
     let _ = inst;
+}
+
+/// A law, and no work: the different pairs of a bid and a leg of one of its walks stand in a list. So their number, by which a
+/// budget is known to suffice, is there for every instance.
+pub fn pairs_are_listed(inst: Instance<'_>)
+    ensures { HasPairs inst.entry.net.now inst.entry.bids.now }
+{
+    let _ = inst.net.track_count();
 }
 
 /// A law, and no work: what the plan command prints of an instance, and its status, are a function of the instance, of the
@@ -34,4 +43,13 @@ pub fn check_confirms_plan(inst: Instance<'_>)
     headway_kinds_are_apart();
     text_tells_cert(inst, &HeadwayRows::new());
     text_has_no_fault(inst, &HeadwayRows::new());
+}
+
+/// A law, and no work: the tables by the rule of a demo are accepted, for every seed and every size.
+pub fn demo_is_accepted(seed: u32, size: u8)
+    requires least { 1 ≤ size }
+    requires most { size ≤ 9 }
+    ensures { IsAcceptedDemo seed size }
+{
+    let _ = (seed, size);
 }

@@ -3,6 +3,7 @@
 
 mod check_command;
 mod commands;
+mod demo_command;
 mod entry;
 mod family_repairer;
 mod faults;
@@ -16,4 +17,6 @@ mod statuses;
 mod table_files;
 
 pub use entry::run;
-pub use laws::{check_confirms_plan, headways_tell_conflicts, one_text};
+pub use laws::{
+    check_confirms_plan, demo_is_accepted, headways_tell_conflicts, one_text, pairs_are_listed,
+};

@@ -96,7 +96,7 @@ fn reply_by<F: RowText>(
 }
 
 /// The plan as a certificate.
-fn certificate_of<R>(found: Plan<R>) -> Certificate<R>
+pub fn certificate_of<R>(found: Plan<R>) -> Certificate<R>
     ensures { result ≡ certificate_of found }
 {
     Certificate {
@@ -131,7 +131,7 @@ fn certificate_puts<F: RowText>(
 }
 
 /// The status of a plan whose bound is its revenue, or of one with a gap.
-fn status(revenue: Cents, bound: Cents) -> u8
+pub fn status(revenue: Cents, bound: Cents) -> u8
     requires { revenue ≤ℤ bound }
     ensures { IsStatusOf revenue bound result }
 {

@@ -1,0 +1,128 @@
+//! The demo command: tables that are drawn from a seed and a size, their plan, and the check of its certificate.
+ghost use Rattle.std.specs.Prelude.{◌≡◌, ◌≤◌, IfOk, IfErr};
+ghost use Rattle.optra_bid.specs.Instances.{IsInstance};
+ghost use Rattle.optra_tables.specs.Networks.{network_of};
+ghost use Rattle.optra_tables.specs.Outcomes.{Gives};
+ghost use Rattle.optra_top.specs.DemoCommand.{DemoReplies, PrintsHeadwayDemo, demo_meaning};
+ghost use Rattle.optra_top.specs.Faults.{EndsReply};
+ghost use Rattle.optra_top.specs.PlanLaws.{tables_of};
+ghost use Rattle.optra_top.specs.Puts.{texts_of};
+ghost use Rattle.optra_top.specs.Replies.{reply_of};
+ghost use Rattle.optra_top.specs.MadeTables.{made_net_files};
+ghost use Rattle.optra_top.specs.TablesRead.{tables_seen};
+
+use crate::check_command::verdict_on;
+use crate::faults::Fault;
+use crate::laws::headways_tell_conflicts;
+use crate::plan_command::{certificate_of, status};
+use crate::plans::plan_by;
+use crate::replies::Answer;
+use crate::table_files::Tables;
+use optra_cert::{
+    headway_kinds_are_apart, text_has_no_fault, text_tells_cert, valid_is_writable,
+    write_certificate,
+};
+use optra_demo::{DemoTables, make};
+use optra_network::{Network, NoMemory};
+use optra_rows::{HeadwayRows, headway_rows_are_few};
+use optra_search::Limits;
+use optra_tables::{NetFiles, ReadError, read_bids, read_network};
+use optra_text::{PlanView, demo_text};
+use optra_walk::Instance;
+use std::alloc::{AllocError, Global};
+
+/// How many price steps are made at a node.
+const STEPS: u32 = 20;
+/// How many nodes are taken.
+const BUDGET: u64 = 5;
+
+/// Makes the tables, reads them, plans, and checks the plan's certificate as it is written. It errs by want of memory alone:
+/// the tables by the rule are accepted.
+pub fn reply(alloc: Global, seed: u32, size: u8) -> Result<Answer, Fault>
+    requires least { 1 ≤ size }
+    requires most { size ≤ 9 }
+    ensures ok { IfOk result (λ answer. DemoReplies seed size (reply_of answer)) }
+    ensures fault { IfErr result (λ fault. EndsReply (λ reply. DemoReplies seed size reply) fault) }
+{
+    let Ok(tables) = read_demo(alloc, seed, size) else {
+        return Err(Fault::NoMemory);
+    };
+    let inst = Instance {
+        net: &tables.net,
+        bids: &tables.bids,
+    };
+    let Ok(answer) = answer(alloc, seed, size, inst) else {
+        return Err(Fault::NoMemory);
+    };
+    Ok(answer)
+}
+
+/// The network and the bids that the tables by the rule mean.
+fn read_demo(alloc: Global, seed: u32, size: u8) -> Result<Tables, NoMemory>
+    requires least { 1 ≤ size }
+    requires most { size ≤ 9 }
+    ensures read { IfOk result (λ tables. demo_meaning seed size ≡ Ok (tables_seen tables)) }
+    ensures instance { IfOk result (λ tables. IsInstance tables.net tables.bids.items) }
+{
+    let made = make(alloc, seed, size)?;
+    let net = match read_made_net(alloc, &made) {
+        Ok(net) => net,
+        Err(ReadError::NoMemory) => return Err(AllocError),
+        Err(ReadError::Fault(_)) => unreachable!(),
+    };
+    let bids = match read_bids(alloc, &net, &made.bids, &made.stops) {
+        Ok(bids) => bids,
+        Err(ReadError::NoMemory) => return Err(AllocError),
+        Err(ReadError::Fault(_)) => unreachable!(),
+    };
+    Ok(Tables { net, bids })
+}
+
+/// The network that its tables mean.
+fn read_made_net(alloc: Global, made: &DemoTables) -> Result<Network, ReadError>
+    ensures { Gives (λ net. net) result (network_of (made_net_files made.now)) }
+{
+    let files = NetFiles {
+        stations: &made.stations,
+        tracks: &made.tracks,
+        types: &made.types,
+        running: &made.running,
+        headways: &made.headways,
+    };
+    read_network(alloc, &files)
+}
+
+/// Plans the bids on their network, checks the plan's certificate as it is written, and prints how both ended.
+fn answer(alloc: Global, seed: u32, size: u8, inst: Instance<'_>) -> Result<Answer, NoMemory>
+    requires { IsInstance inst.net.now inst.bids.now }
+    ensures { IfOk result (λ answer. PrintsHeadwayDemo seed size (tables_of inst.entry.net.now inst.entry.bids.now)
+        answer.status answer.text.items (texts_of answer.puts.items)) }
+{
+    let rows = HeadwayRows::new();
+    headways_tell_conflicts(inst);
+    headway_rows_are_few(inst.net);
+    headway_kinds_are_apart();
+    let limits = Limits {
+        steps: STEPS,
+        budget: BUDGET,
+    };
+    let plan = plan_by(alloc, inst, &rows, limits)?;
+    let nodes = plan.nodes;
+    let cert = certificate_of(plan);
+    valid_is_writable(inst, &rows);
+    let bytes = write_certificate(alloc, inst, &rows, &cert)?;
+    text_tells_cert(inst, &rows);
+    text_has_no_fault(inst, &rows);
+    let verdict = verdict_on(alloc, inst, &rows, &bytes)?;
+    let view = PlanView {
+        inst,
+        choice: &cert.choice,
+        revenue: cert.revenue,
+        bound: cert.bound,
+        nodes,
+    };
+    let text = demo_text(alloc, seed, size, view, verdict)?;
+    let status = status(cert.revenue, cert.bound);
+    let puts = Vec::new(alloc);
+    Ok(Answer { status, text, puts })
+}
