@@ -13,9 +13,9 @@ use Rattle.optra_network.specs.declared.Track.{Track}
 use Rattle.optra_network.specs.declared.Times.{Times}
 use Rattle.optra_records.specs.Reading.{Field, Record}
 use Rattle.optra_records.specs.Texts.{AreShown, is_shown, records_text}
-use Rattle.optra_tables.specs.Fields.{is_row}
+use Rattle.optra_records.specs.Tables.{is_row, rows_from}
 use Rattle.optra_tables.specs.Networks.{Files, headway_row, headways_header, network_of, running_header, running_row, station_row, stations_header, track_row, tracks_header, type_row, types_header}
-use Rattle.optra_tables.specs.Rows.{rows_from, table_read}
+use Rattle.optra_tables.specs.Rows.{table_read}
 use Rattle.optra_tables.specs.Written.{named}
 use Rattle.optra_tables.specs.declared.Table.TheVariants.{Headways, Running, Stations, Tracks, Types}
 use Rattle.optra_tables.proofs.CompleteLemmas.{complete_from}
