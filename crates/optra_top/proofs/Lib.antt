@@ -19,3 +19,5 @@ mod DemoNets
 mod DemoBids
 mod DemoMeans
 mod DemoLemmas
+mod PlayLemmas
+mod RoundLemmas

@@ -1,6 +1,7 @@
 //! The commands of the planner, over any shelf and any pens.
 #![tactic(auto)]
 
+mod auction_command;
 mod check_command;
 mod commands;
 mod demo_command;
@@ -11,6 +12,7 @@ mod files;
 mod laws;
 mod outside;
 mod plan_command;
+mod playing;
 mod plans;
 mod replies;
 mod statuses;
