@@ -21,3 +21,4 @@ mod DemoMeans
 mod DemoLemmas
 mod PlayLemmas
 mod RoundLemmas
+mod AuctionTables

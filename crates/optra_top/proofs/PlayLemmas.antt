@@ -1,11 +1,13 @@
 -- An auction as it is played: how long its lists are, what its actions leave as it was, and its rounds one after another.
-use Rattle.std.proofs.Common.{◌≡◌, ℕ, suc, List, [], ◌∷◌, length, map, Some, None, Option, refl, sym, ap, ◌∙◌, arith, true, false}
-use Rattle.std.specs.Prelude.{ℤ}
+use Rattle.std.proofs.Common.{◌≡◌, ◌≤◌, ℕ, suc, List, [], ◌∷◌, length, map, Some, None, Option, refl, sym, ap, ◌∙◌, subst, arith, true, false}
+use Rattle.std.specs.Prelude.{ℤ, All}
 use Rattle.std.specs.Option.{option_map_or}
 use Rattle.std.proofs.lemmas.List.{length-map}
 use Rattle.optra_network.specs.Net.{Net}
 use Rattle.optra_bid.specs.declared.bids.Bid.{Bid}
-use Rattle.optra_auction.specs.Machine.{ArePlanned, Offer, State, after_act, offer_of, planned_of, refusal_of}
+use Rattle.optra_bid.specs.Instances.{IsInstance}
+use Rattle.optra_bid.specs.Specs.{IsPathOn}
+use Rattle.optra_auction.specs.Machine.{ArePathsOfSpecs, ArePlanned, Offer, State, after_act, offer_of, planned_of, refusal_of}
 use Rattle.optra_auction.specs.declared.Act.{Act}
 use Rattle.optra_auction.specs.declared.Refusal.{Refusal}
 use Rattle.optra_rounds.specs.Rounds.{after_acts, after_any, values_of}
@@ -42,3 +44,22 @@ acts-same s (a ∷ acts) =
     let one = any-same s a.act in
     let rest = acts-same (after_any s a.act) acts in
     record { specs = rest.specs ∙ one.specs; rules = rest.rules ∙ one.rules; round = rest.round ∙ one.round; closed = rest.closed ∙ one.closed }
+
+-- the bids that stand are an instance, where the specifications are on the network
+standing-instance : (net : Net) (specs bids : List Bid) → length bids ≤ 500 → ArePathsOfSpecs specs bids → All (λ (spec : Bid). IsPathOn net spec.path) specs → IsInstance net bids
+standing-instance net specs bids few paths on = record { few = omega (arith, few); paths = paths net on }
+
+-- what an auction after actions has as it was
+pub specs-after : (old new : State) (acts : List TimedAct) → new ≡ after_acts old acts → new.specs ≡ old.specs
+specs-after old new acts is = ap (λ (s : State). s.specs) is ∙ (acts-same old acts).specs
+
+pub round-after : (old new : State) (acts : List TimedAct) → new ≡ after_acts old acts → new.round ≡ old.round
+round-after old new acts is = ap (λ (s : State). s.round) is ∙ (acts-same old acts).round
+
+pub closed-after : (old new : State) (acts : List TimedAct) → new ≡ after_acts old acts → new.closed ≡ old.closed
+closed-after old new acts is = ap (λ (s : State). s.closed) is ∙ (acts-same old acts).closed
+
+-- the bids that stand after actions are an instance, where the specifications are on the network
+pub instance-after : (net : Net) (old new : State) (acts : List TimedAct) (bids : List Bid) → new ≡ after_acts old acts → All (λ (spec : Bid). IsPathOn net spec.path) old.specs
+    → length bids ≤ 500 → ArePathsOfSpecs new.specs bids → IsInstance net bids
+instance-after net old new acts bids is on few paths = standing-instance net new.specs bids few paths (subst (All (λ (spec : Bid). IsPathOn net spec.path)) (sym (specs-after old new acts is)) on)

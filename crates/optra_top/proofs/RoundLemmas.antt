@@ -1,30 +1,35 @@
 -- Rounds that are played one after another: one more at the end, and what it adds.
-use Rattle.std.proofs.Common.{◌≡◌, ◌⊎◌, inl, inr, ◌≤◌, ◌<◌, ℕ, ◌+◌, ◌-◌, ◌++◌, List, [], ◌∷◌, length, map, Bool, true, false, Option, None, Some, refl, sym, ap, ◌∙◌, subst, arith, ints, ⊎_elim}
-use Rattle.std.specs.Prelude.{ℤ, int_lt, ◌≤ℤ◌, ◌<ℤ◌, nat_eq, nat_le, nat_lt, not, ◌&&◌, filter, cond, if◌then◌else◌, All, Any, Contains}
+use Rattle.std.proofs.Common.{◌≡◌, ◌⊎◌, inl, inr, ◌≤◌, ◌<◌, ℕ, ◌+◌, ◌-◌, ◌++◌, List, [], ◌∷◌, length, map, Bool, true, false, Option, None, Some, Vec, ◌≢◌, suc, refl, sym, ap, ◌∙◌, subst, arith, ⊎_elim}
+use Rattle.std.proofs.lemmas.Int.{ints}
+use Rattle.std.specs.Prelude.{ℤ, int_lt, ◌≤ℤ◌, ◌<ℤ◌, nat_eq, nat_le, nat_lt, not, ◌&&◌, ◌||◌, filter, cond, if◌then◌else◌, All, Any, Contains}
 use Rattle.std.specs.List.{flat_map}
+use Rattle.std.specs.declared.alloc.Global.{Global}
 use Rattle.std.proofs.lemmas.Bool.Decides.{eqb_tells, leb_tells}
 use Rattle.std.proofs.lemmas.List.{append-nil, flat_map_more}
-use Rattle.std.proofs.lemmas.List.Elements.{All-append, All-head, All-push, All-tail, All-weaker, Contains-append_left, Contains-append_right}
+use Rattle.std.proofs.lemmas.List.Elements.{All-append, All-filter, All-head, All-push, All-tail, All-weaker, Contains-append_left, Contains-append_right}
 use Rattle.std.proofs.lemmas.List.Quantifiers.{Any-push}
 use Rattle.optra_network.specs.Net.{Net}
 use Rattle.optra_bid.specs.Specs.{Path}
 use Rattle.optra_bid.specs.declared.bids.Bid.{Bid}
-use Rattle.optra_auction.specs.Machine.{ArePlanned, State, after_round, is_last_round, opened, rested, spec_names, with_values}
+use Rattle.optra_auction.specs.Machine.{ArePlanned, AreRules, HasAmount, State, after_round, is_last_round, opened, rested, spec_names, with_values}
 use Rattle.optra_auction.specs.declared.Rules.{Rules}
 use Rattle.optra_auction.proofs.AuctionLemmas.{not_last}
 use Rattle.optra_cert.specs.RowTexts.{RowTexts}
 use Rattle.optra_records.specs.Texts.{records_text}
-use Rattle.optra_rounds.specs.Rounds.{acts_after, acts_of, after_acts, other_acts, outcomes, specs_of, values_of}
-use Rattle.optra_tables.specs.Actions.{IsRound}
+use Rattle.optra_rounds.specs.Rounds.{acts_after, acts_of, after_acts, awards_of, other_acts, outcomes, specs_of, values_of}
+use Rattle.optra_tables.specs.Actions.{AreActions, IsRound}
 use Rattle.optra_tables.specs.declared.TimedAct.{TimedAct}
-use Rattle.optra_text.specs.RoundTexts.{round_records}
+use Rattle.optra_text.specs.RoundTexts.{close_records, round_records}
 use Rattle.optra_walk.specs.Families.{Entry}
 use Rattle.optra_top.specs.Families.{FamilyOf}
-use Rattle.optra_top.specs.Play.{AreDifferent, IsPlayed, Played, Plays, acted, acts_in, closed_by, paths_of, play_files, round_files, round_of, rounds_text}
-use Rattle.optra_top.specs.Playing.{HasGap, IsPlayedSo, IsRoundPlayed, acts_from, acts_left, files_where, gap_after, rounds_left, seen_after}
+use Rattle.optra_top.specs.Play.{AreDifferent, IsPlayStatus, IsPlayed, IsPlayedOut, Played, Plays, acted, acts_in, closed_by, paths_of, play_files, round_files, round_of, rounds_text, rows_late}
+use Rattle.optra_top.specs.Playing.{HasGap, IsBegun, IsFinished, IsPlayedSo, IsRoundPlayed, acts_from, acts_left, files_where, gap_after, play_status, rounds_left, seen_after}
+use Rattle.optra_top.specs.PlanCommand.{certificate_of}
 use Rattle.optra_top.specs.Plans.{IsPlanOf}
 use Rattle.optra_top.specs.Puts.{texts_of}
+use Rattle.optra_top.specs.declared.files.FileText.{FileText}
 use Rattle.optra_top.specs.declared.playing.Playing.{Playing}
+use Rattle.optra_top.specs.declared.replies.Answer.{Answer}
 use Rattle.optra_top.proofs.PlayLemmas.{IsSameRound, acts-same}
 
 -- ---- the actions that are left
@@ -32,11 +37,11 @@ use Rattle.optra_top.proofs.PlayLemmas.{IsSameRound, acts-same}
 -- the elements of one test among those of another
 filter-filter : {X : Type 0} (p q : X → Bool) (xs : List X) → filter p (filter q xs) ≡ filter (λ x. q x && p x) xs
 filter-filter p q [] = refl
-filter-filter p q (x ∷ xs) = by (q x)
+filter-filter p q (x ∷ xs) = by (q x) (filter-filter p q xs)
   where
-    by : (b : Bool) → filter p (cond b (x ∷ filter q xs) (filter q xs)) ≡ cond (b && p x) (x ∷ filter (λ x. q x && p x) xs) (filter (λ x. q x && p x) xs)
-    by true = ap (λ ys. cond (p x) (x ∷ ys) ys) (filter-filter p q xs)
-    by false = filter-filter p q xs
+    by : (b : Bool) → filter p (filter q xs) ≡ filter (λ x. q x && p x) xs → filter p (cond b (x ∷ filter q xs) (filter q xs)) ≡ cond (b && p x) (x ∷ filter (λ x. q x && p x) xs) (filter (λ x. q x && p x) xs)
+    by true e = ap (λ ys. cond (p x) (x ∷ ys) ys) e
+    by false e = e
 
 -- two tests that agree have the same elements
 filter-same : {X : Type 0} (p q : X → Bool) → ((x : X) → p x ≡ q x) → (xs : List X) → filter p xs ≡ filter q xs
@@ -95,13 +100,13 @@ pub record IsNext (s t : State) : Type 0 where
   pub next : ((t.closed ≡ true) × (t.round ≡ s.round)) ⊎ ((t.closed ≡ false) × (t.round ≡ s.round + 1) × (s.round < s.rules.rounds))
 
 round-closed : (s : State) (values : List (Option ℤ)) → s.closed ≡ false → IsNext s (after_round s values)
-round-closed s values open = by (is_last_round s) refl
+round-closed s values going = by (is_last_round s) refl
   where
     by : (b : Bool) → is_last_round s ≡ b → IsNext s (if b
         then record s { standing = with_values s.standing values; closed = true }
         else record s { standing = map rested (with_values s.standing values); round = s.round + 1; moved = false })
     by true e = record { specs = refl; rules = refl; next = inl (refl, refl) }
-    by false e = record { specs = refl; rules = refl; next = inr (open, refl, not_last s e) }
+    by false e = record { specs = refl; rules = refl; next = inr (going, refl, not_last s e) }
 
 -- a round within the rules is followed by one within them
 next-within : (s t : State) → IsNext s t → s.round ≤ s.rules.rounds → t.round ≤ s.rules.rounds
@@ -118,12 +123,12 @@ left-next s t actions h = ⊎_elim closes goes h.next
 
 -- after a round fewer may come
 pub fewer-left : (s t : State) → s.closed ≡ false → s.round ≤ s.rules.rounds → IsNext s t → rounds_left t < rounds_left s
-fewer-left s t open within h = ⊎_elim closes goes h.next
+fewer-left s t going within h = ⊎_elim closes goes h.next
   where
     closes : (t.closed ≡ true) × (t.round ≡ s.round) → rounds_left t < rounds_left s
-    closes e = rw (open, e.0) (omega (arith, within))
+    closes e = rw (going, e.0) (omega (arith, within))
     goes : (t.closed ≡ false) × (t.round ≡ s.round + 1) × (s.round < s.rules.rounds) → rounds_left t < rounds_left s
-    goes e = let more = e.2 in rw (open, e.0, e.1, h.rules) (omega (arith, within, more))
+    goes e = let more = e.2 in rw (going, e.0, e.1, h.rules) (omega (arith, within, more))
 
 -- ---- one more round
 
@@ -138,7 +143,7 @@ seen-more [] seen p = refl
 seen-more (q ∷ rounds) seen p = seen-more rounds (seen ++ paths_of q.bids) p
 
 files-more : {R : Type 0} (texts : RowTexts R) (net : Net) (certs : Option (List ℕ)) (rounds : List (Played R)) (p : Played R)
-    → play_files texts net certs rounds ++ files_where texts net certs p.before.round p.bids p.plan ≡ play_files texts net certs (rounds ++ p ∷ [])
+    → play_files texts net certs rounds ++ files_where texts net certs p.before.round p.bids (certificate_of p.plan) ≡ play_files texts net certs (rounds ++ p ∷ [])
 files-more texts net None rounds p = refl
 files-more texts net (Some prefix) rounds p = flat_map_more (round_files texts net prefix) [] rounds p
 
@@ -147,26 +152,26 @@ Any-front : {X : Type 0} (P : X → Type 0) (xs ys : List X) → Any P xs → An
 Any-front P xs ys h = let x = h.1 in let at = Contains-append_left xs ys x (h.0, h.2, h.3) in (at.0, x, at.1, at.2, h.4)
 
 gap-more : {R : Type 0} (rounds : List (Played R)) (gap : Bool) (p : Played R) → p.plan.revenue ≤ℤ p.plan.bound → HasGap rounds gap → HasGap (rounds ++ p ∷ []) (gap_after gap p.plan)
-gap-more rounds gap p most h = by (int_lt p.plan.revenue p.plan.bound) refl gap h
+gap-more {R = R} rounds gap p most h = by (int_lt p.plan.revenue p.plan.bound) refl gap h
   where
     below : int_lt p.plan.revenue p.plan.bound ≡ true → p.plan.revenue <ℤ p.plan.bound
     below e = grind (arith, ints)
     meets : int_lt p.plan.revenue p.plan.bound ≡ false → p.plan.revenue ≡ p.plan.bound
     meets e = grind (arith, ints)
-    by : (b : Bool) → int_lt p.plan.revenue p.plan.bound ≡ b → (gap : Bool) → HasGap rounds gap → HasGap (rounds ++ p ∷ []) (if b then true else gap)
+    by : (b : Bool) → int_lt p.plan.revenue p.plan.bound ≡ b → (gap : Bool) → HasGap rounds gap → HasGap (rounds ++ p ∷ []) (b || gap)
     by true e gap h = Any-push (λ (q : Played R). q.plan.revenue <ℤ q.plan.bound) rounds p (below e)
     by false e true h = Any-front (λ (q : Played R). q.plan.revenue <ℤ q.plan.bound) rounds (p ∷ []) h
     by false e false h = All-push (λ (q : Played R). q.plan.revenue ≡ q.plan.bound) rounds p h (meets e)
 
 -- all rounds so far, with the round that was played
 module _ {R : Type 0} (family : FamilyOf R) (Keeps : List Entry → Type 0) (net : Net) (certs : Option (List ℕ)) (specs : List Bid) (rules : Rules) (actions : List TimedAct)
-    (old new : Playing) (open : old.auction.closed ≡ false) (so : IsPlayedSo family Keeps net certs specs rules actions old)
+    (old new : Playing) (going : old.auction.closed ≡ false) (so : IsPlayedSo family Keeps net certs specs rules actions old)
     (h : IsRoundPlayed family Keeps net (spec_names specs) certs old new) where
   before : h.p.before ≡ old.auction
   before = h.before_is
 
   from_round : old.left.items ≡ acts_from h.p.before.round actions
-  from_round = so.left_is ∙ ap (λ c. if c then acts_after old.auction.round actions else acts_from old.auction.round actions) open ∙ ap (λ (s : State). acts_from s.round actions) (sym before)
+  from_round = so.left_is ∙ ap (λ c. if c then acts_after old.auction.round actions else acts_from old.auction.round actions) going ∙ ap (λ (s : State). acts_from s.round actions) (sym before)
 
   same_acts : acts_in old.left.items h.p ≡ acts_in actions h.p
   same_acts = ap (acts_of h.p.before.round) from_round ∙ acts_of-from h.p.before.round actions
@@ -182,7 +187,7 @@ module _ {R : Type 0} (family : FamilyOf R) (Keeps : List Entry → Type 0) (net
   acted_same = acts-same h.p.before (acts_in actions h.p)
 
   acted_open : (acted actions h.p).closed ≡ false
-  acted_open = acted_same.closed ∙ ap (λ (s : State). s.closed) before ∙ open
+  acted_open = acted_same.closed ∙ ap (λ (s : State). s.closed) before ∙ going
 
   closes : IsNext (acted actions h.p) new.auction
   closes = subst (IsNext (acted actions h.p)) (sym next_is) (round-closed (acted actions h.p) (values_of net h.p.bids h.p.plan.choice) acted_open)
@@ -196,7 +201,7 @@ module _ {R : Type 0} (family : FamilyOf R) (Keeps : List Entry → Type 0) (net
   acted_within : (acted actions h.p).round ≤ (acted actions h.p).rules.rounds
   acted_within = rw (acted_round, rules_are) so.within
 
-  seen : List Path
+  abbrev seen : List Path
   seen = seen_after [] so.rounds
 
   all_held : All (Contains new.graphs.held) (seen ++ paths_of h.p.bids)
@@ -217,7 +222,7 @@ module _ {R : Type 0} (family : FamilyOf R) (Keeps : List Entry → Type 0) (net
   is_played : IsPlayed family Keeps net actions seen old.auction h.p
   is_played = record {
     before_is = before;
-    is_open = open;
+    is_open = going;
     planned = subst (λ acts. ArePlanned (after_acts h.p.before acts) h.p.bids) same_acts h.planned;
     is_plan = h.is_plan;
     graphs = record { each = new.graphs.held; differ = h.differ; among = all_among; all = all_held; count_is = h.count };
@@ -226,7 +231,7 @@ module _ {R : Type 0} (family : FamilyOf R) (Keeps : List Entry → Type 0) (net
   most : h.p.plan.revenue ≤ℤ h.p.plan.bound
   most = let promise = h.is_plan.promise in subst (λ r. r ≤ℤ h.p.plan.bound) (sym promise.earns) (promise.bounded h.p.plan.choice promise.free)
 
-  text_of : List TimedAct → List ℕ
+  abbrev text_of : List TimedAct → List ℕ
   text_of acts = records_text (round_records net (record {
     round = h.p.before.round;
     outcomes = outcomes h.p.before acts;
@@ -257,10 +262,67 @@ module _ {R : Type 0} (family : FamilyOf R) (Keeps : List Entry → Type 0) (net
     among = subst (λ paths. All (Contains paths) new.graphs.held) (sym (seen-more so.rounds [] h.p)) all_among;
     held = subst (λ paths. All (Contains new.graphs.held) paths) (sym (seen-more so.rounds [] h.p)) all_held;
     text_is = text_next;
-    puts_are = h.puts_are ∙ ap (λ files. files ++ files_where family.texts net certs h.p.before.round h.p.bids h.p.plan) so.puts_are ∙ files-more family.texts net certs so.rounds h.p;
+    puts_are = h.puts_are ∙ ap (λ files. files ++ files_where family.texts net certs h.p.before.round h.p.bids (certificate_of h.p.plan)) so.puts_are ∙ files-more family.texts net certs so.rounds h.p;
     gap_is = subst (HasGap (so.rounds ++ h.p ∷ [])) (sym h.gap_is) (gap-more so.rounds old.has_gap h.p most so.gap_is);
   }
 
   pub played-fewer : rounds_left new.auction < rounds_left old.auction
   played-fewer = let fewer = fewer-left (acted actions h.p) new.auction acted_open acted_within closes in
-      subst (λ n. rounds_left new.auction < n) (λ i. if (acted_open ∙ sym open) i then 0 else (rules_are ∙ sym so.rules_are) i.rounds + 1 - acted_round i) fewer
+      subst (λ n. rounds_left new.auction < n) (λ i. if (acted_open ∙ sym going) i then 0 else ((rules_are ∙ sym so.rules_are) i).rounds + 1 - acted_round i) fewer
+
+-- ---- the first round and the last
+
+no-elements : {X : Type 0} (P : X → Type 0) → All P []
+no-elements P k d within = absurd (omega (arith, within))
+
+no-files : {R : Type 0} (texts : RowTexts R) (net : Net) (certs : Option (List ℕ)) → [] ≡ play_files texts net certs []
+no-files texts net None = refl
+no-files texts net (Some prefix) = refl
+
+-- an auction of which nothing was played was played so far
+pub played-first : {R : Type 0} (family : FamilyOf R) (Keeps : List Entry → Type 0) (net : Net) (certs : Option (List ℕ)) (specs : List Bid) (rules : Rules) (actions : List TimedAct) (playing : Playing)
+    → IsBegun net specs rules actions playing → AreRules rules → AreActions actions → IsPlayedSo family Keeps net certs specs rules actions playing
+played-first family Keeps net certs specs rules actions playing h are told = record {
+  rounds = [];
+  plays = h.auction_is;
+  specs_are = ap (λ (s : State). s.specs) h.auction_is;
+  rules_are = ap (λ (s : State). s.rules) h.auction_is;
+  within = subst (λ (s : State). s.round ≤ rules.rounds) (sym h.auction_is) are.rounds;
+  left_is = h.left_is ∙ sym (from-first actions told.rounds) ∙ ap (λ (s : State). acts_left s actions) (sym h.auction_is);
+  network_is = h.network_is;
+  among = subst (All (Contains [])) (sym h.held_are) (no-elements (Contains []));
+  held = no-elements (Contains playing.graphs.held);
+  text_is = h.text_is;
+  puts_are = ap texts_of h.puts_are ∙ no-files family.texts net certs;
+  gap_is = subst (HasGap []) (sym h.gap_is) (no-elements _);
+}
+
+-- the actions that are left have amounts in range
+pub left-amounts : (s : State) (actions : List TimedAct) → All (λ (a : TimedAct). HasAmount a.act) actions → All (λ (a : TimedAct). HasAmount a.act) (acts_left s actions)
+left-amounts s actions all = by s.closed
+  where
+    by : (closed : Bool) → All (λ (a : TimedAct). HasAmount a.act) (if closed then acts_after s.round actions else acts_from s.round actions)
+    by true = All-filter (λ (a : TimedAct). nat_lt s.round a.round) (λ (a : TimedAct). HasAmount a.act) actions all
+    by false = All-filter (λ (a : TimedAct). nat_le s.round a.round) (λ (a : TimedAct). HasAmount a.act) actions all
+
+play-status : {R : Type 0} (rounds : List (Played R)) (gap : Bool) (status : ℕ) → HasGap rounds gap → status ≡ play_status gap → IsPlayStatus rounds status
+play-status rounds true status h is = inr (is, h)
+play-status rounds false status h is = inl (is, h)
+
+-- an auction that was played until it is closed is played out
+pub played-out : {R : Type 0} (family : FamilyOf R) (Keeps : List Entry → Type 0) (net : Net) (certs : Option (List ℕ)) (specs : List Bid) (rules : Rules) (actions : List TimedAct) (playing : Playing) (answer : Answer)
+    → IsPlayedSo family Keeps net certs specs rules actions playing → playing.auction.closed ≡ true → IsFinished playing answer
+    → IsPlayedOut family Keeps net certs specs rules actions answer.status answer.text.items (texts_of answer.puts.items)
+played-out family Keeps net certs specs rules actions playing answer so closed h = record {
+  rounds = so.rounds;
+  last = playing.auction;
+  is_play = record { plays = so.plays; is_closed = closed };
+  printed = h.text_is ∙ (λ i. so.text_is i ++ close_text_of (late_are i));
+  ends = play-status so.rounds playing.has_gap answer.status so.gap_is h.status_is;
+  put = ap (λ (files : Vec FileText Global). texts_of files.items) h.puts_are ∙ so.puts_are;
+}
+  where
+    late_are : playing.left.items ≡ acts_after playing.auction.round actions
+    late_are = so.left_is ∙ ap (λ c. if c then acts_after playing.auction.round actions else acts_from playing.auction.round actions) closed
+    close_text_of : List TimedAct → List ℕ
+    close_text_of late = records_text (close_records (record { round = playing.auction.round; late = rows_late late; awards = awards_of playing.auction.standing }))

@@ -1,5 +1,5 @@
 -- What a round changes of an auction that is played, as the code holds it.
-use Rattle.std.specs.Prelude.{◌≡◌, ◌⊎◌, ◌≤◌, ℕ, ◌+◌, ◌-◌, nat_le, ◌∷◌, ◌++◌, List, [], length, filter, All, Any, Contains, Option, None, Some, Bool, int_lt, if◌then◌else◌, true, false}
+use Rattle.std.specs.Prelude.{◌≡◌, ◌⊎◌, ◌≤◌, ℕ, ◌+◌, ◌-◌, nat_le, ◌∷◌, ◌++◌, List, [], length, filter, All, Any, Contains, Option, None, Some, Bool, ◌||◌, int_lt, if◌then◌else◌, true, false}
 use Rattle.std.specs.Prelude.{◌<ℤ◌}
 use Rattle.optra_network.specs.Names.{AllDiffer}
 use Rattle.optra_network.specs.Net.{Net}
@@ -8,6 +8,7 @@ use Rattle.optra_bid.specs.declared.bids.Bid.{Bid}
 use Rattle.optra_auction.specs.Machine.{ArePlanned, State, after_round, opened, spec_names}
 use Rattle.optra_auction.specs.declared.Refusal.{Refusal}
 use Rattle.optra_auction.specs.declared.Rules.{Rules}
+use Rattle.optra_cert.specs.Certs.{Cert}
 use Rattle.optra_cert.specs.RowTexts.{RowTexts}
 use Rattle.optra_records.specs.Texts.{records_text}
 use Rattle.optra_rounds.specs.Rounds.{acts_after, acts_of, after_acts, awards_of, other_acts, outcomes, values_of}
@@ -15,6 +16,7 @@ use Rattle.optra_search.specs.Planner.{Planned}
 use Rattle.optra_tables.specs.declared.TimedAct.{TimedAct}
 use Rattle.optra_text.specs.RoundTexts.{close_records, round_records}
 use Rattle.optra_walk.specs.Families.{Entry}
+use Rattle.optra_walk.specs.declared.Leg.{Leg}
 use Rattle.optra_top.specs.Families.{FamilyOf}
 use Rattle.optra_top.specs.Play.{Played, Plays, acted, closed_by, files_named, paths_of, play_files, round_budget, round_of, round_steps, rounds_text, rows_late}
 use Rattle.optra_top.specs.PlanCommand.{certificate_of}
@@ -34,14 +36,23 @@ pub record IsRoundTaken (old : Playing) (told : List (ℕ × Option Refusal)) (n
   pub puts_are : new.puts ≡ old.puts
   pub gap_is : new.has_gap ≡ old.has_gap
 
--- the files of a round, where a prefix is given
-abbrev pub files_where : {R : Type 0} → RowTexts R → Net → Option (List ℕ) → ℕ → List Bid → Planned R → List (List ℕ × List ℕ)
-files_where texts net None round bids plan = []
-files_where texts net (Some prefix) round bids plan = files_named texts net prefix round bids (certificate_of plan)
+-- the files of a round of these bids and this certificate, where a prefix is given
+abbrev pub files_where : {R : Type 0} → RowTexts R → Net → Option (List ℕ) → ℕ → List Bid → Cert R → List (List ℕ × List ℕ)
+files_where texts net None round bids cert = []
+files_where texts net (Some prefix) round bids cert = files_named texts net prefix round bids cert
 
 -- whether there is a gap in the rounds before or in this plan
 abbrev pub gap_after : {R : Type 0} → Bool → Planned R → Bool
-gap_after gap plan = if int_lt plan.revenue plan.bound then true else gap
+gap_after gap plan = int_lt plan.revenue plan.bound || gap
+
+-- The round of these bids was closed with this choice, and all else is as it was.
+pub record IsShut (net : Net) (bids : List Bid) (choice : List (Option (List Leg))) (is_gap : Bool) (old new : Playing) : Type 0 where
+  pub auction_is : new.auction ≡ after_round old.auction (values_of net bids choice)
+  pub left_is : new.left ≡ old.left
+  pub graphs_are : new.graphs ≡ old.graphs
+  pub text_is : new.text ≡ old.text
+  pub puts_are : new.puts ≡ old.puts
+  pub gap_is : new.has_gap ≡ (is_gap || old.has_gap)
 
 -- The round of these bids was closed with their plan, its files are put, and all else is as it was.
 pub record IsRoundClosed {R : Type 0} (texts : RowTexts R) (net : Net) (certs : Option (List ℕ)) (bids : List Bid) (plan : Planned R) (old new : Playing) : Type 0 where
@@ -49,7 +60,7 @@ pub record IsRoundClosed {R : Type 0} (texts : RowTexts R) (net : Net) (certs : 
   pub left_is : new.left ≡ old.left
   pub graphs_are : new.graphs ≡ old.graphs
   pub text_is : new.text ≡ old.text
-  pub puts_are : texts_of new.puts.items ≡ texts_of old.puts.items ++ files_where texts net certs old.auction.round bids plan
+  pub puts_are : texts_of new.puts.items ≡ texts_of old.puts.items ++ files_where texts net certs old.auction.round bids (certificate_of plan)
   pub gap_is : new.has_gap ≡ gap_after old.has_gap plan
 
 -- A round was played of the actions that were left, and it is the next one. The loop over rounds lifts this to the list of all
@@ -69,8 +80,22 @@ pub record IsRoundPlayed {R : Type 0} (family : FamilyOf R) (Keeps : List Entry 
   pub auction_is : new.auction ≡ closed_by old.left.items net p
   pub left_is : new.left.items ≡ other_acts p.before.round old.left.items
   pub text_is : new.text.items ≡ old.text.items ++ records_text (round_records net (round_of names old.left.items p))
-  pub puts_are : texts_of new.puts.items ≡ texts_of old.puts.items ++ files_where family.texts net certs p.before.round p.bids p.plan
+  pub puts_are : texts_of new.puts.items ≡ texts_of old.puts.items ++ files_where family.texts net certs p.before.round p.bids (certificate_of p.plan)
   pub gap_is : new.has_gap ≡ gap_after old.has_gap p.plan
+
+-- An auction of these specifications and rules of which nothing was played.
+pub record IsBegun (net : Net) (specs : List Bid) (rules : Rules) (actions : List TimedAct) (playing : Playing) : Type 0 where
+  pub auction_is : playing.auction ≡ opened specs rules
+  pub network_is : playing.graphs.network ≡ net
+  pub held_are : playing.graphs.held ≡ []
+  pub left_is : playing.left.items ≡ actions
+  pub text_is : playing.text.items ≡ []
+  pub puts_are : playing.puts.items ≡ []
+  pub gap_is : playing.has_gap ≡ false
+
+-- how an auction ends, by whether there is a gap in a round
+abbrev pub play_status : Bool → ℕ
+play_status has_gap = if has_gap then gap_status else optimal_status
 
 -- What is printed and put of an auction that is closed, and how it ends.
 pub record IsFinished (playing : Playing) (answer : Answer) : Type 0 where
@@ -80,7 +105,7 @@ pub record IsFinished (playing : Playing) (answer : Answer) : Type 0 where
     awards = awards_of playing.auction.standing;
   }))
   pub puts_are : answer.puts ≡ playing.puts
-  pub status_is : answer.status ≡ (if playing.has_gap then gap_status else optimal_status)
+  pub status_is : answer.status ≡ play_status playing.has_gap
 
 -- ---- the rounds so far
 

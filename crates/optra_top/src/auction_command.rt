@@ -106,8 +106,10 @@ fn read_auction(alloc: Global, files: &[Got]) -> Result<AuctionTables, ReadError
     ensures actions { IfOk result (λ tables. AreActions tables.actions.items) }
 {
     let tables = read_tables(alloc, files)?;
-    let rules = read_rules(alloc, table_content(files, Table::Rules))?;
-    let actions = read_actions(alloc, table_content(files, Table::Actions))?;
+    let rules_text = table_content(files, Table::Rules);
+    let rules = read_rules(alloc, rules_text)?;
+    let actions_text = table_content(files, Table::Actions);
+    let actions = read_actions(alloc, actions_text)?;
     Ok(AuctionTables {
         net: tables.net,
         specs: tables.bids,

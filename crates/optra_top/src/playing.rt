@@ -16,7 +16,7 @@ ghost use Rattle.optra_tables.specs.Actions.{AreActions};
 ghost use Rattle.optra_text.specs.RoundTexts.{round_records};
 ghost use Rattle.optra_top.specs.Play.{IsPlayedOut, files_named, round_budget, round_steps};
 ghost use Rattle.optra_top.specs.Plans.{IsPlanOf, TellsConflicts};
-ghost use Rattle.optra_top.specs.Playing.{IsFinished, IsRoundClosed, IsRoundPlayed, IsRoundTaken};
+ghost use Rattle.optra_top.specs.Playing.{IsBegun, IsFinished, IsRoundClosed, IsRoundPlayed, IsRoundTaken, IsShut, files_where, play_status};
 ghost use Rattle.optra_top.specs.Puts.{texts_of};
 
 use crate::files::FileText;
@@ -33,7 +33,7 @@ use optra_rounds::{close_of, names_of, spec_names, take_actions, values_of};
 use optra_search::{Limits, Plan};
 use optra_tables::{TimedAct, bids_text, stops_text};
 use optra_text::{PathText, PlanView, RoundView, round_text};
-use optra_walk::Instance;
+use optra_walk::{Choice, Instance};
 use std::alloc::Global;
 use std::mem;
 
@@ -181,7 +181,8 @@ fn play_round<'n, F: RowText>(
     };
     let text = print_round(alloc, view, &playing.auction, names, &outcomes, graphs)?;
     playing.text.extend_from_slice(&text)?;
-    finish_round(alloc, inst, rows, certs, plan, playing)
+    finish_round(alloc, inst, rows, certs, plan, playing)?;
+    Ok(())
 }
 
 /// Closes a round with its plan, and puts its files where a prefix is given.
@@ -204,25 +205,56 @@ fn finish_round<F: RowText>(
     ensures { OnOk result (IsRoundClosed (F.texts_of rows.now) inst.entry.net.now certs.now inst.entry.bids.now plan playing.old playing.new) }
 {
     let round = playing.auction.round();
-    let values = values_of(alloc, inst.net, inst.bids, &plan.choice.walks)?;
-    playing.auction.close_round(&values);
-    if plan.revenue < plan.bound {
-        playing.has_gap = true;
-    }
+    let is_gap = plan.revenue < plan.bound;
+    close_round(alloc, inst, &plan.choice, is_gap, playing)?;
     valid_is_writable(inst, rows);
     let certificate = certificate_of(plan);
-    if let Some(prefix) = certs {
-        put_round(
-            alloc,
-            inst,
-            rows,
-            &certificate,
-            prefix.text(),
-            round,
-            &mut playing.puts,
-        )?;
-    }
+    put_files(alloc, inst, rows, certs, round, &certificate, &mut playing.puts)?;
     Ok(())
+}
+
+/// Closes a round with the choice of its plan, and keeps in mind whether the plan has a gap.
+fn close_round(
+    alloc: Global,
+    inst: Instance<'_>,
+    choice: &Choice,
+    is_gap: bool,
+    playing: &mut Playing<'_>,
+) -> Result<(), NoMemory>
+    requires choice { IsChoice inst.net.now inst.bids.now choice.now }
+    requires planned { ArePlanned playing.old.auction inst.bids.now }
+    requires open { playing.old.auction.closed ≡ false }
+    ensures { OnOk result (IsShut inst.entry.net.now inst.entry.bids.now choice.now is_gap playing.old playing.new) }
+{
+    let values = values_of(alloc, inst.net, inst.bids, choice)?;
+    playing.auction.close_round(&values);
+    playing.has_gap = is_gap || playing.has_gap;
+    Ok(())
+}
+
+/// Puts the files of a round, where a prefix is given.
+fn put_files<F: RowText>(
+    alloc: Global,
+    inst: Instance<'_>,
+    rows: &F,
+    certs: &Option<PathText>,
+    round: u16,
+    certificate: &Certificate<F::Row>,
+    puts: &mut Vec<FileText>,
+) -> Result<(), NoMemory>
+    requires few { length inst.bids.now ≤ 1000 }
+    requires paths { All (λ bid. IsPathOn inst.net.now bid.path) inst.bids.now }
+    requires differ { AllDiffer (spec_names inst.bids.now) }
+    requires apart { AreApart (F.texts_of rows.now).kinds }
+    requires writable { IsWritable F.Row.cmp (F.texts_of rows.now) inst.net.now (length inst.bids.now)
+        (F.texts_of rows.now).version certificate.now }
+    ensures { OnOk result (texts_of puts.new.items ≡ texts_of puts.old.items
+        ++ files_where (F.texts_of rows.now) inst.entry.net.now certs.now round inst.entry.bids.now certificate.now) }
+{
+    match certs {
+        Some(prefix) => put_round(alloc, inst, rows, certificate, prefix.text(), round, puts),
+        None => Ok(()),
+    }
 }
 
 /// Plays an auction by a family of rows, and puts each round's files where a prefix is given. It needs that the family's rule is
@@ -251,18 +283,33 @@ pub fn play<F: RowText>(
     answer.status answer.text.items (texts_of answer.puts.items)) }
 {
     let names = names_of(alloc, &specs)?;
-    let mut playing = Playing {
+    let mut playing = begin(alloc, net, specs, rules, actions)?;
+    'rounds: while !playing.auction.closed() {
+        play_round(alloc, net, rows, &names, certs, &mut playing)?;
+    }
+    finish(alloc, playing)
+}
+
+/// An auction of which nothing was played.
+fn begin<'n>(
+    alloc: Global,
+    net: &'n Network,
+    specs: Vec<Bid>,
+    rules: Rules,
+    actions: Vec<TimedAct>,
+) -> Result<Playing<'n>, NoMemory>
+    requires specs { AreSpecs specs.items }
+    requires rules { AreRules rules }
+    ensures { IfOk result (λ playing. IsBegun net.now specs.items rules actions.items playing) }
+{
+    Ok(Playing {
         auction: Auction::new(alloc, specs, rules)?,
         graphs: GraphStore::new(alloc, net)?,
         left: actions,
         text: Vec::new(alloc),
         puts: Vec::new(alloc),
         has_gap: false,
-    };
-    'rounds: while !playing.auction.closed() {
-        play_round(alloc, net, rows, &names, certs, &mut playing)?;
-    }
-    finish(alloc, playing)
+    })
 }
 
 /// What a closed auction prints and puts.
@@ -278,10 +325,17 @@ fn finish(alloc: Global, playing: Playing<'_>) -> Result<Answer, NoMemory>
         ..
     } = playing;
     text.extend_from_slice(&last)?;
-    let status = if has_gap {
+    let status = status(has_gap);
+    Ok(Answer { status, text, puts })
+}
+
+/// The status of an auction, by whether the plan of a round has a gap.
+fn status(has_gap: bool) -> u8
+    ensures { result ≡ play_status has_gap }
+{
+    if has_gap {
         statuses::GAP
     } else {
         statuses::OPTIMAL
-    };
-    Ok(Answer { status, text, puts })
+    }
 }

@@ -8,7 +8,7 @@ invariant-rounds g l = IsPlayedSo (record {
   cmp = g.F.Row.Ord.cmp;
   rows = g.F.RowFamily.rows_of l.rows l.net;
   texts = g.F.RowText.texts_of l.rows;
-}) (g.F.RowFamily.KeepsRule l.rows l.net) l.net l.certs l.initial.specs.items l.initial.rules l.initial.actions.items l.playing
+}) (g.F.RowFamily.KeepsRule l.rows l.net) l.net l.certs l.fn.specs.items l.fn.rules l.fn.actions.items l.playing
 
 abbrev pub decreases-rounds : goal.decreases-rounds
 decreases-rounds g l = rounds_left l.playing.auction
