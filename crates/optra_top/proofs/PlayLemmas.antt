@@ -1,13 +1,13 @@
 -- An auction as it is played: how long its lists are, what its actions leave as it was, and its rounds one after another.
-use Rattle.std.proofs.Common.{◌≡◌, ◌≤◌, ℕ, suc, List, [], ◌∷◌, length, map, Some, None, Option, refl, sym, ap, ◌∙◌, subst, arith, true, false}
-use Rattle.std.specs.Prelude.{ℤ, All}
+use Rattle.std.proofs.Common.{◌≡◌, ◌≤◌, suc, List, [], ◌∷◌, length, Some, None, Option, refl, sym, ap, ◌∙◌, subst, arith}
+use Rattle.std.specs.Prelude.{All}
 use Rattle.std.specs.Option.{option_map_or}
 use Rattle.std.proofs.lemmas.List.{length-map}
 use Rattle.optra_network.specs.Net.{Net}
 use Rattle.optra_bid.specs.declared.bids.Bid.{Bid}
 use Rattle.optra_bid.specs.Instances.{IsInstance}
 use Rattle.optra_bid.specs.Specs.{IsPathOn}
-use Rattle.optra_auction.specs.Machine.{ArePathsOfSpecs, ArePlanned, Offer, State, after_act, offer_of, planned_of, refusal_of}
+use Rattle.optra_auction.specs.Machine.{ArePathsOfSpecs, ArePlanned, State, after_act, offer_of, planned_of, refusal_of}
 use Rattle.optra_auction.specs.declared.Act.{Act}
 use Rattle.optra_auction.specs.declared.Refusal.{Refusal}
 use Rattle.optra_rounds.specs.Rounds.{after_acts, after_any, values_of}

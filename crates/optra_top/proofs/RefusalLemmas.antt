@@ -13,7 +13,7 @@ use Rattle.optra_text.specs.FaultLines.{refusal_line}
 use Rattle.optra_tables.specs.declared.Table.TheVariants.{Bids, Stops}
 use Rattle.optra_top.specs.Faults.{unread_fault, EndsReply}
 use Rattle.optra_top.specs.Files.{Contents}
-use Rattle.optra_top.specs.TableFiles.{AnswerTo, ReplyTo, Tables, meaning_of, net_files, table_content}
+use Rattle.optra_top.specs.TableFiles.{AnswerTo, ReplyTo, meaning_of, net_files, table_content}
 use Rattle.optra_top.specs.Puts.{texts_of}
 use Rattle.optra_top.specs.declared.replies.Answer.{Answer}
 use Rattle.optra_top.specs.Replies.{Reply, refused, answered, reply_of}

@@ -1,11 +1,10 @@
 -- Rounds that are played one after another: one more at the end, and what it adds.
-use Rattle.std.proofs.Common.{◌≡◌, ◌⊎◌, inl, inr, ◌≤◌, ◌<◌, ℕ, ◌+◌, ◌-◌, ◌++◌, List, [], ◌∷◌, length, map, Bool, true, false, Option, None, Some, Vec, ◌≢◌, suc, refl, sym, ap, ◌∙◌, subst, arith, ⊎_elim}
+use Rattle.std.proofs.Common.{◌≡◌, ◌⊎◌, inl, inr, ◌≤◌, ◌<◌, ℕ, ◌+◌, ◌-◌, ◌++◌, List, [], ◌∷◌, map, Bool, true, false, Option, None, Some, Vec, ◌≢◌, suc, refl, sym, ap, ◌∙◌, subst, arith, ⊎_elim}
 use Rattle.std.proofs.lemmas.Int.{ints}
 use Rattle.std.specs.Prelude.{ℤ, int_lt, ◌≤ℤ◌, ◌<ℤ◌, nat_eq, nat_le, nat_lt, not, ◌&&◌, ◌||◌, filter, cond, if◌then◌else◌, All, Any, Contains}
-use Rattle.std.specs.List.{flat_map}
 use Rattle.std.specs.declared.alloc.Global.{Global}
 use Rattle.std.proofs.lemmas.Bool.Decides.{eqb_tells, leb_tells}
-use Rattle.std.proofs.lemmas.List.{append-nil, flat_map_more}
+use Rattle.std.proofs.lemmas.List.{flat_map_more}
 use Rattle.std.proofs.lemmas.List.Elements.{All-append, All-filter, All-head, All-push, All-tail, All-weaker, Contains-append_left, Contains-append_right}
 use Rattle.std.proofs.lemmas.List.Quantifiers.{Any-push}
 use Rattle.optra_network.specs.Net.{Net}
@@ -22,10 +21,9 @@ use Rattle.optra_tables.specs.declared.TimedAct.{TimedAct}
 use Rattle.optra_text.specs.RoundTexts.{close_records, round_records}
 use Rattle.optra_walk.specs.Families.{Entry}
 use Rattle.optra_top.specs.Families.{FamilyOf}
-use Rattle.optra_top.specs.Play.{AreDifferent, IsPlayStatus, IsPlayed, IsPlayedOut, Played, Plays, acted, acts_in, closed_by, paths_of, play_files, round_files, round_of, rounds_text, rows_late}
+use Rattle.optra_top.specs.Play.{IsPlayStatus, IsPlayed, IsPlayedOut, Played, Plays, acted, acts_in, closed_by, paths_of, play_files, round_files, round_of, rounds_text, rows_late}
 use Rattle.optra_top.specs.Playing.{HasGap, IsBegun, IsFinished, IsPlayedSo, IsRoundPlayed, acts_from, acts_left, files_where, gap_after, play_status, rounds_left, seen_after}
 use Rattle.optra_top.specs.PlanCommand.{certificate_of}
-use Rattle.optra_top.specs.Plans.{IsPlanOf}
 use Rattle.optra_top.specs.Puts.{texts_of}
 use Rattle.optra_top.specs.declared.files.FileText.{FileText}
 use Rattle.optra_top.specs.declared.playing.Playing.{Playing}
@@ -118,6 +116,7 @@ left-next s t actions h = ⊎_elim closes goes h.next
   where
     closes : (t.closed ≡ true) × (t.round ≡ s.round) → acts_after s.round actions ≡ acts_left t actions
     closes e = rw (e.0, e.1) refl
+
     goes : (t.closed ≡ false) × (t.round ≡ s.round + 1) × (s.round < s.rules.rounds) → acts_after s.round actions ≡ acts_left t actions
     goes e = rw (e.0, e.1) (sym (from-next s.round actions))
 
@@ -127,6 +126,7 @@ fewer-left s t going within h = ⊎_elim closes goes h.next
   where
     closes : (t.closed ≡ true) × (t.round ≡ s.round) → rounds_left t < rounds_left s
     closes e = rw (going, e.0) (omega (arith, within))
+
     goes : (t.closed ≡ false) × (t.round ≡ s.round + 1) × (s.round < s.rules.rounds) → rounds_left t < rounds_left s
     goes e = let more = e.2 in rw (going, e.0, e.1, h.rules) (omega (arith, within, more))
 
@@ -156,8 +156,10 @@ gap-more {R = R} rounds gap p most h = by (int_lt p.plan.revenue p.plan.bound) r
   where
     below : int_lt p.plan.revenue p.plan.bound ≡ true → p.plan.revenue <ℤ p.plan.bound
     below e = grind (arith, ints)
+
     meets : int_lt p.plan.revenue p.plan.bound ≡ false → p.plan.revenue ≡ p.plan.bound
     meets e = grind (arith, ints)
+
     by : (b : Bool) → int_lt p.plan.revenue p.plan.bound ≡ b → (gap : Bool) → HasGap rounds gap → HasGap (rounds ++ p ∷ []) (b || gap)
     by true e gap h = Any-push (λ (q : Played R). q.plan.revenue <ℤ q.plan.bound) rounds p (below e)
     by false e true h = Any-front (λ (q : Played R). q.plan.revenue <ℤ q.plan.bound) rounds (p ∷ []) h
@@ -215,6 +217,7 @@ module _ {R : Type 0} (family : FamilyOf R) (Keeps : List Entry → Type 0) (net
     where
       seen_at : (path : Path) → Contains old.graphs.held path → Contains seen path
       seen_at path at = subst (Contains seen) at.2 (so.among at.0 path at.1)
+
       from_at : (path : Path) → Contains old.graphs.held path ⊎ Contains (paths_of h.p.bids) path → Contains (seen ++ paths_of h.p.bids) path
       from_at path (inl at) = Contains-append_left seen (paths_of h.p.bids) path (seen_at path at)
       from_at path (inr at) = Contains-append_right seen (paths_of h.p.bids) path at
@@ -324,5 +327,6 @@ played-out family Keeps net certs specs rules actions playing answer so closed h
   where
     late_are : playing.left.items ≡ acts_after playing.auction.round actions
     late_are = so.left_is ∙ ap (λ c. if c then acts_after playing.auction.round actions else acts_from playing.auction.round actions) closed
+
     close_text_of : List TimedAct → List ℕ
     close_text_of late = records_text (close_records (record { round = playing.auction.round; late = rows_late late; awards = awards_of playing.auction.standing }))

@@ -1,5 +1,5 @@
 -- The auction command: the files that it gets after the tables of a network and its bids, what they mean, and what it replies.
-use Rattle.std.specs.Prelude.{◌≡◌, ◌+◌, ◌++◌, ℕ, List, length, map, Option, Some, Result, Ok, nat_eq, if◌then◌else◌}
+use Rattle.std.specs.Prelude.{◌≡◌, ◌+◌, ℕ, List, length, map, Option, Some, Result, Ok, nat_eq, if◌then◌else◌}
 use Rattle.optra_network.specs.Net.{Net}
 use Rattle.optra_bid.specs.declared.bids.Bid.{Bid}
 use Rattle.optra_auction.specs.declared.Rules as declared_rules

@@ -30,13 +30,15 @@ use std::alloc::{AllocError, Global};
 /// stops, the rules and the actions.
 pub fn next_auction_file(
     alloc: Global,
-    tables: (&str, &str, &str),
+    net: &str,
+    bids: &str,
+    stops: &str,
     rules: &str,
     actions: &str,
     got: &[Got],
 ) -> Result<Option<Asked>, AllocError>
     ensures next { IfOk result (λ next. option_map file_asked next
-        ≡ next_auction_file tables.0.now tables.1.now tables.2.now rules.now actions.now (files_got got.now)) }
+        ≡ next_auction_file net.now bids.now stops.now rules.now actions.now (files_got got.now)) }
     ensures few { IfOk result (λ next. IfSome next (λ _. length got.now < 9)) }
 {
     if got.len() == TABLES {
@@ -45,7 +47,6 @@ pub fn next_auction_file(
     if got.len() == TABLES + 1 {
         return asked(alloc, Table::Actions, actions);
     }
-    let (net, bids, stops) = tables;
     next_table_file(alloc, net, bids, stops, got)
 }
 

@@ -50,9 +50,9 @@ pub fn next_file(alloc: Global, command: &Words, got: &[Got]) -> Result<Option<A
             actions,
             ..
         } => {
-            let tables = (net.text(), bids.text(), stops.text());
+            let (net, bids, stops) = (net.text(), bids.text(), stops.text());
             let (rules, actions) = (rules.text(), actions.text());
-            auction_command::next_auction_file(alloc, tables, rules, actions, got)
+            auction_command::next_auction_file(alloc, net, bids, stops, rules, actions, got)
         }
         Words::Demo { .. } => Ok(None),
     }

@@ -209,7 +209,15 @@ fn finish_round<F: RowText>(
     close_round(alloc, inst, &plan.choice, is_gap, playing)?;
     valid_is_writable(inst, rows);
     let certificate = certificate_of(plan);
-    put_files(alloc, inst, rows, certs, round, &certificate, &mut playing.puts)?;
+    put_files(
+        alloc,
+        inst,
+        rows,
+        certs,
+        round,
+        &certificate,
+        &mut playing.puts,
+    )?;
     Ok(())
 }
 
@@ -280,7 +288,7 @@ pub fn play<F: RowText>(
       rows = F.rows_of rows.now net.now;
       texts = F.texts_of rows.now;
     }) (F.KeepsRule rows.now net.now) net.now certs.now specs.items rules actions.items
-    answer.status answer.text.items (texts_of answer.puts.items)) }
+        answer.status answer.text.items (texts_of answer.puts.items)) }
 {
     let names = names_of(alloc, &specs)?;
     let mut playing = begin(alloc, net, specs, rules, actions)?;

@@ -1,5 +1,5 @@
 -- As many values as bids that stand.
-use Rattle.std.proofs.Common.{◌≡◌, ◌∙◌, ap, length}
+use Rattle.std.proofs.Common.{◌∙◌, ap, length}
 use Rattle.std.proofs.lemmas.Slice.Zip.{AllZip-long}
 use Rattle.optra_top.proofs.PlayLemmas.{planned-long, values-long}
 use Rattle.optra_top.proofs.playing.close_round.Goals as goal

@@ -1,6 +1,5 @@
 -- The close is printed behind the rounds.
 use Rattle.std.proofs.Common.{◌++◌, ℕ, List, ap, ◌∙◌, refl}
-use Rattle.optra_auction.specs.Machine.{State}
 use Rattle.optra_records.specs.Texts.{records_text}
 use Rattle.optra_rounds.specs.Rounds.{awards_of}
 use Rattle.optra_tables.specs.declared.TimedAct.{TimedAct}

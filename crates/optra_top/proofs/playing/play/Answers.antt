@@ -1,11 +1,10 @@
 -- Each round goes on from those before it, and fewer may come; the last one closes the auction.
-use Rattle.std.proofs.Common.{◌≡◌, sym, ap, ◌∙◌, subst, All, List}
+use Rattle.std.proofs.Common.{sym, ap, ◌∙◌, subst, All}
 use Rattle.optra_auction.specs.Machine.{HasAmount, spec_names}
 use Rattle.optra_bid.specs.Specs.{IsPathOn}
 use Rattle.optra_bid.specs.declared.bids.Bid.{Bid}
 use Rattle.optra_tables.specs.declared.TimedAct.{TimedAct}
-use Rattle.optra_top.specs.Families.{FamilyOf}
-use Rattle.optra_top.proofs.RoundLemmas.{left-amounts, played-first, played-fewer, played-next, played-out}
+use Rattle.optra_top.proofs.RoundLemmas.{left-amounts, played-first, played-fewer, played-next}
 use Rattle.optra_top.proofs.playing.play.Goals as goal
 
 pub rounds-init : goal.rounds-init

@@ -1,5 +1,4 @@
 -- The rounds so far were played, and fewer may come with each.
-use Rattle.std.proofs.Common.{map}
 use Rattle.optra_top.specs.Playing.{IsPlayedSo, rounds_left}
 use Rattle.optra_top.proofs.playing.play.Given as goal
 

@@ -1,22 +1,19 @@
 -- A round is played: its actions are taken, the bids that stand are planned and printed, and it is closed with their plan.
 use Rattle.std.proofs.Common.{◌≡◌, ◌++◌, ℕ, List, refl, rules, sym, ap, ◌∙◌, subst}
-use Rattle.std.specs.Prelude.{All, Contains, Vec}
+use Rattle.std.specs.Prelude.{Contains, Vec}
 use Rattle.std.specs.declared.alloc.Global.{Global}
 use Rattle.std.proofs.lemmas.List.Elements.{All-map}
 use Rattle.optra_network.specs.Names.{AllDiffer}
 use Rattle.optra_bid.specs.Instances.{IsInstance}
-use Rattle.optra_bid.specs.Specs.{IsPathOn}
 use Rattle.optra_bid.specs.declared.bids.Bid.{Bid}
 use Rattle.optra_auction.specs.Machine.{ArePlanned, State, after_round, spec_names}
 use Rattle.optra_records.specs.Texts.{records_text}
 use Rattle.optra_rounds.specs.Rounds.{acts_of, specs_of, values_of}
 use Rattle.optra_tables.specs.declared.TimedAct.{TimedAct}
 use Rattle.optra_text.specs.RoundTexts.{round_records}
-use Rattle.optra_top.specs.Play.{paths_of}
 use Rattle.optra_top.specs.PlanCommand.{certificate_of}
 use Rattle.optra_top.specs.Playing.{files_where, gap_after}
 use Rattle.optra_top.specs.Puts.{texts_of}
-use Rattle.optra_top.specs.declared.files.FileText.{FileText}
 use Rattle.optra_top.proofs.PlayLemmas.{closed-after, instance-after, round-after, specs-after}
 use Rattle.optra_top.proofs.playing.play_round.Goals as goal
 
