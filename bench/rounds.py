@@ -1,14 +1,15 @@
 #!/usr/bin/env python3
-"""Times auctions: python3 bench/rounds.py PROGRAM [PROGRAM ..]
+"""Times auctions: python3 bench/rounds.py actions|plans PROGRAM [PROGRAM ..]
 
 Several programs are timed side by side, turn by turn, and their texts compared.
 
-1. Actions. 100 rounds over 500 standing bids none of which is worth a train, so that the plans are trivial: with a single action in each
+actions: 100 rounds over 500 standing bids none of which is worth a train, so that the plans are trivial: with a single action in each
    round after the first, and with 25,000, 50,000 and 100,000 actions in all. What is above the first line is what the actions cost, and
    should double with them. Then 100,000 actions of which a fifth withdraws the first bid that stands and opens it again behind the others.
-2. Plans. Ten rounds over the 60 bids of a demo, and the sum of the ten plans of the same bids, each by a `plan` of its own.
+plans: ten rounds over the bids of a demo, and the sum of the ten plans of the same bids, each by a `plan` of its own; without files and
+   with `--certs`. 20 bids, in three turns, and 60 bids, once: most of their plans spend the whole budget, which takes minutes.
 
-Of each it prints the user and system seconds (the least of three turns) and the peak memory. Run by hand; the gate does not run it.
+Of each it prints the user and system seconds (the least of the turns) and the peak memory. Run by hand; the gate does not run it.
 """
 import hashlib
 import os
@@ -18,7 +19,7 @@ import tempfile
 
 import demo
 
-BIDS, ROUNDS, TURNS = 500, 100, 3
+BIDS, ROUNDS = 500, 100
 ACTIONS = "round,bidder,action,bid,spec,amount"
 RULES = "min_increment,permille,rounds"
 TABLES = ["--net", "net", "--bids", "bids.csv", "--stops", "stops.csv"]
@@ -69,10 +70,10 @@ def measured(program, words, place):
     return use.ru_utime + use.ru_stime, use.ru_maxrss, (digest, os.waitstatus_to_exitcode(status))
 
 
-def compared(what, programs, works):
+def compared(what, programs, works, turns=3):
     """Prints a line: of each program the least seconds for all works together, and the peak memory."""
     best, peak, texts = {}, {}, {}
-    for _ in range(TURNS):
+    for _ in range(turns):
         for program in programs:
             runs = [measured(program, words, place) for words, place in works]
             seconds = sum(seconds for seconds, _, _ in runs)
@@ -83,18 +84,21 @@ def compared(what, programs, works):
     print(f"{what:44} {told}" + ("" if len(set(map(str, texts.values()))) == 1 else "   the texts differ"), flush=True)
 
 
-def ten_rounds(place):
-    """The tables of a demo of 60 bids, and ten rounds in each of which the losers raise."""
-    demo.main(7, 3, place)
-    bids = [line.split(",") for line in open(f"{place}/bids.csv").read().splitlines()[1:]]
-    made = [f"1,{bid[1]},open,{bid[0]},{bid[0]},{bid[11]}" for bid in bids]
+def ten_rounds(place, size):
+    """The tables of a demo, and ten rounds: all but nine bids are opened in the first, one in each later one, and losers raise."""
+    demo.main(7, size, place)
+    with open(f"{place}/bids.csv") as file:
+        bids = [line.split(",") for line in file.read().splitlines()[1:]]
+    opened = [f"{bid[1]},open,{bid[0]},{bid[0]},{bid[11]}" for bid in bids]
+    made = [f"1,{action}" for action in opened[9:]]
     for number in range(2, 11):
+        made += [f"{number},{opened[number - 2]}"]
         made += [f"{number},{bid[1]},raise,{bid[0]},,{int(int(bid[11]) * 1.06 ** number)}" for bid in bids]
     lay(place, {"rules": [RULES, "20,50,10"], "actions": [ACTIONS, *made]})
+    return len(bids)
 
 
-def main(programs):
-    print(f"{'':44} " + "   ".join(f"{os.path.basename(program):>19}" for program in programs))
+def time_actions(programs):
     with tempfile.TemporaryDirectory() as place:
         market(place)
         for what, count, made in [("100 rounds, an action in each", 1, raised), ("25,000 actions", 250, raised),
@@ -102,16 +106,28 @@ def main(programs):
                                   ("100,000 actions with withdrawals", 1000, withdrawn)]:
             actions(place, count, made)
             compared(what, programs, [(AUCTION, place)])
+
+
+def time_plans(programs, size, turns):
     with tempfile.TemporaryDirectory() as place:
-        ten_rounds(place)
-        compared("60 bids, ten rounds", programs, [(AUCTION, place)])
-        subprocess.run([programs[0], *AUCTION, "--certs", "r"], cwd=place, stdout=subprocess.DEVNULL)
-        plans = [["plan", "--net", "net", "--bids", f"r{number}.bids.csv", "--stops", f"r{number}.stops.csv"] for number in range(1, 11)]
-        compared("the ten plans", programs, [(words, place) for words in plans])
-        compared("60 bids, ten rounds with --certs", programs, [([*AUCTION, "--certs", "r"], place)])
+        bids = ten_rounds(place, size)
+        compared(f"{bids} bids, the rounds with --certs", programs, [([*AUCTION, "--certs", "r"], place)], turns)
+        compared(f"{bids} bids, the rounds", programs, [(AUCTION, place)], turns)
+        rounds = [number for number in range(1, 11) if os.path.exists(f"{place}/r{number}.bids.csv")]
+        plans = [["plan", "--net", "net", "--bids", f"r{number}.bids.csv", "--stops", f"r{number}.stops.csv"] for number in rounds]
+        compared(f"{bids} bids, the {len(rounds)} plans", programs, [(words, place) for words in plans], turns)
+
+
+def main(what, programs):
+    print(f"{'':44} " + "   ".join(f"{program[-19:]:>19}" for program in programs))
+    if what == "actions":
+        time_actions(programs)
+    else:
+        time_plans(programs, 1, 3)
+        time_plans(programs, 3, 1)
 
 
 if __name__ == "__main__":
-    if len(sys.argv) < 2:
+    if len(sys.argv) < 3 or sys.argv[1] not in ("actions", "plans"):
         sys.exit(__doc__)
-    main([os.path.realpath(program) for program in sys.argv[1:]])
+    main(sys.argv[1], [os.path.realpath(program) for program in sys.argv[2:]])
