@@ -8,7 +8,8 @@ the peak memory and what was answered, and ends with status 1 where an answer is
 full-wide       300 stations, 1,000 tracks, 16 types, all running times and headways; 1,000 bids of 8 stops that may depart, arrive and
                 stop at any minute of both days and wait 30 minutes anywhere
 full-one        the same network with one such bid
-full-narrow     the same network with 1,000 bids of 8 stops and waits of 30 minutes, each within some 200 minutes of the two days
+full-tenth      the same network with 100 bids of 8 stops and waits of 30 minutes, each within some 200 minutes of the two days
+full-narrow     the same with 1,000 such bids
 certificate     a certificate of splits, 268,435,456 bytes long, whose tree never ends
 certificate+1   the same and a byte more
 one-record      a certificate of that length whose second record is nearly all of it
@@ -126,6 +127,7 @@ def planned(make, *options):
 CASES = {
     "full-wide": planned(lambda folder: full(folder, 1000, wide), "--steps", "1", "--budget", "1"),
     "full-one": planned(lambda folder: full(folder, 1, wide), "--steps", "1", "--budget", "1"),
+    "full-tenth": planned(lambda folder: full(folder, 100, narrow), "--steps", "5", "--budget", "3"),
     "full-narrow": planned(lambda folder: full(folder, 1000, narrow), "--steps", "5", "--budget", "3"),
     "certificate": with_certificate(of_splits, "verdict,unreadable,ROW,C6"),
     "certificate+1": with_certificate(lambda folder: of_splits(folder, b"x"), "too long: c.csv"),
@@ -154,7 +156,7 @@ def main():
     words.add_argument("program")
     words.add_argument("cases", nargs="*")
     words.add_argument("--memory", type=float, default=12)
-    given = words.parse_args()
+    given = words.parse_intermixed_args()
     program, wrong = os.path.realpath(given.program), 0
     for name in given.cases or CASES:
         folder = tempfile.mkdtemp(prefix="optra-limits-")
