@@ -5,8 +5,9 @@ Makes COUNT runs (10,000 if none is given) from SEED (1 if none is given). Each 
 examples/one_track, changes bytes, cells, records or lengths of one or two of its files, and plans the tables or checks the
 certificate. Each run has to end within a second of processor time, with the status and the line that bench/reader.py gives, which was
 written from the documents alone. Of a plan that is printed, the status has to be the one that the text tells; the certificate that was
-put has to be confirmed by that reader too, with the numbers of the text. At the first difference it keeps the files, says what they
-are, and ends with status 1. At the end it tells what the runs came to.
+put has to be confirmed by that reader too, with the numbers of the text. Where the program plays auctions, two of them are taken as well,
+and each round's certificate has to be confirmed. At the first difference it keeps the files, says what they are, and ends with status
+1. At the end it tells what the runs came to.
 """
 import os
 import random
@@ -20,8 +21,11 @@ import reader
 import sheets
 
 SHEETS = ["plans.sheet", "refusals.sheet", "certificates.sheet", "checks.sheet"]
-TABLES = {f"net/{table}.csv" if table not in ("bids", "stops") else f"{table}.csv": table for table in reader.HEADERS}
+TABLES = {f"net/{table}.csv" if table not in ("bids", "stops") else f"{table}.csv": table for table in reader.PLAN_TABLES}
 WORDS = ["--net", "net", "--bids", "bids.csv", "--stops", "stops.csv"]
+PLAN = ["plan", *WORDS, "--steps", "5", "--budget", "3", "--cert", "put.csv"]
+CHECK = ["check", *WORDS, "--cert", "c.csv"]
+AUCTION = ["auction", *WORDS, "--rules", "rules.csv", "--actions", "actions.csv", "--certs", "p"]
 MOST_BYTES = 20_000
 SECONDS = 1.0
 
@@ -163,6 +167,20 @@ def worked():
     return found
 
 
+def auctions():
+    """The files of two auctions, of three rounds each: one with bids for a slot, and one in which a bid is amended."""
+    tables = next(files for name, _, files in sheets.runs(["plans.sheet"]) if name == "one-bid")
+    slot, later = ("s%d,ann,ic,A,B,%s,500,0,0,0,0,0,0,0\n" % spec for spec in [(1, "2,2,2,0,12,60"), (2, "20,20,20,0,30,60")])
+    raised = "1,ann,open,b1,s1,1000\n1,bob,open,b2,s1,1000\n2,bob,raise,b2,,1049\n2,bob,raise,b2,,1050\n2,ann,raise,b1,,1100\n"
+    amended = "1,ann,open,b1,s1,1000\n1,bob,open,b2,s1,1000\n1,cat,open,b3,s2,1000\n2,bob,amend,b2,s2,\n"
+
+    def files(specs, actions):
+        bodies = {"bids": specs, "rules": "20,50,10\n", "actions": actions}
+        return {**tables, **{f"{table}.csv": f"{reader.HEADERS[table]}\n{body}".encode() for table, body in bodies.items()}}
+
+    return {"auction-of-three-rounds": files(slot, raised), "auction-with-an-amended-bid": files(slot + later, amended)}
+
+
 def lay(folder, files):
     shutil.rmtree(folder, ignore_errors=True)
     os.makedirs(f"{folder}/net")
@@ -192,9 +210,11 @@ def expected(files, words):
     tables = {table: files[path] for path, table in TABLES.items()}
     try:
         net, bids = reader.read_tables(tables)
+        if words[0] == "auction":
+            reader.read_auction({table: files[f"{table}.csv"] for table in ("rules", "actions")})
     except reader.Refused as fault:
         return (3, b"", f"{fault}\n".encode()), None
-    if words[0] == "plan":
+    if words[0] != "check":
         return (None, None, b""), (net, bids)
     told = reader.verdict(net, bids, files["c.csv"])
     return (0 if told.startswith("verdict,yes") else 4, f"{told}\n".encode(), b""), None
@@ -214,6 +234,22 @@ def plan_fault(folder, status, out, known):
     return None
 
 
+def auction_fault(folder, status, out, net):
+    """What is wrong with an auction that was printed and put, or None."""
+    rounds = out.decode().split("round,")[1:]
+    gap = False
+    for number, text in enumerate(rounds, start=1):
+        told = dict(line.split(",", 1) for line in text.split("\n") if line.startswith(("revenue,", "bound,")))
+        put = {table: reader.read(f"{folder}/p{number}.{table}.csv") for table in ("bids", "stops", "cert")}
+        verdict = reader.verdict(net, reader.read_bids(net, put), put["cert"])
+        if verdict != f"verdict,yes,{told['revenue']},{told['bound']}":
+            return f"the certificate of round {number}: {verdict}"
+        gap |= told["revenue"] != told["bound"]
+    if not rounds or f"\nclosed,{len(rounds)}\n" not in rounds[-1] or status != int(gap):
+        return "the text doesn't end as an auction, or its status isn't that of its rounds"
+    return None
+
+
 def difference(program, folder, files, words, seen):
     """What is wrong with a run, or None."""
     status, out, err, _ = result = timed(program, folder, words)
@@ -223,8 +259,8 @@ def difference(program, folder, files, words, seen):
     seen[f"{words[0]} {status}"] += 1
     if known:
         if status not in (0, 1) or err:
-            return f"status {status}, out {out[:200]}, err {err[:200]}; a plan was expected"
-        return plan_fault(folder, status, out, known)
+            return f"status {status}, out {out[:200]}, err {err[:200]}; it was to be 0 or 1"
+        return plan_fault(folder, status, out, known) if words[0] == "plan" else auction_fault(folder, status, out, known[0])
     if status in (3, 4):
         seen[(out or err).decode("utf-8", "replace").strip().split(" ")[-1].split(",")[-1]] += 1
     if (status, out, err) != (want_status, want_out, want_err):
@@ -244,16 +280,20 @@ def timed(program, folder, words):
 def main(program, count, seed):
     program, seen, cases = os.path.realpath(program), Counter(), worked()
     folder = tempfile.mkdtemp(prefix="optra-hostile-", dir="/dev/shm" if os.path.isdir("/dev/shm") else None)
+    for name, files in auctions().items():
+        lay(folder, files)
+        if ran(program, folder, AUCTION)[0] != 2:
+            cases.update({f"{name}, turn {turn}": files for turn in range(20)})
     for number in range(count):
         draws = random.Random(f"{seed} {number}")
         name = draws.choice(sorted(cases))
         files = dict(cases[name])
-        checks = "c.csv" in files and draws.random() < 0.8
-        paths = ["c.csv"] * 7 + sorted(TABLES) if checks else sorted(TABLES)
+        checks, plays = "c.csv" in files and draws.random() < 0.8, "actions.csv" in files
+        paths = sorted(TABLES) + ["c.csv"] * (7 * checks) + ["rules.csv", *["actions.csv"] * 6] * plays
         for _ in range(draws.choice([1, 1, 1, 2])):
             path = draws.choice(paths)
             files[path] = draws.choice(CHANGES)(draws, files[path])
-        words = ["check", *WORDS, "--cert", "c.csv"] if checks else ["plan", *WORDS, "--steps", "5", "--budget", "3", "--cert", "put.csv"]
+        words = AUCTION if plays else CHECK if checks else PLAN
         lay(folder, files)
         fault = difference(program, folder, files, words, seen)
         if fault:

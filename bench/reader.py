@@ -24,8 +24,13 @@ HEADERS = {
     "bids": "bid,bidder,type,origin,destination,depart_from,depart_ideal,depart_to,arrive_from,arrive_ideal,arrive_to,"
             "base,early_depart,late_depart,early_arrive,late_arrive,travel,wait,wait_max",
     "stops": "bid,station,min_dwell,max_dwell,arrive_from,arrive_to",
+    "rules": "min_increment,permille,rounds",
+    "actions": "round,bidder,action,bid,spec,amount",
 }
-NAMES = {"station", "track", "from", "to", "type", "first", "second", "bid", "bidder", "origin", "destination"}
+NAMES = {"station", "track", "from", "to", "type", "first", "second", "bid", "bidder", "origin", "destination", "spec"}
+# Which fields of an action are read beside the others, by its word.
+READ_OF = {"open": {"spec", "amount"}, "raise": {"amount"}, "amend": {"spec"}, "withdraw": set()}
+PLAN_TABLES = ["stations", "tracks", "types", "running", "headways", "bids", "stops"]
 
 Leg = namedtuple("Leg", "track depart from_halt action dwell")
 
@@ -108,9 +113,12 @@ def rows(table, text):
     for number, record in enumerate(found, start=2):
         if len(record) != len(header) or not all(map(is_text, record)):
             raise Refused(table, number, "Csv")
+        unread = {"spec", "amount"} - READ_OF.get(record[2].decode("utf-8"), set()) if table == "actions" else set()
         fields = []
         for word, field in zip(header, record):
-            if word in NAMES:
+            if word == "action" or word in unread:
+                fields.append(field.decode("utf-8"))
+            elif word in NAMES:
                 if not is_name(field):
                     raise Refused(table, number, "Name")
                 fields.append(field.decode("utf-8"))
@@ -195,6 +203,34 @@ def read_bids(net, tables):
         refuse_if(len(bids[name].stops) == 8 or least > most or most - least > 30, "stops", row, "B5")
         bids[name].stops.append((station, least, most, first, last))
     return list(bids.values())
+
+
+def read_rules(text):
+    found = rows("rules", text)
+    row, (least, permille, rounds) = next(found, (2, (None,) * 3))
+    refuse_if(least is None, "rules", 2, "Csv")
+    refuse_if(not 1 <= least <= 1_000_000_000 or permille > 1000 or not 1 <= rounds <= 100, "rules", row, "N3")
+    return least, permille, rounds
+
+
+def read_actions(text):
+    for count, (row, (round_, _, action, _, _, amount)) in enumerate(rows("actions", text)):
+        refuse_if(count == 100_000, "actions", row, "N7")
+        refuse_if(action not in READ_OF, "actions", row, "N2")
+        refuse_if(not 1 <= round_ <= 100 or ("amount" in READ_OF[action] and amount > 1_000_000_000), "actions", row, "N3")
+
+
+def read_auction(tables):
+    """The rules and actions of an auction; or Refused."""
+    rules = read_rules(tables["rules"])
+    refuse_if(len(list(records_behind(tables["rules"]))) > 1, "rules", 3, "Csv")
+    read_actions(tables["actions"])
+    return rules
+
+
+def records_behind(text):
+    """The records of a text behind its header."""
+    return list(records(text.removeprefix(BYTE_ORDER_MARK)))[1:]
 
 
 def read_tables(tables):
@@ -552,7 +588,7 @@ def read(path):
 
 
 def tables_in(folder):
-    return {table: read(f"{folder}/{table}.csv" if table in ("bids", "stops") else f"{folder}/net/{table}.csv") for table in HEADERS}
+    return {table: read(f"{folder}/{table}.csv" if table in ("bids", "stops") else f"{folder}/net/{table}.csv") for table in PLAN_TABLES}
 
 
 def main():

@@ -58,29 +58,14 @@ int posix_memalign(void **at, size_t align, size_t size) { return (*at = memalig
 """
 
 TABLES = hostile.WORDS
-RULES = b"min_increment,permille,rounds\n20,50,10\n"
-ACTIONS = b"round,bidder,action,bid,spec,amount\n"
-SLOT = b"s1,ann,ic,A,B,2,2,2,0,12,60,500,0,0,0,0,0,0,0\n"
-LATER_SLOT = b"s2,ann,ic,A,B,20,20,20,0,30,60,500,0,0,0,0,0,0,0\n"
-THREE_ROUNDS = (b"1,ann,open,b1,s1,1000\n1,bob,open,b2,s1,1000\n2,bob,raise,b2,,1049\n2,bob,raise,b2,,1050\n"
-                b"2,ann,raise,b1,,1100\n")
-AMENDED = b"1,ann,open,b1,s1,1000\n1,bob,open,b2,s1,1000\n1,cat,open,b3,s2,1000\n2,bob,amend,b2,s2,\n"
-AUCTION = ["auction", *TABLES, "--rules", "rules.csv", "--actions", "actions.csv", "--certs", "p"]
 
 
 def runs():
     """The runs: name, words, files."""
     worked = {name: files for name, _, files in sheets.runs(hostile.SHEETS)}
-    bids = reader.HEADERS["bids"].encode() + b"\n"
-
-    def auction(specs, actions):
-        return {**worked["one-bid"], "bids.csv": bids + specs, "rules.csv": RULES, "actions.csv": ACTIONS + actions}
-
     return [("plan-with-certificate", ["plan", *TABLES, "--budget", "5", "--cert", "put.csv"], worked["pairs"]),
             ("check", ["check", *TABLES, "--cert", "c.csv"], worked["checked"]),
-            ("demo", ["demo", "7", "1"], {}),
-            ("auction-of-three-rounds", AUCTION, auction(SLOT, THREE_ROUNDS)),
-            ("auction-with-an-amended-bid", AUCTION, auction(SLOT + LATER_SLOT, AMENDED))]
+            ("demo", ["demo", "7", "1"], {})] + [(name, hostile.AUCTION, files) for name, files in hostile.auctions().items()]
 
 
 def held(folder):

@@ -175,7 +175,8 @@ static FILES: [(&str, &str); 7] = [
 ];
 
 /// Two bids for one minute.
-static BIDS_FOR_ONE_MINUTE: &str = "bid,bidder,type,origin,destination,depart_from,depart_ideal,depart_to,arrive_from,arrive_ideal,arrive_to,base,early_depart,late_depart,early_arrive,late_arrive,travel,wait,wait_max\nb1,ann,ic,A,B,2,2,2,0,12,60,1000,0,0,0,0,0,0,0\nb2,bob,ic,A,B,2,2,2,0,12,60,1000,0,0,0,0,0,0,0\n";
+static BIDS_FOR_ONE_MINUTE: &str =
+    "bid,bidder,type,origin,destination,depart_from,depart_ideal,depart_to,arrive_from,arrive_ideal,arrive_to,base,early_depart,late_depart,early_arrive,late_arrive,travel,wait,wait_max\nb1,ann,ic,A,B,2,2,2,0,12,60,1000,0,0,0,0,0,0,0\nb2,bob,ic,A,B,2,2,2,0,12,60,1000,0,0,0,0,0,0,0\n";
 
 /// The words of a plan whose certificate is put.
 fn words(alloc: Global) -> Result<Vec<String>, Fail> {
