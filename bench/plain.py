@@ -1,11 +1,11 @@
 #!/usr/bin/env python3
 """A slow plain planner, written from docs/MODEL.md and not from the crates.
 
-    python3 bench/plain.py FOLDER [--steps K] [--budget B] [--trace]
+    python3 bench/plain.py FOLDER [--steps K] [--budget B] [--cert FILE] [--trace]
 
 FOLDER has net/ with its five tables, bids.csv and stops.csv; they are taken as accepted, no fault is looked for. Prints what
-`optra plan` prints, and ends with its status. With --trace each node that is taken is told on standard error. Every walk of
-every bid is listed, so this is for small cases alone.
+`optra plan` prints, and ends with its status. With --cert the certificate of the plan is written there. With --trace each node
+that is taken is told on standard error. Every walk of every bid is listed, so this is for small cases alone.
 """
 import argparse
 import csv
@@ -354,6 +354,35 @@ def plan_text(net, bids, plan):
     return text_of(head_lines(plan) + train_lines(net, bids, plan.choice))
 
 
+def leg_fields(net, bid, leg):
+    return (bid + 1, net.tracks[leg.track].name, leg.depart, "halt" if leg.from_halt else "pass", ACTIONS[leg.action], leg.dwell)
+
+
+def row_fields(net, row):
+    if row[0] == 0:
+        return ("window", net.tracks[row[1]].name, row[2])
+    _, track, t, a, u, b = row
+    return ("pair", net.tracks[track].name, net.types[a], t, net.types[b], u)
+
+
+def certificate_text(net, plan):
+    """The certificate of the plan."""
+    lines = [("optra-certificate", 1), ("revenue", plan.revenue), ("bound", plan.bound)]
+    lines += [("leg", *leg_fields(net, bid, leg)) for bid, walk in enumerate(plan.choice) if walk for leg in walk.legs]
+    for kind, *rest in plan.items:
+        if kind == "split":
+            lines.append(("split", *leg_fields(net, *rest)))
+        elif kind == "nowalk":
+            lines.append(("nowalk", rest[0] + 1))
+        elif kind == "forced":
+            lines.append(("forced", *row_fields(net, rest[0])))
+        else:
+            prices = rest[0]
+            lines.append(("priced", len(prices)))
+            lines += [("price", *row_fields(net, row), prices[row]) for row in sorted(prices)]
+    return text_of(lines)
+
+
 def leg_text(net, leg):
     return f"{net.tracks[leg.track].name} {leg.depart} {'halt' if leg.from_halt else 'pass'} {ACTIONS[leg.action]} {leg.dwell}"
 
@@ -421,6 +450,7 @@ def main():
     words.add_argument("folder")
     words.add_argument("--steps", type=int, default=40)
     words.add_argument("--budget", type=int, default=200)
+    words.add_argument("--cert")
     words.add_argument("--trace", action="store_true")
     given = words.parse_args()
     net = read_network(f"{given.folder}/net")
@@ -428,6 +458,9 @@ def main():
     plan = Planner(net, bids).plan(given.steps, given.budget)
     if given.trace:
         sys.stderr.write(trace_text(net, bids, plan))
+    if given.cert:
+        with open(given.cert, "w", encoding="utf-8", newline="") as file:
+            file.write(certificate_text(net, plan))
     sys.stdout.write(plan_text(net, bids, plan))
     return 0 if plan.bound == plan.revenue else 1
 

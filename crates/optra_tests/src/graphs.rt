@@ -8,6 +8,7 @@ use optra_bid::Bid;
 use optra_dag::{Weight, first_best};
 use optra_graph::{Builds, FreshGraphs, Graphs, TimeGraph, build};
 use optra_network::{Minute, NoMemory};
+use optra_reuse::GraphStore;
 use optra_walk::{Instance, Walk, follows};
 use std::alloc::Global;
 use std::process::Abort;
@@ -125,6 +126,26 @@ fn check_served<G: Graphs>(
     Ok(())
 }
 
+/// A store builds each graph once and keeps it.
+fn check_kept(rt: &(impl Abort + AllocGlobal), inst: Instance<'_>) -> Result<(), NoMemory>
+    requires { All (λ bid. IsPathOn inst.net.now bid.path) inst.bids.now }
+{
+    let mut store = GraphStore::new(rt.alloc(), inst.net)?;
+    check_served(rt, inst, &mut store)?;
+    assert_eq!(rt; store.builds(), 9);
+    let mut other = GraphStore::new(rt.alloc(), inst.net)?;
+    let Some(bid) = inst.bids.first() else {
+        return Ok(());
+    };
+    assert!(rt; store.holds(bid));
+    assert!(rt; !other.holds(bid));
+    let arcs = other.graph_for(bid)?.dag().arcs();
+    assert_eq!(rt; arcs, GRAPHS[0].0);
+    assert!(rt; other.holds(bid));
+    assert_eq!(rt; other.builds(), 1);
+    Ok(())
+}
+
 fn check_all(rt: &(impl Abort + AllocGlobal), inst: Instance<'_>) -> Result<(), NoMemory>
     requires { All (λ bid. IsPathOn inst.net.now bid.path) inst.bids.now }
 {
@@ -132,6 +153,7 @@ fn check_all(rt: &(impl Abort + AllocGlobal), inst: Instance<'_>) -> Result<(), 
     let mut graphs = FreshGraphs::new(inst.net);
     check_served(rt, inst, &mut graphs)?;
     assert_eq!(rt; graphs.builds(), 9);
+    check_kept(rt, inst)?;
     Ok(())
 }
 

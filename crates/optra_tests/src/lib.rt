@@ -6,6 +6,8 @@
 #![tactic(auto)]
 
 #[cfg(test)]
+mod auctions;
+#[cfg(test)]
 mod decisions;
 #[cfg(test)]
 mod disks;

@@ -174,9 +174,14 @@ static FILES: [(&str, &str); 7] = [
     ),
 ];
 
+/// Two bids for one minute.
+static BIDS_FOR_ONE_MINUTE: &str =
+    "bid,bidder,type,origin,destination,depart_from,depart_ideal,depart_to,arrive_from,arrive_ideal,arrive_to,base,early_depart,late_depart,early_arrive,late_arrive,travel,wait,wait_max\nb1,ann,ic,A,B,2,2,2,0,12,60,1000,0,0,0,0,0,0,0\nb2,bob,ic,A,B,2,2,2,0,12,60,1000,0,0,0,0,0,0,0\n";
+
+/// The words of a plan whose certificate is put.
 fn words(alloc: Global) -> Result<Vec<String>, Fail> {
     let mut words = Vec::new(alloc);
-    for word in "plan --net net --bids bids.csv --stops stops.csv".split(' ') {
+    for word in "plan --net net --bids bids.csv --stops stops.csv --cert c.csv".split(' ') {
         words.push(String::from_str(alloc, word)?)?;
     }
     Ok(words)
@@ -204,6 +209,8 @@ fn a_plan_over_what_never_fails(rt: HostRuntime) -> Result<(), Fail> {
     for (name, content) in &FILES {
         shelf.load(name, content.as_bytes())?;
     }
+    assert_eq!(rt; status_over(alloc, &words, &mut shelf)?, 0);
+    shelf.load("bids.csv", BIDS_FOR_ONE_MINUTE.as_bytes())?;
     assert_eq!(rt; status_over(alloc, &words, &mut shelf)?, 0);
     Ok(())
 }
