@@ -20,8 +20,8 @@ use std::alloc::Global;
 ///
 /// | Status | Meaning |
 /// |---|---|
-/// | 0 | the plan is printed, and its bound is its revenue; or the certificate is valid |
-/// | 1 | the plan is printed, and its bound is above its revenue |
+/// | 0 | the plan, the auction or the demo is printed, and each bound is its revenue; or the certificate is valid |
+/// | 1 | the plan, the auction or the demo is printed, and a bound is above its revenue |
 /// | 2 | the words are no command form |
 /// | 3 | the tables are refused |
 /// | 4 | the certificate can't be read or isn't valid, and the verdict is printed |
