@@ -6,6 +6,8 @@
 #![tactic(auto)]
 
 #[cfg(test)]
+mod crossings;
+#[cfg(test)]
 mod decisions;
 #[cfg(test)]
 mod disks;
