@@ -38,7 +38,7 @@ fn add_type(rt: &impl Abort, net: &mut Builder, name: &str) -> Result<TypeId, Ne
 
 /// A track each way between A, where any number may stand, and B, where one train may. The type ic may use both tracks, and
 /// fr neither.
-fn line(rt: &impl Abort, alloc: Global) -> Result<Builder, NetFault> {
+pub fn line(rt: &impl Abort, alloc: Global) -> Result<Builder, NetFault> {
     let mut net = Builder::new(alloc)?;
     add_station(rt, &mut net, "A", 0)?;
     add_station(rt, &mut net, "B", 1)?;
@@ -52,7 +52,7 @@ fn line(rt: &impl Abort, alloc: Global) -> Result<Builder, NetFault> {
 }
 
 /// The headways of the line.
-fn add_headways(net: &mut Builder) -> Result<(), NetFault> {
+pub fn add_headways(net: &mut Builder) -> Result<(), NetFault> {
     net.headway("ab", "ic", "ic", 5)?;
     net.headway("ba", "ic", "ic", 5)
 }

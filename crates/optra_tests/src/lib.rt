@@ -24,6 +24,8 @@ mod outside;
 #[cfg(test)]
 mod paths;
 #[cfg(test)]
+mod platforms;
+#[cfg(test)]
 mod prices;
 #[cfg(test)]
 mod repairs;
