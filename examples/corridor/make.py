@@ -147,6 +147,25 @@ def bids():
     write("stops.csv", stops)
 
 
+# What the operators do in the rounds after the first, in which each of them opens a bid on each specification of its own, at its reserve.
+LATER = [
+    (2, "Orehaul", "raise", "F1", "", 54000),
+    (2, "Orehaul", "raise", "F1", "", 56000),
+    (2, "Northfreight", "raise", "F2", "", 60000),
+    (2, "Comet", "amend", "EX1", "EX3", ""),
+    (2, "Orehaul", "raise", "F2", "", 70000),
+    (3, "Northfreight", "raise", "F2", "", 58800),
+    (3, "Orehaul", "raise", "F1", "", 60000),
+]
+
+
+def auction():
+    write("rules.csv", ["min_increment,permille,rounds", "500,50,3"])
+    opened = [(1, operator, "open", name, name, base) for name, operator, *_, base, _ in BIDS]
+    write("actions.csv", ["round,bidder,action,bid,spec,amount"] + [",".join(map(str, action)) for action in opened + LATER])
+
+
 if __name__ == "__main__":
     network()
     bids()
+    auction()

@@ -1,5 +1,6 @@
 //! The store of graphs.
 ghost use Rattle.std.specs.Prelude.{◌≡◌, ◌↔◌, [], length, slice_get, Some, Contains, IfOk, OnErr, IsOk, IsTrue};
+ghost use Rattle.optra_network.specs.Names.{AllDiffer};
 ghost use Rattle.optra_bid.specs.Specs.{IsPathOn};
 ghost use Rattle.optra_graph.specs.Timed.{IsGraphOf};
 ghost use Rattle.optra_reuse.specs.Stores.{Keeps};
@@ -69,10 +70,11 @@ impl<'n> GraphStore<'n> {
         self.graphs.holds(bid)
     }
 
-    /// How many path specifications are held: each graph was built once.
+    /// How many path specifications are held, all different: each graph was built once.
     pub fn builds(&self) -> u64
         ensures count { result ≡ length self.now.held }
         ensures built { result ≡ self.now.built }
+        ensures differ { AllDiffer self.now.held }
     {
         self.builds.count()
     }

@@ -9,7 +9,7 @@ ghost use Rattle.optra_rounds.specs.Rounds.{specs_of, values_of};
 use optra_auction::Auction;
 use optra_bid::{Bid, Name};
 use optra_network::{Cents, Network, NoMemory};
-use optra_walk::{Walk, value};
+use optra_walk::{Choice, Walk, value};
 use std::alloc::Global;
 
 /// The names of specifications, in memory of their own.
@@ -41,6 +41,19 @@ pub fn spec_names(alloc: Global, auction: &Auction, names: &[Name]) -> Result<Ve
 
 /// The value of each bid's walk in cents, where it is served.
 pub fn values_of(
+    alloc: Global,
+    net: &Network,
+    bids: &[Bid],
+    choice: &Choice,
+) -> Result<Vec<Option<Cents>>, NoMemory>
+    requires { IsChoice net.now bids.now choice.now }
+    ensures { IfOk result (λ values. values.items ≡ values_of net.now bids.now choice.now) }
+{
+    values_in(alloc, net, bids, &choice.walks)
+}
+
+/// The value of each bid's walk in cents, where there is one.
+fn values_in(
     alloc: Global,
     net: &Network,
     bids: &[Bid],

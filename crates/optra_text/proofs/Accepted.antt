@@ -9,7 +9,7 @@ use Rattle.clap.specs.declared.parser.matches.ArgMatches.{ArgMatches}
 use Rattle.clap.proofs.OnLiterals.{clap_on_literals}
 use Rattle.optra_text.specs.declared.words.WordsError.{WordsError}
 use Rattle.optra_text.specs.declared.words.WordsError.TheVariants as errors
-use Rattle.optra_text.specs.CommandForms.{IsSimple, Word, check_app, demo_app, plan_app, rows_given}
+use Rattle.optra_text.specs.CommandForms.{IsSimple, Word, auction_app, check_app, plan_app, rows_given, demo_app}
 use Rattle.optra_text.specs.Words.{IsRefusal, IsUsage}
 
 pub plan_is_simple : IsSimple plan_app
@@ -19,6 +19,10 @@ plan_is_simple = record { simple = refl; free = refl }
 pub check_is_simple : IsSimple check_app
 unfolding clap_on_literals
 check_is_simple = record { simple = refl; free = refl }
+
+pub auction_is_simple : IsSimple auction_app
+unfolding clap_on_literals
+auction_is_simple = record { simple = refl; free = refl }
 
 pub demo_is_simple : IsSimple demo_app
 unfolding clap_on_literals

@@ -44,6 +44,11 @@ plan_app = with_rule (with_rule (with_rule (tables_app (codes "plan"))
 abbrev pub check_app : App
 check_app = with_rule (tables_app (codes "check")) (option_rule (codes "cert") true)
 
+-- auction --net DIR --bids FILE --stops FILE --rules FILE --actions FILE [--certs PREFIX]
+abbrev pub auction_app : App
+auction_app = with_rule (with_rule (with_rule (tables_app (codes "auction"))
+    (option_rule (codes "rules") true)) (option_rule (codes "actions") true)) (option_rule (codes "certs") false)
+
 -- demo SEED SIZE
 abbrev pub demo_app : App
 demo_app = with_rule (with_rule (bare_app (codes "demo")) (value_rule (codes "seed"))) (value_rule (codes "size"))

@@ -5,10 +5,10 @@ use Rattle.clap.specs.Words.{Row, first_of}
 use Rattle.clap.specs.declared.error.kind.ErrorKind.{ErrorKind}
 use Rattle.clap.specs.declared.error.kind.ErrorKind.TheVariants as kind
 use Rattle.optra_records.specs.Numbers.{number_of}
-use Rattle.optra_text.specs.CommandForms.{Word, rows_given, plan_app, check_app, demo_app}
+use Rattle.optra_text.specs.CommandForms.{Word, rows_given, plan_app, check_app, auction_app, demo_app}
 use Rattle.optra_text.specs.declared.words.TablePaths.{TablePaths}
 use Rattle.optra_text.specs.declared.words.Words.{Words}
-use Rattle.optra_text.specs.declared.words.Words.TheVariants.{Plan, Check, Demo}
+use Rattle.optra_text.specs.declared.words.Words.TheVariants.{Plan, Check, Auction, Demo}
 use Rattle.optra_text.specs.declared.words.WordsError.{WordsError}
 use Rattle.optra_text.specs.declared.words.WordsError.TheVariants as errors
 
@@ -83,6 +83,16 @@ check_words words = do
   cert ← needed_path (first_of (codes "cert") rows)
   Some (Check tables.net tables.bids tables.stops cert)
 
+-- what the words behind `auction` ask for
+unfoldable pub auction_words : List Word → Option Words
+auction_words words = do
+  rows ← rows_given auction_app words
+  tables ← tables_given rows
+  rules ← needed_path (first_of (codes "rules") rows)
+  actions ← needed_path (first_of (codes "actions") rows)
+  certs ← optional_path (first_of (codes "certs") rows)
+  Some (Auction tables.net tables.bids tables.stops rules actions certs)
+
 -- the number of a value that is required
 abbrev pub needed_number : ℕ → ℕ → Option Word → Option ℕ
 needed_number least most given = given >>= number_within least most
@@ -101,12 +111,14 @@ words_of [] = None
 words_of (command ∷ words) =
     if bytes_eq command (codes "plan") then plan_words words else (
     if bytes_eq command (codes "check") then check_words words else (
-    if bytes_eq command (codes "demo") then demo_words words else None))
+    if bytes_eq command (codes "auction") then auction_words words else (
+    if bytes_eq command (codes "demo") then demo_words words else None)))
 
 -- a plan has a budget of at least one node, and a demo a size from 1 to 9
 abbrev pub HasBudget : Words → Type 0
 HasBudget (Plan net bids stops steps budget cert) = 1 ≤ budget
 HasBudget (Check net bids stops cert) = ⊤
+HasBudget (Auction net bids stops rules actions certs) = ⊤
 HasBudget (Demo seed size) = (1 ≤ size) × (size ≤ 9)
 
 -- ---- answers

@@ -1,7 +1,7 @@
 //! The commands, as `clap` knows them.
 ghost use Rattle.std.specs.Prelude.{◌≡◌, IfOk, false};
 ghost use Rattle.clap.specs.Words.{app_of, rule_of, with_rule};
-ghost use Rattle.optra_text.specs.CommandForms.{bare_app, check_app, demo_app, option_rule, plan_app, tables_app, value_rule};
+ghost use Rattle.optra_text.specs.CommandForms.{auction_app, bare_app, check_app, option_rule, plan_app, tables_app, demo_app, value_rule};
 
 use clap::{Arg, ArgAction, Command};
 use std::alloc::{AllocError, Global};
@@ -23,6 +23,17 @@ pub fn check_command<'a>(alloc: Global) -> Result<Command<'a>, AllocError>
 {
     let command = tables_command(alloc, "check")?;
     let command = with_option(alloc, command, "cert", true)?;
+    Ok(command)
+}
+
+/// auction --net DIR --bids FILE --stops FILE --rules FILE --actions FILE [--certs PREFIX]
+pub fn auction_command<'a>(alloc: Global) -> Result<Command<'a>, AllocError>
+    ensures { IfOk result (λ command. app_of command ≡ auction_app) }
+{
+    let command = tables_command(alloc, "auction")?;
+    let command = with_option(alloc, command, "rules", true)?;
+    let command = with_option(alloc, command, "actions", true)?;
+    let command = with_option(alloc, command, "certs", false)?;
     Ok(command)
 }
 

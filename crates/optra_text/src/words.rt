@@ -2,10 +2,10 @@
 ghost use Rattle.std.specs.Prelude.{◌≡◌, ◌≤◌, map, string_bytes, option_map, IfSome, IfOk};
 ghost use Rattle.clap.specs.Words.{app_of, first_of, found_of, rows_of};
 ghost use Rattle.optra_text.specs.CommandForms.{IsSimple, rows_given};
-ghost use Rattle.optra_text.specs.Words.{HasBudget, IsRefusal, Reads, check_words, demo_words, is_path, needed_number, needed_path, number_or, number_within, optional_path, plan_words, tables_given, words_of};
+ghost use Rattle.optra_text.specs.Words.{HasBudget, IsRefusal, Reads, auction_words, check_words, is_path, needed_path, number_or, number_within, optional_path, plan_words, tables_given, words_of, demo_words, needed_number};
 ghost use Rattle.optra_text.specs.declared.words.WordsError.TheVariants.{NoMemory};
 
-use crate::command_forms::{check_command, demo_command, plan_command};
+use crate::command_forms::{auction_command, check_command, demo_command, plan_command};
 use crate::path_text::PathText;
 use clap::error::ErrorKind;
 use clap::{ArgMatches, Command};
@@ -57,6 +57,21 @@ pub enum Words {
         /// The certificate that is to be checked.
         cert: PathText,
     },
+    /// auction --net DIR --bids FILE --stops FILE --rules FILE --actions FILE [--certs PREFIX]
+    Auction {
+        /// The folder of the network's tables.
+        net: PathText,
+        /// The table of specifications.
+        bids: PathText,
+        /// The table of their stops.
+        stops: PathText,
+        /// The table of rules.
+        rules: PathText,
+        /// The table of actions.
+        actions: PathText,
+        /// What the names of each round's files begin with, if they are to be put.
+        certs: Option<PathText>,
+    },
     /// demo SEED SIZE
     Demo {
         /// What the tables are drawn from: 0 to 4,294,967,295.
@@ -98,6 +113,7 @@ pub fn read_words(alloc: Global, words: &[String]) -> Result<Words, WordsError>
     match command.as_str() {
         "plan" => read_plan(alloc, options),
         "check" => read_check(alloc, options),
+        "auction" => read_auction(alloc, options),
         "demo" => read_demo(alloc, options),
         _ => Err(WordsError::Usage),
     }
@@ -138,6 +154,27 @@ fn read_check(alloc: Global, words: &[String]) -> Result<Words, WordsError>
         bids,
         stops,
         cert,
+    })
+}
+
+/// What the words behind `auction` ask for.
+#[tactic(auto, unfolding(crate::specs::Words::auction_words))]
+fn read_auction(alloc: Global, words: &[String]) -> Result<Words, WordsError>
+    ensures read { Reads (λ read. read) result (auction_words (map string_bytes words.now)) }
+    ensures budget { IfOk result HasBudget }
+{
+    let matches = matches_of(auction_command(alloc)?, words)?;
+    let TablePaths { net, bids, stops } = tables_given(alloc, &matches)?;
+    let rules = path_of(alloc, given(&matches, "rules"))?;
+    let actions = path_of(alloc, given(&matches, "actions"))?;
+    let certs = path_or_none(alloc, given(&matches, "certs"))?;
+    Ok(Words::Auction {
+        net,
+        bids,
+        stops,
+        rules,
+        actions,
+        certs,
     })
 }
 

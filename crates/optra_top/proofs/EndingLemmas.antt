@@ -5,7 +5,7 @@ use Rattle.optra_top.specs.declared.faults.Fault.{Fault}
 use Rattle.optra_top.specs.declared.faults.Fault.TheVariants.{Refused, Read, Absent, TooLong, Write, NoMemory}
 use Rattle.optra_top.specs.declared.faults.Refusal.TheVariants.{Table}
 use Rattle.optra_text.specs.FaultLines.{usage_line, memory_line}
-use Rattle.optra_text.specs.declared.words.Words.TheVariants.{Plan, Check, Demo}
+use Rattle.optra_text.specs.declared.words.Words.TheVariants.{Plan, Check, Auction, Demo}
 use Rattle.optra_top.specs.Commands.{Command, IsDoneStatus}
 use Rattle.optra_top.specs.Ending.{Ends, IsDone}
 use Rattle.optra_top.specs.Faults.{EndsBy, line_of, status_of}
@@ -18,6 +18,8 @@ done-no_fault (Plan net bids stops steps budget cert) status (inl a) fault = abs
 done-no_fault (Plan net bids stops steps budget cert) status (inr a) fault = absurd (omega arith)
 done-no_fault (Check net bids stops cert) status (inl a) fault = absurd (omega arith)
 done-no_fault (Check net bids stops cert) status (inr a) fault = absurd (omega arith)
+done-no_fault (Auction net bids stops rules actions certs) status (inl a) fault = absurd (omega arith)
+done-no_fault (Auction net bids stops rules actions certs) status (inr a) fault = absurd (omega arith)
 done-no_fault (Demo seed size) status (inl a) fault = absurd (omega arith)
 done-no_fault (Demo seed size) status (inr a) fault = absurd (omega arith)
 

@@ -19,3 +19,6 @@ mod DemoNets
 mod DemoBids
 mod DemoMeans
 mod DemoLemmas
+mod PlayLemmas
+mod RoundLemmas
+mod AuctionTables

@@ -13,26 +13,26 @@ use Rattle.optra_text.specs.FaultLines.{refusal_line}
 use Rattle.optra_tables.specs.declared.Table.TheVariants.{Bids, Stops}
 use Rattle.optra_top.specs.Faults.{unread_fault, EndsReply}
 use Rattle.optra_top.specs.Files.{Contents}
-use Rattle.optra_top.specs.TableFiles.{AnswerTo, ReplyTo, Tables, meaning_of, net_files, table_content}
+use Rattle.optra_top.specs.TableFiles.{AnswerTo, ReplyTo, meaning_of, net_files, table_content}
 use Rattle.optra_top.specs.Puts.{texts_of}
 use Rattle.optra_top.specs.declared.replies.Answer.{Answer}
 use Rattle.optra_top.specs.Replies.{Reply, refused, answered, reply_of}
 use Rattle.optra_top.specs.Statuses.{refused_status}
 
-refused-alone : (Answers : AnswerTo) (read : Result Tables TableFault) (status : ℕ) (line : List ℕ) (reply : Reply) → ReplyTo Answers read (refused status line) → ReplyTo Answers read reply → reply ≡ refused status line
+refused-alone : {T : Type 0} (Answers : AnswerTo T) (read : Result T TableFault) (status : ℕ) (line : List ℕ) (reply : Reply) → ReplyTo Answers read (refused status line) → ReplyTo Answers read reply → reply ≡ refused status line
 refused-alone Answers (Err fault) status line (refused status' other) refuses replies =
     λ i. refused ((replies.0 ∙ sym refuses.0) i) ((replies.1 ∙ sym refuses.1) i)
 refused-alone Answers (Err fault) status line (answered status' text puts) refuses replies = absurd replies
 refused-alone Answers (Ok tables) status line reply refuses replies = absurd refuses
 
 -- contents that are refused have no other reply
-pub tables-refused-alone : (Answers : AnswerTo) (contents : Contents) (status : ℕ) (line : List ℕ) (reply : Reply) → ReplyTo Answers (meaning_of contents) (refused status line) → ReplyTo Answers (meaning_of contents) reply → reply ≡ refused status line
-tables-refused-alone Answers contents status line reply refuses replies = refused-alone Answers (meaning_of contents) status line reply refuses replies
+pub tables-refused-alone : {T : Type 0} (Answers : AnswerTo T) (read : Result T TableFault) (status : ℕ) (line : List ℕ) (reply : Reply) → ReplyTo Answers read (refused status line) → ReplyTo Answers read reply → reply ≡ refused status line
+tables-refused-alone Answers read status line reply refuses replies = refused-alone Answers read status line reply refuses replies
 
 -- tables that were not read say why, or memory ran out
-pub EndsReply-unread : (Answers : AnswerTo) (contents : Contents) (error : ReadError) → Fails error (meaning_of contents) → EndsReply (λ reply. ReplyTo Answers (meaning_of contents) reply) (unread_fault error)
-EndsReply-unread Answers contents (unread.Fault first) fails = subst (λ read. ReplyTo Answers read (refused refused_status (refusal_line first))) (sym fails) (refl, refl)
-EndsReply-unread Answers contents unread.NoMemory fails = tt
+pub EndsReply-unread : {T : Type 0} (Answers : AnswerTo T) (read : Result T TableFault) (error : ReadError) → Fails error read → EndsReply (λ reply. ReplyTo Answers read reply) (unread_fault error)
+EndsReply-unread Answers read (unread.Fault first) fails = subst (λ r. ReplyTo Answers r (refused refused_status (refusal_line first))) (sym fails) (refl, refl)
+EndsReply-unread Answers read unread.NoMemory fails = tt
 
 -- the network's first fault is that of the tables
 pub Fails-net : (contents : Contents) (error : ReadError) → Fails error (network_of (net_files contents)) → Fails error (meaning_of contents)
@@ -57,7 +57,7 @@ Gives-kept view (Ok x) error read is fails = absurd is
 Gives-kept view (Err e) error read is fails = rw is fails
 
 -- an answer to what the tables mean is the reply
-pub tables-answered : (Answers : AnswerTo) (contents : Contents) (tables : Tables) (answer : Answer) → meaning_of contents ≡ Ok tables → Answers tables answer.status answer.text.items (texts_of answer.puts.items)
-    → ReplyTo Answers (meaning_of contents) (reply_of answer)
-tables-answered Answers contents tables answer is answers =
+pub tables-answered : {T : Type 0} (Answers : AnswerTo T) (meaning : Result T TableFault) (tables : T) (answer : Answer) → meaning ≡ Ok tables → Answers tables answer.status answer.text.items (texts_of answer.puts.items)
+    → ReplyTo Answers meaning (reply_of answer)
+tables-answered Answers meaning tables answer is answers =
     subst (λ read. ReplyTo Answers read (reply_of answer)) (sym is) answers

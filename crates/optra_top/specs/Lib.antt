@@ -8,11 +8,15 @@ pub mod Families
 pub mod TableFiles
 pub mod PlanCommand
 pub mod CheckCommand
+pub mod Play
+pub mod AuctionCommand
 pub mod DemoCommand
 pub mod PlanLaws
 pub mod CheckLaws
 pub mod PlansAsked
 pub mod TablesRead
+pub mod AuctionRead
+pub mod Playing
 pub mod Commands
 pub mod Gets
 pub mod Outside

@@ -71,12 +71,12 @@ meaning_of contents = do
 
 -- ---- a reply by their meaning
 
--- what a command answers to tables that are accepted: a status, a text and the files that it puts
-abbrev pub AnswerTo : Type 1
-AnswerTo = Tables → ℕ → List ℕ → List (List ℕ × List ℕ) → Type 0
+-- what a command answers to tables that are accepted, by what they mean: a status, a text and the files that it puts
+abbrev pub AnswerTo : Type 0 → Type 1
+AnswerTo T = T → ℕ → List ℕ → List (List ℕ × List ℕ) → Type 0
 
 -- tables that are refused are said so, and others are answered
-abbrev pub ReplyTo : AnswerTo → Result Tables TableFault → Reply → Type 0
+abbrev pub ReplyTo : {T : Type 0} → AnswerTo T → Result T TableFault → Reply → Type 0
 ReplyTo Answers (Err fault) (refused status line) = (status ≡ refused_status) × (line ≡ refusal_line fault)
 ReplyTo Answers (Err fault) (answered status text puts) = ⊥
 ReplyTo Answers (Ok tables) (refused status line) = ⊥

@@ -11,7 +11,7 @@ use crate::faults::Fault;
 use crate::files::{Asked, Got};
 use crate::replies::Answer;
 use crate::table_files::next_table_file;
-use crate::{check_command, demo_command, plan_command};
+use crate::{auction_command, check_command, demo_command, plan_command};
 use optra_outside::Disk;
 use optra_search::Limits;
 use optra_text::Words;
@@ -41,6 +41,18 @@ pub fn next_file(alloc: Global, command: &Words, got: &[Got]) -> Result<Option<A
         } => {
             let (net, bids, stops) = (net.text(), bids.text(), stops.text());
             check_command::next_check_file(alloc, net, bids, stops, cert.text(), got)
+        }
+        Words::Auction {
+            net,
+            bids,
+            stops,
+            rules,
+            actions,
+            ..
+        } => {
+            let (net, bids, stops) = (net.text(), bids.text(), stops.text());
+            let (rules, actions) = (rules.text(), actions.text());
+            auction_command::next_auction_file(alloc, net, bids, stops, rules, actions, got)
         }
         Words::Demo { .. } => Ok(None),
     }
@@ -73,6 +85,7 @@ pub fn reply_to<D: Disk>(
             plan_command::reply(alloc, files, Limits { steps, budget }, cert)
         }
         Words::Check { .. } => check_command::reply(alloc, files),
+        Words::Auction { certs, .. } => auction_command::reply(alloc, files, certs),
         Words::Demo { seed, size } => demo_command::reply(alloc, *seed, *size),
     }
 }

@@ -1,6 +1,7 @@
 //! The commands of the planner, over any shelf and any pens.
 #![tactic(auto)]
 
+mod auction_command;
 mod check_command;
 mod commands;
 mod demo_command;
@@ -12,6 +13,7 @@ mod laws;
 mod outside;
 mod plan_command;
 mod plans;
+mod playing;
 mod replies;
 mod statuses;
 mod table_files;

@@ -1,17 +1,18 @@
 //! The plan of some bids, by any rows that state the rule.
-ghost use Rattle.std.specs.Prelude.{◌≤◌, IfOk};
+ghost use Rattle.std.specs.Prelude.{◌≡◌, ◌⊎◌, ◌≤◌, map, true, All, Contains, IfOk, OnOk};
 ghost use Rattle.optra_bid.specs.Instances.{IsInstance};
 ghost use Rattle.optra_top.specs.Plans.{IsPlanOf, TellsConflicts};
 
 use crate::family_repairer::FamilyRepairer;
-use optra_graph::FreshGraphs;
+use optra_graph::{FreshGraphs, Graphs};
 use optra_network::NoMemory;
 use optra_node::bound_holds;
 use optra_search::{Limits, Plan, plan_laws, planning};
 use optra_walk::{Instance, RowFamily};
 use std::alloc::Global;
 
-/// The plan of the search by a family of rows, within the limits. It needs that the family's rule is freedom of conflict.
+/// The plan of the search by a family of rows, within the limits, with graphs built anew. It needs that the family's rule is
+/// freedom of conflict.
 pub fn plan_by<F: RowFamily>(
     alloc: Global,
     inst: Instance<'_>,
@@ -26,7 +27,33 @@ pub fn plan_by<F: RowFamily>(
         inst.entry.bids.now limits.steps limits.budget plan) }
 {
     let mut graphs = FreshGraphs::new(inst.net);
-    let plan = planning::plan(alloc, inst, rows, &mut graphs, limits, &FamilyRepairer)?;
+    plan_over(alloc, inst, rows, &mut graphs, limits)
+}
+
+/// The same, with graphs that were made with the instance's network: after it, they hold the path specification of each bid, no
+/// other one that they did not hold before, and all that they held where they keep.
+pub fn plan_over<F: RowFamily, G: Graphs>(
+    alloc: Global,
+    inst: Instance<'_>,
+    rows: &F,
+    graphs: &mut G,
+    limits: Limits,
+) -> Result<Plan<F::Row>, NoMemory>
+    requires instance { IsInstance inst.net.now inst.bids.now }
+    requires network { G.network graphs.old ≡ inst.net.now }
+    requires budget { 1 ≤ limits.budget }
+    requires rule { TellsConflicts inst.net.now inst.bids.now (F.KeepsRule rows.now inst.net.now) }
+    ensures plan { IfOk result (λ plan. let net = inst.entry.net.now in
+        IsPlanOf F.Row.cmp net (F.rows_of rows.now net) (F.KeepsRule rows.now net)
+        inst.entry.bids.now limits.steps limits.budget plan) }
+    ensures held { OnOk result (All (λ bid. Contains (G.held graphs.new) bid.path) inst.entry.bids.now) }
+    ensures others { OnOk result (All (λ path. Contains (G.held graphs.old) path
+        ⊎ Contains (map (λ bid. bid.path) inst.entry.bids.now) path) (G.held graphs.new)) }
+    ensures kept { OnOk result (G.keeps graphs.old ≡ true
+        → All (Contains (G.held graphs.new)) (G.held graphs.old)) }
+    ensures network { G.network graphs.new ≡ G.network graphs.old }
+{
+    let plan = planning::plan(alloc, inst, rows, graphs, limits, &FamilyRepairer)?;
     plan_laws(inst, rows);
     bound_holds(inst, rows);
     Ok(plan)

@@ -1,5 +1,6 @@
 //! The tables that a command over a network and its bids gets, and what they mean.
-ghost use Rattle.std.specs.Prelude.{◌≡◌, ◌<◌, ◌++◌, length, option_map, slice_get, string_bytes, IfOk, IfSome};
+ghost use Rattle.std.specs.Prelude.{◌≡◌, ◌<◌, ◌++◌, length, map, option_map, slice_get, string_bytes, IfOk, IfSome};
+ghost use Rattle.optra_network.specs.Names.{AllDiffer};
 ghost use Rattle.optra_bid.specs.Instances.{IsInstance};
 ghost use Rattle.optra_tables.specs.Outcomes.{Gives};
 ghost use Rattle.optra_tables.specs.Networks.{network_of};
@@ -98,6 +99,7 @@ pub struct Tables {
 pub fn read_tables(alloc: Global, files: &[Got]) -> Result<Tables, ReadError>
     ensures read { Gives tables_seen result (meaning_of (files_got files.now)) }
     ensures instance { IfOk result (λ tables. IsInstance tables.net tables.bids.items) }
+    ensures names { IfOk result (λ tables. AllDiffer (map (λ bid. bid.name) tables.bids.items)) }
 {
     let net = read_net(alloc, files)?;
     let bids = table_content(files, Table::Bids);
@@ -121,7 +123,7 @@ fn read_net(alloc: Global, files: &[Got]) -> Result<Network, ReadError>
 }
 
 /// The content of a table's file.
-fn table_content(files: &[Got], table: Table) -> &[u8]
+pub fn table_content(files: &[Got], table: Table) -> &[u8]
     ensures { result.now ≡ table_content (files_got files.now) table }
 {
     content_of(files, Role::Table(table))

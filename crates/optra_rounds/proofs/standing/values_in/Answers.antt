@@ -2,7 +2,7 @@
 use Rattle.std.proofs.Common.{◌<◌, length, arith}
 use Rattle.optra_text.proofs.TrainLemmas.{walks_long, walk_at}
 use Rattle.optra_rounds.proofs.StandingLemmas.{next-values}
-use Rattle.optra_rounds.proofs.standing.values_of.Goals as goal
+use Rattle.optra_rounds.proofs.standing.values_in.Goals as goal
 
 pub bounds-walks-i : goal.bounds-walks-i
 bounds-walks-i c =
