@@ -68,9 +68,9 @@ shown_number low high field n few e =
 module _ (net : Net) (built : IsBuilt net) where
   -- the text of a value that fits tells it
   pub told_shown : (column : Column) (n : ℕ) → IsSoundColumn column → FitsIn net column n → told_in net column (shown_in net column n) ≡ Some n
-  told_shown a_station n sound fits = named_back net.stations built.station_names.differ n fits
-  told_shown a_track n sound fits = let same = built.named in named_back net.track_names built.names_of_tracks.differ n (omega (arith, same, fits))
-  told_shown a_type n sound fits = named_back net.types built.type_names.differ n fits
+  told_shown a_station n sound fits = named_back net.stations built.names.station_names.differ n fits
+  told_shown a_track n sound fits = let same = built.named in named_back net.track_names built.names.names_of_tracks.differ n (omega (arith, same, fits))
+  told_shown a_type n sound fits = named_back net.types built.names.type_names.differ n fits
   told_shown (a_number low high) n sound fits = number_shown low high n sound fits.0 fits.1
   told_shown (a_word words) n sound fits = named_back words sound n fits
 

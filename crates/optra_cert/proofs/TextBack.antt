@@ -89,9 +89,9 @@ more_text word (field ∷ fields) some a b = rw (a, b) refl
 
 module _ (net : Net) (built : IsBuilt net) where
   shown_text : (column : Column) (n : ℕ) → IsSoundColumn column → IsTextColumn column → FitsIn net column n → is_utf8 (shown_in net column n) ≡ true
-  shown_text a_station n sound text fits = name_text net.stations n built.station_names fits
-  shown_text a_track n sound text fits = let same = built.named in name_text net.track_names n built.names_of_tracks (omega (arith, same, fits))
-  shown_text a_type n sound text fits = name_text net.types n built.type_names fits
+  shown_text a_station n sound text fits = name_text net.stations n built.names.station_names fits
+  shown_text a_track n sound text fits = let same = built.named in name_text net.track_names n built.names.names_of_tracks (omega (arith, same, fits))
+  shown_text a_type n sound text fits = name_text net.types n built.names.type_names fits
   shown_text (a_number low high) n sound text fits = let most = fits.1 in number_text n (omega (arith, sound, most))
   shown_text (a_word words) n sound text fits = rw (unwrap_or-slice_get words n []) (All-get_or (λ (word : Field). is_utf8 word ≡ true) words n [] fits text)
 
@@ -113,7 +113,7 @@ module _ (net : Net) (built : IsBuilt net) where
       rw (
         a,
         number_text (bid + 1) few,
-        name_text net.track_names leg.track.0 built.names_of_tracks (omega (arith, same, track)),
+        name_text net.track_names leg.track.0 built.names.names_of_tracks (omega (arith, same, track)),
         number_text leg.depart (omega (arith, depart)),
         from_text leg.from_halt,
         action_text leg.action,

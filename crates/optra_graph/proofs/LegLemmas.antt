@@ -84,6 +84,6 @@ module _ (net : Net) (path : Path) (layout : Layout) (setting : IsSetting net pa
     arcs_room steps l arcs le =
         let a : layout.minutes * layout.slots ≤ 2879 * layout.slots = mul-le-mul_right layout.slots setting.small.minutes in
         let slots = setting.small.slots in
-        let tracks = setting.proper.built.few_tracks in
+        let tracks = setting.proper.built.counts.few_tracks in
         let r = few_room net.tracks layout.stations (layout.minutes * layout.slots) place row column count (length steps) within (omega arith) tracks under (few_more (length steps) l) h in
         omega arith

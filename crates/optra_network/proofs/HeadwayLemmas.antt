@@ -69,7 +69,7 @@ below_types net t k p may = from (times_of net t k) may (times_built net t k p.b
   where
     from : (o : Option Times) → IsSome o → IfSome o (λ times. IsRunningRow (length net.tracks) (length net.types) ((t.0, k.0), times)) → (k.0 < length net.types) × (k.0 < 16) × (t.0 < length net.tracks)
     from None s h = absurd (grind arith)
-    from (Some v) s h = let few = p.built.few_types in (h.1, omega (arith, h.1, few), h.0)
+    from (Some v) s h = let few = p.built.counts.few_types in (h.1, omega (arith, h.1, few), h.0)
 
 headways_from : (net : Net) (t : TrackId) (a b : TypeId) (o : Option ℕ) → headway_of net t a b ≡ o → IsSome o → IfSome o (λ h. IsHeadwayRow (length net.tracks) (length net.types) ((t.0, a.0, b.0), h))
     → IsProper net → MayUse net t a → MayUse net t b → AreHeadways net t a b

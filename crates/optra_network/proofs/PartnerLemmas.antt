@@ -1,16 +1,14 @@
 -- Uses that are a pair: by the rule and by arithmetic, and the partners of a use as a list.
-use Rattle.std.proofs.Common.{◌≡◌, ℕ, zero, suc, ◌+◌, ◌-◌, ◌*◌, ◌/◌, ◌%◌, ◌<◌, ◌≤◌, ◌⊎◌, ⊎_elim, inl, inr, ◌↔◌, Bool, true, false, cond, ◌&&◌, nat_le, nat_lt, Some, None, Option, IfSome, IsSome, IsSomeAnd, is_some, unwrap_or, List, [], ◌∷◌, ◌++◌, map, filter, length, Contains, refl, sym, ap, ◌∙◌, subst, arith, rules, append-nil, add-one}
-use Rattle.std.proofs.lemmas.Bool.{ltb-true, leb-true, ltb-false, leb-false, lt-ltb, le-leb, le-ltb, lt-leb, and_parts, and_from, cases_lt, false_from_ne_true, cases_Bool}
+use Rattle.std.proofs.Common.{◌≡◌, ℕ, zero, suc, ◌+◌, ◌-◌, ◌*◌, ◌/◌, ◌%◌, ◌<◌, ◌≤◌, ⊎_elim, inl, inr, ◌↔◌, Bool, true, false, cond, ◌&&◌, nat_le, nat_lt, Some, None, Option, IfSome, IsSome, IsSomeAnd, is_some, unwrap_or, List, [], ◌∷◌, ◌++◌, map, filter, length, Contains, refl, sym, ap, ◌∙◌, subst, arith, rules, append-nil}
+use Rattle.std.proofs.lemmas.Bool.{ltb-true, leb-true, ltb-false, lt-ltb, le-leb, le-ltb, lt-leb, and_parts, and_from, cases_lt, false_from_ne_true}
 use Rattle.std.proofs.lemmas.List.{map_push}
 use Rattle.std.proofs.lemmas.List.FromFn.{filter_of_map_range_with_len_more}
 use Rattle.std.specs.List.{range_with_len}
 use Rattle.optra_network.specs.Net.{Net, IsBuilt, IsProper, MayUse, IsRunningRow, IsFromTo, times_of, headway_of}
-use Rattle.optra_network.specs.Headways.{type_id, hmin_or_0, headway_or_0}
-use Rattle.optra_network.specs.Conflict.{KeepsHeadway, AreCompatible}
-use Rattle.optra_network.specs.Partners.{IsInWindow, IsSmaller, ArePaired, is_paired, use_at, IsPartner, is_partner, partner_at, partner_places, partners_of}
+use Rattle.optra_network.specs.Headways.{hmin_or_0, headway_or_0}
+use Rattle.optra_network.specs.Partners.{ArePaired, is_paired, use_at, IsPartner, is_partner, partner_at, partner_places, partners_of}
 use Rattle.optra_network.specs.declared.TrackId.{TrackId}
 use Rattle.optra_network.specs.declared.TypeId.{TypeId}
-use Rattle.optra_network.specs.declared.TrackUse.{TrackUse}
 use Rattle.optra_network.specs.declared.Partner.{Partner}
 use Rattle.optra_network.specs.declared.Times.{Times}
 use Rattle.optra_network.proofs.NetLemmas.{times_built}
@@ -290,7 +288,7 @@ module _ (net : Net) (p : IsProper net) (track : TrackId) (kind : TypeId) where
   has_place partner h = go (nat_lt partner.shift 120) refl
     where
       few : partner.kind.0 < 16
-      few = let k = partner_kind net p.built track kind partner h in let most = p.built.few_types in omega arith
+      few = let k = partner_kind net p.built track kind partner h in let most = p.built.counts.few_types in omega arith
 
       go : (c : Bool) → nat_lt partner.shift 120 ≡ c → HasPlace partner
       go true e = record { few = few; low = let l = ltb-true _ _ e in omega arith }

@@ -1,24 +1,26 @@
 -- What the tables of a network say of it.
-use Rattle.std.proofs.Common.{◌≡◌, ℕ, ◌<◌, ◌≤◌, Bool, true, false, cond, not, ◌==◌, ◌⊎◌, ⊎_elim, Some, None, Option, IfSome, IsSome, is_some, unwrap_or, List, length, All, refl, sym, ap, ◌∙◌, arith, rules, subst}
+use Rattle.std.proofs.Common.{◌≡◌, ℕ, ◌<◌, ◌≤◌, Bool, true, false, cond, not, ◌==◌, ◌⊎◌, ⊎_elim, Some, None, Option, IfSome, IsSome, is_some, unwrap_or, List, length, All, refl, sym, ap, ◌∙◌, arith, rules, subst, nat_eq}
 use Rattle.std.proofs.lemmas.Bool.{ne_eqb}
 use Rattle.std.specs.Option.{option_map}
-use Rattle.optra_network.specs.Net.{Net, IsBuilt, IsFromTo, IsProper, MayUse, IsRunningRow, IsHeadwayRow, times_of, headway_of, minutes_by, track_id}
+use Rattle.std.specs.Map.{lookup}
+use Rattle.optra_network.specs.Net.{Net, IsBuilt, IsFromTo, IsProper, MayUse, IsRunningRow, IsHeadwayRow, IsCrossingRow, IsLimitRow, times_of, headway_of, crossing_of, halt_max_of, same_quadruple, minutes_by, track_id}
 use Rattle.optra_network.specs.Headways.{type_id, least_of, headway_before, hmin_of, hmin_or_0}
 use Rattle.optra_network.specs.Tables.{no_times, found_times, found_headway, hmin_at, HoldsPairs, IsPair, IsTriple, AreRows, at_pair, at_triple}
+use Rattle.optra_network.specs.declared.StationId.{StationId}
 use Rattle.optra_network.specs.declared.TrackId.{TrackId}
 use Rattle.optra_network.specs.declared.TypeId.{TypeId}
 use Rattle.optra_network.specs.declared.Times.{Times}
 use Rattle.optra_network.specs.declared.dense.Rows.{Rows}
-use Rattle.optra_network.proofs.NetLemmas.{times_built, headway_built}
+use Rattle.optra_network.proofs.NetLemmas.{times_built, headway_built, crossing_built, limit_built}
 use Rattle.optra_network.proofs.TableLemmas.{at_pair_is, at_triple_is}
 use Rattle.optra_network.proofs.HeadwayLemmas.{headways_are}
 
 -- the rows of a builder have places, and its tracks tails
 pub pairs_built : (net : Net) → IsBuilt net → All (λ row. IsPair (length net.tracks) row.0) net.running
-pairs_built net b k d l = let h = b.running_rows k d l in let few = b.few_types in (h.0, omega (arith, h.1, few))
+pairs_built net b k d l = let h = b.running.each k d l in let few = b.counts.few_types in (h.0, omega (arith, h.1, few))
 
 pub triples_built : (net : Net) → IsBuilt net → All (λ row. IsTriple (length net.tracks) row.0) net.headways
-triples_built net b k d l = let h = b.headway_rows k d l in let few = b.few_types in (h.0, omega (arith, h.1, few), omega (arith, h.2, few))
+triples_built net b k d l = let h = b.headways.each k d l in let few = b.counts.few_types in (h.0, omega (arith, h.1, few), omega (arith, h.2, few))
 
 pub tails_built : (net : Net) → IsBuilt net → All (λ t. t.tail.0 < length net.stations) net.tracks
 tails_built net b k d l = (b.ends k d l).0
@@ -30,7 +32,7 @@ module _ (net : Net) (built : IsBuilt net) where
     where
       from : (o : Option Times) → IfSome o (λ times. IsRunningRow (length net.tracks) (length net.types) ((t, k), times)) → unwrap_or o no_times ≡ no_times
       from None h = refl
-      from (Some times) h = let few = built.few_types in absurd (⊎_elim (λ p. omega (arith, h.0, p)) (λ p. omega (arith, h.1, few, p)) past)
+      from (Some times) h = let few = built.counts.few_types in absurd (⊎_elim (λ p. omega (arith, h.0, p)) (λ p. omega (arith, h.1, few, p)) past)
 
   no_headway_past : (t a b : ℕ) → (length net.tracks ≤ t) ⊎ ((16 ≤ a) ⊎ (16 ≤ b)) → found_headway net.headways t a b ≡ 0
   no_headway_past t a b past = from (headway_of net (track_id t) (type_id a) (type_id b)) (headway_built net (track_id t) (type_id a) (type_id b) built)
@@ -38,7 +40,7 @@ module _ (net : Net) (built : IsBuilt net) where
       from : (o : Option ℕ) → IfSome o (λ h. IsHeadwayRow (length net.tracks) (length net.types) ((t, a, b), h)) → unwrap_or o 0 ≡ 0
       from None h = refl
       from (Some n) h =
-          let few = built.few_types in
+          let few = built.counts.few_types in
           absurd (⊎_elim (λ p. omega (arith, h.0, p)) (λ q. ⊎_elim (λ p. omega (arith, h.1, few, p)) (λ p. omega (arith, h.2, few, p)) q) past)
 
   never_past : (t k : ℕ) → (length net.tracks ≤ t) ⊎ (16 ≤ k) → is_some (times_of net (track_id t) (type_id k)) ≡ false
@@ -46,7 +48,7 @@ module _ (net : Net) (built : IsBuilt net) where
     where
       from : (o : Option Times) → IfSome o (λ times. IsRunningRow (length net.tracks) (length net.types) ((t, k), times)) → is_some o ≡ false
       from None h = refl
-      from (Some times) h = let few = built.few_types in absurd (⊎_elim (λ p. omega (arith, h.0, p)) (λ p. omega (arith, h.1, few, p)) past)
+      from (Some times) h = let few = built.counts.few_types in absurd (⊎_elim (λ p. omega (arith, h.0, p)) (λ p. omega (arith, h.1, few, p)) past)
 
   -- ---- the tables of running times and headways, read at any numbers
 
@@ -134,6 +136,23 @@ module _ (net : Net) (built : IsBuilt net) where
 
   pub headway_range : (t : TrackId) (a b : TypeId) → IfSome (headway_of net t a b) (IsFromTo 1 120)
   headway_range t a b = headway_from_to (headway_of net t a b) (length net.tracks) (length net.types) t.0 a.0 b.0 (headway_built net t a b built)
+
+  crossing_from_to : (o : Option ℕ) (tracks types t u a b : ℕ) → IfSome o (λ m. IsCrossingRow tracks types ((t, u, a, b), m)) → IfSome o (IsFromTo 1 120)
+  crossing_from_to None tracks types t u a b h = tt
+  crossing_from_to (Some n) tracks types t u a b h = h.minutes
+
+  pub crossing_range : (t u : TrackId) (a b : TypeId) → IfSome (crossing_of net t u a b) (IsFromTo 1 120)
+  crossing_range t u a b = crossing_from_to (crossing_of net t u a b) (length net.tracks) (length net.types) t.0 u.0 a.0 b.0 (crossing_built net t u a b built)
+
+  pub crossing_found : (t u a b m : ℕ) → lookup (same_quadruple (t, u, a, b)) net.crossings ≡ Some m → IsFromTo 1 120 m
+  crossing_found t u a b m e = subst (λ o. IfSome o (IsFromTo 1 120)) e (crossing_range (track_id t) (track_id u) (type_id a) (type_id b))
+
+  most_limit : (o : Option ℕ) (stations s : ℕ) → IfSome o (λ n. IsLimitRow stations (s, n)) → unwrap_or o 0 ≤ 1000
+  most_limit None stations s h = omega arith
+  most_limit (Some n) stations s h = h.1.1
+
+  pub halt_most : (s : StationId) → halt_max_of net s ≤ 1000
+  halt_most s = most_limit (lookup (nat_eq s.0) net.limits) (length net.stations) s.0 (limit_built net s built)
 
 pub hmin_range : (net : Net) → IsProper net → (t : TrackId) (k : TypeId) → IfSome (hmin_of net t k) (IsFromTo 1 120)
 hmin_range net p t k = go (is_some (times_of net t k)) refl

@@ -11,4 +11,6 @@ net_of a = record {
   types = a.types;
   running = a.running.entries;
   headways = a.headways.entries;
+  crossings = a.crossings.entries;
+  limits = a.limits.entries;
 }

@@ -12,6 +12,8 @@ net_of a = record {
   types = a.types;
   running = a.running.entries;
   headways = a.headways.entries;
+  crossings = a.crossings.entries;
+  limits = a.limits.entries;
 }
 
 -- what a network keeps, and what it holds ready

@@ -1,5 +1,5 @@
 -- Uses of a track that stand in one pair row: in conflict, and with no window minute in common.
-use Rattle.std.specs.Prelude.{◌≡◌, ℕ, ◌+◌, ◌*◌, ◌/◌, ◌%◌, ◌≤◌, ◌<◌, ◌⊎◌, nat_le, nat_lt, ◌&&◌, Bool, List, map, filter, is_some, if◌then◌else◌}
+use Rattle.std.specs.Prelude.{◌≡◌, ℕ, ◌+◌, ◌/◌, ◌%◌, ◌≤◌, ◌<◌, ◌⊎◌, nat_le, nat_lt, ◌&&◌, Bool, List, map, filter, is_some, if◌then◌else◌}
 use Rattle.std.specs.List.{range_with_len}
 use Rattle.optra_network.specs.Net.{Net, MayUse, times_of, track_id}
 use Rattle.optra_network.specs.Headways.{type_id, hmin_or_0, headway_or_0}

@@ -1,8 +1,10 @@
 //! Makes a network step by step.
-ghost use Rattle.std.specs.Prelude.{◌≡◌, ℕ, ◌+◌, ◌<◌, ◌≤◌, ◌↔◌, ◌≢◌, [], ◌∷◌, ◌++◌, length, OnOk, OnErr, IfOk, IfErr, IsTrue, Some, None, true, map};
+ghost use Rattle.std.specs.Prelude.{◌≡◌, ℕ, ◌+◌, ◌<◌, ◌≤◌, ◌↔◌, ◌≢◌, [], ◌∷◌, ◌++◌, length, OnOk, OnErr, IfOk, IfErr, IsTrue, Some, None, true, map, nat_eq};
+ghost use Rattle.std.specs.Map.{lookup};
+ghost use Rattle.indexmap.specs.IndexMap.{spare};
 ghost use Rattle.optra_network.specs.Names.{is_name};
-ghost use Rattle.optra_network.specs.Net.{empty_net, HasAllHeadways};
-ghost use Rattle.optra_network.specs.Refusals.{IsFinishFault, is_from_to, are_minutes, FollowsRule, station_refusal, type_refusal, track_refusal, after_track, running_refusal, after_running, headway_refusal, after_headway};
+ghost use Rattle.optra_network.specs.Net.{empty_net, HasAllHeadways, HasBothWays, IsWithinReach};
+ghost use Rattle.optra_network.specs.Refusals.{IsFinishFault, is_from_to, are_minutes, FollowsRule, station_refusal, type_refusal, track_refusal, after_track, running_refusal, after_running, headway_refusal, after_headway, limited_refusal, with_limit, after_limited, crossing_refusal, after_crossing};
 
 use crate::finished::Network;
 use crate::names::Names;
@@ -11,6 +13,8 @@ use indexmap::IndexMap;
 use std::alloc::Global;
 use std::marker::Model;
 
+mod completing;
+mod crossing;
 mod finishing;
 mod pairing;
 
@@ -24,6 +28,10 @@ pub struct Builder {
     types: Names,
     running: IndexMap<(u16, u16), Times>,
     headways: IndexMap<(u16, u16, u16), u16>,
+    /// By first track, second track, type on the first and type on the second.
+    crossings: IndexMap<(u16, u16, u16, u16), u16>,
+    /// By station, of those that have a limit.
+    limits: IndexMap<u16, u16>,
 }
 
 impl Model for Builder {
@@ -50,15 +58,31 @@ impl Builder {
             types: Names::new(alloc),
             running: IndexMap::new(alloc),
             headways: IndexMap::new(alloc),
+            crossings: IndexMap::new(alloc),
+            limits: IndexMap::new(alloc),
         })
     }
 
-    /// Adds a station, whose id is the next position. The name is a name, which `is_name` tests.
+    /// Adds a station without a limit, whose id is the next position. The name is a name, which `is_name` tests.
     /// Refusals, in this order: TooMany where 300 stations are there, TakenName where a station has the name.
     pub fn station(&mut self, name: &str) -> Result<StationId, NetFault>
         requires { IsTrue (is_name name.now) }
         ensures rule { FollowsRule (station_refusal self.old name.now) result }
         ensures ok { OnOk result (self.new ≡ record self.old { stations = self.old.stations ++ name.now ∷ [] }) }
+        ensures id { IfOk result (λ id. id.0 ≡ length self.old.stations) }
+        ensures err { OnErr result (self.new ≡ self.old) }
+    {
+        self.station_limited(name, 0)
+    }
+
+    /// Adds a station with the greatest number of trains that may stand in it at once, 1 to 1,000, where 0 is no limit. Its
+    /// id is the next position. The name is a name, which `is_name` tests.
+    /// Refusals, in this order: TooMany where 300 stations are there, TakenName where a station has the name, Range where
+    /// the limit is above 1,000.
+    pub fn station_limited(&mut self, name: &str, halt_max: u64) -> Result<StationId, NetFault>
+        requires { IsTrue (is_name name.now) }
+        ensures rule { FollowsRule (limited_refusal self.old name.now halt_max) result }
+        ensures ok { OnOk result (self.new ≡ after_limited self.old name.now halt_max) }
         ensures id { IfOk result (λ id. id.0 ≡ length self.old.stations) }
         ensures err { OnErr result (self.new ≡ self.old) }
     {
@@ -69,7 +93,12 @@ impl Builder {
         if self.stations.place(name).is_some() {
             return Err(NetFault::Refused(NetRefusal::TakenName));
         }
+        if halt_max > 1000 {
+            return Err(NetFault::Refused(NetRefusal::Range));
+        }
+        self.limits.reserve(1)?;
         self.stations.add(name)?;
+        note_limit(&mut self.limits, count as u16, halt_max as u16);
         Ok(StationId(count as u16))
     }
 
@@ -190,11 +219,54 @@ impl Builder {
         Ok(())
     }
 
-    /// The network that was built. MissingHeadway exactly where two types that may both use a track, or one type and
-    /// itself, have no headway on it in one of the two orders. On a refusal nothing is handed back.
+    /// Gives the minutes that a train of the second type on the second track keeps after one of the first type on the
+    /// first track. The two tracks are different.
+    /// Refusals, in this order: UnknownName where a track or a type isn't there, SelfLoop where both tracks are the same,
+    /// Range where the minutes aren't 1 to 120, Repeated where the two tracks have a crossing for the two types in this
+    /// order.
+    pub fn crossing(
+        &mut self,
+        first_track: &str,
+        second_track: &str,
+        first: &str,
+        second: &str,
+        minutes: u64,
+    ) -> Result<(), NetFault>
+        ensures rule { FollowsRule (crossing_refusal self.old first_track.now second_track.now first.now second.now minutes) result }
+        ensures ok { OnOk result (after_crossing self.old first_track.now second_track.now first.now second.now minutes ≡ Some self.new) }
+        ensures err { OnErr result (self.new ≡ self.old) }
+    {
+        let (Some(t), Some(u), Some(a), Some(b)) = (
+            self.track_names.place(first_track),
+            self.track_names.place(second_track),
+            self.types.place(first),
+            self.types.place(second),
+        ) else {
+            return Err(NetFault::Refused(NetRefusal::UnknownName));
+        };
+        if t == u {
+            return Err(NetFault::Refused(NetRefusal::SelfLoop));
+        }
+        if minutes == 0 || minutes > 120 {
+            return Err(NetFault::Refused(NetRefusal::Range));
+        }
+        let key = (t as u16, u as u16, a as u16, b as u16);
+        if self.crossings.contains_key(&key) {
+            return Err(NetFault::Refused(NetRefusal::Repeated));
+        }
+        self.crossings.insert(key, minutes as u16)?;
+        Ok(())
+    }
+
+    /// The network that was built. Refusals, in this order: MissingHeadway exactly where two types that may both use a
+    /// track, or one type and itself, have no headway on it in one of the two orders; OneWayCrossing exactly where a
+    /// crossing isn't there in its other direction; Reach exactly where more than 4,000 uses of other tracks break a
+    /// crossing with one use of a type on a track. On a refusal nothing is handed back.
     pub fn finish(self) -> Result<Network, NetFault>
         ensures same { IfOk result (λ net. net ≡ self) }
         ensures complete { OnOk result (HasAllHeadways self) }
+        ensures both_ways { OnOk result (HasBothWays self) }
+        ensures within_reach { OnOk result (IsWithinReach self) }
         ensures err { IfErr result (IsFinishFault self) }
     {
         let tables = self.complete_tables()?;
@@ -205,6 +277,8 @@ impl Builder {
             types,
             running,
             headways,
+            crossings,
+            limits,
         } = self;
         Ok(Network {
             stations,
@@ -213,9 +287,23 @@ impl Builder {
             types,
             running,
             headways,
+            crossings,
+            limits,
             tables,
         })
     }
+}
+
+/// Notes a station's limit, where it has one. There is room for it.
+fn note_limit(limits: &mut IndexMap<u16, u16>, station: u16, halt_max: u16)
+    requires room { 0 < spare limits.old }
+    requires new { lookup (nat_eq station) limits.old.entries ≡ None }
+    ensures { limits.new.entries ≡ with_limit limits.old.entries station halt_max }
+{
+    if halt_max == 0 {
+        return;
+    }
+    limits.insert(station, halt_max).unwrap();
 }
 
 /// Whether each number is 1 to 240.

@@ -2,7 +2,7 @@
 ghost use Rattle.std.specs.Prelude.{◌≡◌, ◌+◌, ◌<◌, ◌≤◌, ◌↔◌, length, All, Contains, IfSome, IsTrue, MatchBool, Some, slice_get};
 ghost use Rattle.std.specs.Option.{option_map};
 ghost use Rattle.optra_network.specs.Headways.{hmin_of};
-ghost use Rattle.optra_network.specs.Net.{times_of, headway_of, minutes_by, out_tracks_of, IsFromTo, MayUse, IsProper, IsStation, IsTrack, IsKind};
+ghost use Rattle.optra_network.specs.Net.{times_of, headway_of, crossing_of, halt_max_of, minutes_by, out_tracks_of, IsFromTo, MayUse, IsProper, IsStation, IsTrack, IsKind};
 ghost use Rattle.optra_network.specs.Refusals.{station_named, track_named, type_named};
 ghost use Rattle.optra_network.specs.Conflict.{AreCompatible, KeepsHeadway};
 ghost use Rattle.optra_network.specs.Partners.{IsPartner, partners_of};
@@ -23,6 +23,8 @@ pub struct Network {
     pub(crate) types: Names,
     pub(crate) running: IndexMap<(u16, u16), Times>,
     pub(crate) headways: IndexMap<(u16, u16, u16), u16>,
+    pub(crate) crossings: IndexMap<(u16, u16, u16, u16), u16>,
+    pub(crate) limits: IndexMap<u16, u16>,
     /// All that is held ready for look-ups. The invariant ties it to the other fields.
     pub(crate) tables: Tables,
 }
@@ -57,6 +59,24 @@ impl Network {
         ensures range { IfSome result (IsFromTo 1 120) }
     {
         above_zero(self.tables.rows.headway(track, first, second))
+    }
+
+    /// The minutes, 1 to 120, that a train of the second type on the track b keeps after one of the first type on the track
+    /// a. None exactly where no row gave one, so also for a track or a type that isn't there.
+    pub fn crossing(&self, a: TrackId, b: TrackId, first: TypeId, second: TypeId) -> Option<u16>
+        ensures minutes { result ≡ crossing_of self.now a b first second }
+        ensures range { IfSome result (IsFromTo 1 120) }
+    {
+        self.crossings.get(&(a.0, b.0, first.0, second.0)).copied()
+    }
+
+    /// The greatest number of trains that may stand in the station at once, 1 to 1,000, and 0 where it has no limit, so also
+    /// for a station that isn't there.
+    pub fn halt_max(&self, id: StationId) -> u16
+        ensures count { result ≡ halt_max_of self.now id }
+        ensures most { result ≤ 1000 }
+    {
+        self.limits.get(&id.0).copied().unwrap_or(0)
     }
 
     /// The least headway after the type in minutes, 1 to 120, over the types that may use the track. None exactly

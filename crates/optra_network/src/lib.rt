@@ -1,4 +1,4 @@
-//! A railway network: stations, tracks, train types, running times and headways.
+//! A railway network: stations, tracks, train types, running times, headways, crossings and limits of stations.
 //!
 //! A `Builder` takes the parts one by one and refuses what breaks a rule. `Builder::finish` makes a `Network`, which
 //! never changes and answers each look-up of the planner from dense tables. `conflict` compares two uses of tracks.
@@ -81,14 +81,15 @@ pub enum NetRefusal {
     /// A station, a track or a type that is named isn't there.
     #[error("the name is unknown")]
     UnknownName,
-    /// A running time isn't 1 to 240 minutes, or a headway isn't 1 to 120 minutes.
-    #[error("a number of minutes is out of range")]
+    /// A running time isn't 1 to 240 minutes, a headway or a crossing isn't 1 to 120 minutes, or a station's limit is
+    /// above 1,000 trains.
+    #[error("a number is out of range")]
     Range,
-    /// A track leads from a station to itself.
-    #[error("the track leads from a station to itself")]
+    /// A track leads from a station to itself, or crosses itself.
+    #[error("both ends, or both tracks, are the same")]
     SelfLoop,
-    /// The track and the type already have running times, or the track and the two types in this order already have a
-    /// headway.
+    /// The track and the type already have running times, the track and the two types in this order already have a
+    /// headway, or the two tracks and the two types in this order already have a crossing.
     #[error("the row is there already")]
     Repeated,
     /// Two types that may both use a track, or one type and itself, have no headway on it in one of the two orders.
@@ -97,6 +98,12 @@ pub enum NetRefusal {
     /// 300 stations, 1,000 tracks or 16 types are there already.
     #[error("there are too many")]
     TooMany,
+    /// A crossing isn't there in its other direction, from the second track and type to the first.
+    #[error("a crossing has one direction alone")]
+    OneWayCrossing,
+    /// The uses of other tracks that break a crossing with one use of a type on a track are more than 4,000.
+    #[error("the crossings of a track reach too far")]
+    Reach,
 }
 
 /// A builder's refusal, or want of memory.

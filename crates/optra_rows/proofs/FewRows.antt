@@ -31,7 +31,7 @@ IsSmall (Pair k t a u b) = (k.0 < 1000) × (t < 2880) × (a.0 < 16) × (u < 2880
 row_small : (net : Net) (row : HRow) → IsProper net → is_row_of net row ≡ true → IsSmall row
 row_small net (Window k m) proper is =
     let parts = and_parts (nat_lt k.0 (length net.tracks)) (nat_le m 2998) is in
-    let few = proper.built.few_tracks in
+    let few = proper.built.counts.few_tracks in
     let track = ltb-true k.0 (length net.tracks) parts.0 in
     let minute = leb-true m 2998 parts.1 in
     (omega (arith, few, track), omega (arith, minute))
@@ -41,7 +41,7 @@ row_small net (Pair k t a u b) proper is =
     let late = leb-true u 2879 parts.1 in
     let first = below_types net k a proper pair.first in
     let second = below_types net k b proper pair.second in
-    let few = proper.built.few_tracks in
+    let few = proper.built.counts.few_tracks in
     let apart = pair.apart in
     (omega (arith, few, first.2), omega (arith, apart, late), first.1, omega (arith, late), second.1)
 

@@ -10,6 +10,8 @@ use Rattle.optra_network.specs.Refusals.{IsFinishFault}
 use Rattle.optra_network.specs.declared.NetFault.{NetFault}
 use Rattle.optra_network.specs.declared.NetFault.TheVariants as net_faults
 use Rattle.optra_network.specs.declared.Times.{Times}
+use Rattle.optra_network.specs.declared.NetRefusal.TheVariants.{TakenName, UnknownName, Range, SelfLoop, Repeated, MissingHeadway, TooMany, OneWayCrossing, Reach}
+use Rattle.optra_network.proofs.CrossingLemmas.{no_crossings}
 use Rattle.optra_network.proofs.NetLemmas.{pair_same, pair_self}
 use Rattle.optra_tables.specs.Networks.{is_complete, whole_refusal}
 use Rattle.optra_tables.specs.Outcomes.{Gives, IsNetAnswer, net_outcome}
@@ -73,9 +75,17 @@ not_complete : (net : Net) (b : Bool) → is_complete net ≡ b → (HasAllHeadw
 not_complete net true e h = absurd (h (complete_to net e))
 not_complete net false e h = e
 
--- what the builder answers at the end is the outcome of the whole table
-pub finish_gives : (net : Net) (answer : Result Net NetFault) (result : Result Net ReadError) → IfOk answer (λ done. done ≡ net) → OnOk answer (HasAllHeadways net) → IfErr answer (IsFinishFault net)
-    → IsNetAnswer Headways 0 answer result → Gives (λ done. done) result (net_outcome Headways 0 (whole_refusal net) net)
-finish_gives net (Ok done) result same complete err is = rw (is, complete_from net complete, same) refl
-finish_gives net (Err (net_faults.Refused why)) result same complete err is = rw (is, not_complete net (is_complete net) refl err.1, err.0) refl
-finish_gives net (Err net_faults.NoMemory) result same complete err is = rw is tt
+-- what the builder answers at the end is the outcome of the whole table, where there is no crossing
+pub finish_gives : (net : Net) (answer : Result Net NetFault) (result : Result Net ReadError) → net.crossings ≡ [] → IfOk answer (λ done. done ≡ net) → OnOk answer (HasAllHeadways net)
+    → IfErr answer (IsFinishFault net) → IsNetAnswer Headways 0 answer result → Gives (λ done. done) result (net_outcome Headways 0 (whole_refusal net) net)
+finish_gives net (Ok done) result none same complete err is = rw (is, complete_from net complete, same) refl
+finish_gives net (Err (net_faults.Refused MissingHeadway)) result none same complete err is = rw (is, not_complete net (is_complete net) refl err) refl
+finish_gives net (Err (net_faults.Refused OneWayCrossing)) result none same complete err is = absurd (err.1 (no_crossings net none).0)
+finish_gives net (Err (net_faults.Refused Reach)) result none same complete err is = absurd (err.2 (no_crossings net none).1)
+finish_gives net (Err (net_faults.Refused TakenName)) result none same complete err is = absurd err
+finish_gives net (Err (net_faults.Refused UnknownName)) result none same complete err is = absurd err
+finish_gives net (Err (net_faults.Refused Range)) result none same complete err is = absurd err
+finish_gives net (Err (net_faults.Refused SelfLoop)) result none same complete err is = absurd err
+finish_gives net (Err (net_faults.Refused Repeated)) result none same complete err is = absurd err
+finish_gives net (Err (net_faults.Refused TooMany)) result none same complete err is = absurd err
+finish_gives net (Err net_faults.NoMemory) result none same complete err is = rw is tt

@@ -64,7 +64,7 @@ stations_added : (net new : Net) (name : List ℕ) → nat_le 300 (length net.st
     → HasFew new × (300 - length new.stations + 1 ≤ 300 - length net.stations)
 stations_added net new name full same few =
     subst (λ (n : Net). HasFew n × (300 - length n.stations + 1 ≤ 300 - length net.stations)) same
-    (record { tracks = few.tracks; named = few.named; types = few.types }, one_less 300 net.stations name full)
+    (record { tracks = few.tracks; named = few.named; types = few.types; no_crossings = few.no_crossings }, one_less 300 net.stations name full)
 
 -- a station that is accepted takes one of the places
 pub station_step : (net new : Net) (row : ℕ) (fields : Record) → station_row net row fields ≡ Ok new → HasFew net → HasFew new × (stations_room new + 1 ≤ stations_room net)
@@ -83,7 +83,7 @@ types_added : (net new : Net) (name : List ℕ) → nat_le 16 (length net.types)
 types_added net new name full same few =
     let low = leb-false 16 (length net.types) full in
     subst (λ (n : Net). HasFew n × (16 - length n.types + 1 ≤ 16 - length net.types)) same
-    (record { tracks = few.tracks; named = few.named; types = rw (length-append net.types (name ∷ [])) (omega (arith, low)) }, one_less 16 net.types name full)
+    (record { tracks = few.tracks; named = few.named; types = rw (length-append net.types (name ∷ [])) (omega (arith, low)); no_crossings = few.no_crossings }, one_less 16 net.types name full)
 
 -- a type that is accepted takes one of the places
 pub type_step : (net new : Net) (row : ℕ) (fields : Record) → type_row net row fields ≡ Ok new → HasFew net → HasFew new × (types_room new + 1 ≤ types_room net)
@@ -113,6 +113,7 @@ tracks_added net new name (Some a) (Some b) full there same few =
         tracks = rw (length-append net.tracks (track_at a b ∷ [])) (omega (arith, low));
         named = rw (length-append net.track_names (name ∷ []), length-append net.tracks (track_at a b ∷ []), named) refl;
         types = few.types;
+        no_crossings = few.no_crossings;
       },
       one_less 1000 net.tracks (track_at a b) full,
     )
@@ -160,7 +161,7 @@ running_added net new times (Some t) (Some k) there free same lt lk few =
     let named = few.named in
     let types = few.types in
     subst (λ (n : Net). HasFew n × (running_room n + 1 ≤ running_room net)) same (
-      record { tracks = few.tracks; named = few.named; types = few.types },
+      record { tracks = few.tracks; named = few.named; types = few.types; no_crossings = few.no_crossings },
       running_room_added net t k (times_from times) free (omega (arith, lt, tracks, named)) (omega (arith, lk, types)),
     )
 
@@ -213,7 +214,7 @@ headways_added net new minutes (Some t) (Some a) (Some b) there free same lt la 
     let named = few.named in
     let types = few.types in
     subst (λ (n : Net). HasFew n × (headways_room n + 1 ≤ headways_room net)) same (
-      record { tracks = few.tracks; named = few.named; types = few.types },
+      record { tracks = few.tracks; named = few.named; types = few.types; no_crossings = few.no_crossings },
       headways_room_added net t a b minutes free (omega (arith, lt, tracks, named)) (omega (arith, la, types)) (omega (arith, lb, types)),
     )
 

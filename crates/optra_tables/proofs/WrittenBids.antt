@@ -143,9 +143,9 @@ names_utf8 net bid proper on sound =
     rw (
       name_utf8 bid.name sound.name,
       name_utf8 bid.bidder sound.bidder,
-      name_utf8 (named net.types bid.path.kind.0) (is_name-named net.types bid.path.kind.0 proper.built.type_names on.kind),
-      name_utf8 (named net.stations bid.path.origin.0) (is_name-named net.stations bid.path.origin.0 proper.built.station_names on.origin),
-      name_utf8 (named net.stations bid.path.destination.0) (is_name-named net.stations bid.path.destination.0 proper.built.station_names on.destination),
+      name_utf8 (named net.types bid.path.kind.0) (is_name-named net.types bid.path.kind.0 proper.built.names.type_names on.kind),
+      name_utf8 (named net.stations bid.path.origin.0) (is_name-named net.stations bid.path.origin.0 proper.built.names.station_names on.origin),
+      name_utf8 (named net.stations bid.path.destination.0) (is_name-named net.stations bid.path.destination.0 proper.built.names.station_names on.destination),
     ) refl
 
 window_utf8 : (window : Window) → IsWindow window → list_all is_utf8 (window_fields window) ≡ true
@@ -204,9 +204,9 @@ told_written net bid row proper on sound a =
     told_read row fields (told_of net bid) (form_written net bid proper on sound a)
     (name_read Bids row fields 0 bid.name refl sound.name)
     (name_read Bids row fields 1 bid.bidder refl sound.bidder)
-    (name_read Bids row fields 2 (named net.types bid.path.kind.0) refl (is_name-named net.types bid.path.kind.0 proper.built.type_names on.kind))
-    (name_read Bids row fields 3 (named net.stations bid.path.origin.0) refl (is_name-named net.stations bid.path.origin.0 proper.built.station_names on.origin))
-    (name_read Bids row fields 4 (named net.stations bid.path.destination.0) refl (is_name-named net.stations bid.path.destination.0 proper.built.station_names on.destination))
+    (name_read Bids row fields 2 (named net.types bid.path.kind.0) refl (is_name-named net.types bid.path.kind.0 proper.built.names.type_names on.kind))
+    (name_read Bids row fields 3 (named net.stations bid.path.origin.0) refl (is_name-named net.stations bid.path.origin.0 proper.built.names.station_names on.origin))
+    (name_read Bids row fields 4 (named net.stations bid.path.destination.0) refl (is_name-named net.stations bid.path.destination.0 proper.built.names.station_names on.destination))
     (three_read row fields 5 bid.path.depart.from bid.path.depart.ideal bid.path.depart.to refl refl refl d.0 d.1 d.2)
     (three_read row fields 8 bid.path.arrive.from bid.path.arrive.ideal bid.path.arrive.to refl refl refl r.0 r.1 r.2)
     (number_read Bids row fields 11 (cents bid.money.base) a.base.text (amount_small 1000000000 bid.money.base a.base (omega arith)))

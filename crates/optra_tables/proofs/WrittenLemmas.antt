@@ -83,10 +83,10 @@ pub is_name-named : (names : List Field) (i : ℕ) → AreNames names → i < le
 is_name-named names i are h = rw (unwrap_or-slice_get names i []) (are.each i [] h)
 
 pub station_found : (net : Net) (s : StationId) → IsProper net → IsStation net s → station_named net (named net.stations s.0) ≡ Some s
-station_found net s proper h = rw (place_named net.stations s.0 proper.built.station_names.differ h) refl
+station_found net s proper h = rw (place_named net.stations s.0 proper.built.names.station_names.differ h) refl
 
 pub type_found : (net : Net) (k : TypeId) → IsProper net → IsKind net k → type_named net (named net.types k.0) ≡ Some k
-type_found net k proper h = rw (place_named net.types k.0 proper.built.type_names.differ h) refl
+type_found net k proper h = rw (place_named net.types k.0 proper.built.names.type_names.differ h) refl
 
 -- ---- the middle of a list
 

@@ -71,7 +71,7 @@ form_written net name stop proper is on small =
     let all : list_all is_utf8 (stop_record net name stop) ≡ true =
     rw (
       name_utf8 name is,
-      name_utf8 (named net.stations stop.station.0) (is_name-named net.stations stop.station.0 proper.built.station_names on),
+      name_utf8 (named net.stations stop.station.0) (is_name-named net.stations stop.station.0 proper.built.names.station_names on),
       decimal_utf8 stop.min_dwell small.min_dwell,
       decimal_utf8 stop.max_dwell small.max_dwell,
       decimal_utf8 stop.arrive.from small.from,
@@ -123,7 +123,7 @@ stop_added net before after bid some stop row proper sound differ is on few =
     stop_read net (halfway before bid some after) row fields bid.name (named net.stations stop.station.0) (length before) (with_stops bid some) stop
     (form_written net bid.name stop proper sound.name on small)
     (name_read Stops row fields 0 bid.name refl sound.name)
-    (name_read Stops row fields 1 (named net.stations stop.station.0) refl (is_name-named net.stations stop.station.0 proper.built.station_names on))
+    (name_read Stops row fields 1 (named net.stations stop.station.0) refl (is_name-named net.stations stop.station.0 proper.built.names.station_names on))
     (number_read Stops row fields 2 stop.min_dwell refl small.min_dwell)
     (number_read Stops row fields 3 stop.max_dwell refl small.max_dwell)
     (two_read row fields 4 stop.arrive.from stop.arrive.to refl refl small.from small.to)

@@ -14,11 +14,12 @@ use Rattle.optra_tables.specs.declared.NetFiles.{NetFiles}
 use Rattle.optra_tables.specs.declared.Table.TheVariants.{Headways, Running, Stations, Tracks, Types}
 use Rattle.optra_tables.specs.declared.TableFault.{TableFault}
 
--- the tracks and types that are there are few, and each track has a name
+-- the tracks and types that are there are few, each track has a name, and there is no crossing
 pub record HasFew (net : Net) : Type 0 where
   pub tracks : length net.tracks ≤ 1000
   pub named : length net.track_names ≡ length net.tracks
   pub types : length net.types ≤ 16
+  pub no_crossings : net.crossings ≡ []
 
 -- ---- stations
 

@@ -1,6 +1,6 @@
 //! The tables of a network, in order.
 
-ghost use Rattle.std.specs.Prelude.{◌≡◌, OnOk, IfErr};
+ghost use Rattle.std.specs.Prelude.{◌≡◌, [], OnOk, IfErr};
 ghost use Rattle.optra_network.specs.Net.{empty_net};
 ghost use Rattle.optra_tables.specs.Networks.{Files, HasFew, files_of, is_complete, network_of, whole_refusal};
 ghost use Rattle.optra_tables.specs.Outcomes.{Fails, Gives, net_outcome};
@@ -17,8 +17,9 @@ use csv::ByteRecord;
 use optra_network::{Builder, Network};
 use std::alloc::Global;
 
-/// The network that was built, unless a headway is missing.
+/// The network that was built, unless a headway is missing. It has no crossing.
 fn finish(net: Builder) -> Result<Network, ReadError>
+    requires { net.crossings ≡ [] }
     ensures { Gives (λ done. done) result (net_outcome Headways 0 (whole_refusal net) net) }
 {
     net_answer(Table::Headways, 0, net.finish())
@@ -30,6 +31,7 @@ fn finish(net: Builder) -> Result<Network, ReadError>
 fn read_tables(alloc: Global, net: &mut Builder, files: &NetFiles<'_>) -> Result<(), ReadError>
     requires { net.old ≡ empty_net }
     ensures ok { OnOk result (network_of (files_of files.now) ≡ net_outcome Headways 0 (whole_refusal net.new) net.new) }
+    ensures no_crossings { OnOk result (net.new.crossings ≡ []) }
     ensures err { IfErr result (λ e. Fails e (network_of (files_of files.now))) }
 {
     let mut cells = ByteRecord::new(alloc);

@@ -8,6 +8,8 @@
 #[cfg(test)]
 mod auctions;
 #[cfg(test)]
+mod crossings;
+#[cfg(test)]
 mod decisions;
 #[cfg(test)]
 mod disks;
@@ -23,6 +25,8 @@ mod nodes;
 mod outside;
 #[cfg(test)]
 mod paths;
+#[cfg(test)]
+mod platforms;
 #[cfg(test)]
 mod prices;
 #[cfg(test)]

@@ -86,7 +86,7 @@ walks_told net proper number (bid ∷ bids) (Some legs ∷ xs) (Some legs2 ∷ y
     let end = number + 1 + length bids in
     let split = legs_end net bid.path.kind (number + 1) end legs legs2 (train_records net (number + 1) bids xs) (train_records net (number + 1) bids ys)
     (trains_start net (number + 1) end bids xs (omega arith)) (trains_start net (number + 1) end bids ys (omega arith)) (ap (λ (rs : List Record). drop 1 rs) e) in
-    let same = legs_told net bid.path.kind true legs legs2 proper.built.names_of_tracks.differ (walk_small net proper bid legs ha.0) (walk_small net proper bid legs2 hb.0) (walk_modes net bid.path legs ha.0) (walk_modes net bid.path legs2 hb.0) split.0 in
+    let same = legs_told net bid.path.kind true legs legs2 proper.built.names.names_of_tracks.differ (walk_small net proper bid legs ha.0) (walk_small net proper bid legs2 hb.0) (walk_modes net bid.path legs ha.0) (walk_modes net bid.path legs2 hb.0) split.0 in
     let rest = walks_told net proper (number + 1) bids xs ys (omega arith) ha.1 hb.1 split.1 in
     λ i. Some (same i) ∷ rest i
 

@@ -38,6 +38,8 @@ net_code net.SelfLoop = codes "N4"
 net_code net.Repeated = codes "N5"
 net_code net.MissingHeadway = codes "N6"
 net_code net.TooMany = codes "N7"
+net_code net.OneWayCrossing = codes "N8"
+net_code net.Reach = codes "N9"
 
 -- the code of what a bid refuses
 abbrev pub bid_code : BidRefusal → List ℕ

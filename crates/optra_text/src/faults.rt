@@ -120,6 +120,8 @@ fn net_code(why: NetRefusal) -> &'static str
         NetRefusal::Repeated => "N5",
         NetRefusal::MissingHeadway => "N6",
         NetRefusal::TooMany => "N7",
+        NetRefusal::OneWayCrossing => "N8",
+        NetRefusal::Reach => "N9",
     }
 }
 

@@ -10,12 +10,13 @@ use Rattle.std.proofs.lemmas.List.FromFn.{get_or-map-range_with_len, get_or-rang
 use Rattle.std.proofs.lemmas.Option.{unwrap_or-slice_get}
 use Rattle.std.proofs.lemmas.Str.Ascii.{IsAscii-cons, IsAscii-nil}
 use Rattle.optra_network.specs.Names.{AllDiffer, AreNames, is_name}
-use Rattle.optra_network.specs.Net.{AreEnds, AreTimes, HasAllHeadways, IsBuilt, IsFromTo, IsHeadwayRow, IsProper, IsRunningRow, MayUse, same_triple, times_of}
+use Rattle.optra_network.specs.Net.{AreEnds, AreTimes, HasAllHeadways, IsBuilt, IsCrossingRow, IsFromTo, IsHeadwayRow, IsLimitRow, IsProper, IsRunningRow, MayUse, same_triple, times_of}
 use Rattle.optra_network.specs.declared.StationId.{StationId}
 use Rattle.optra_network.specs.declared.Times.{Times}
 use Rattle.optra_network.specs.declared.TrackId.{TrackId}
 use Rattle.optra_network.specs.declared.TypeId.{TypeId}
-use Rattle.optra_network.proofs.NetLemmas.{times_built}
+use Rattle.optra_network.proofs.CrossingLemmas.{no_crossings}
+use Rattle.optra_network.proofs.NetLemmas.{AreRowsOf-none, times_built}
 use Rattle.optra_records.specs.Reading.{Field, Record}
 use Rattle.optra_tables.specs.Written.{named as place_named}
 use Rattle.optra_demo.specs.Kinds.{all_kinds, extra_of, kind_name}
@@ -387,18 +388,28 @@ module _ (minutes : List ℕ) (fits : Fits minutes) where
 
   built : IsBuilt (net_of (demo_parts minutes))
   built = record {
-    few_stations = let l = length-map-range_with_len station_name 1 (length minutes + 1) in let few = fits.few in omega arith;
-    few_tracks = let l = tracks_length in let few = fits.few in omega arith;
-    few_types = omega arith;
-    station_names = let few = fits.few in stations_are (length minutes + 1) (omega arith);
-    names_of_tracks = subst AreNames (sym (all_names_are (length minutes))) (tracks_are (length minutes) fits.few);
-    type_names = kinds_are;
+    counts = record {
+      few_stations = let l = length-map-range_with_len station_name 1 (length minutes + 1) in let few = fits.few in omega arith;
+      few_tracks = let l = tracks_length in let few = fits.few in omega arith;
+      few_types = omega arith;
+    };
+    names = record {
+      station_names = let few = fits.few in stations_are (length minutes + 1) (omega arith);
+      names_of_tracks = subst AreNames (sym (all_names_are (length minutes))) (tracks_are (length minutes) fits.few);
+      type_names = kinds_are;
+    };
     named = names_count ∙ sym tracks_length;
     ends = ends_are (length (map station_name (range_with_len 1 (length minutes + 1)))) (length-map-range_with_len station_name 1 (length minutes + 1));
-    running_rows = running_all (length (ends_of (flat_map track_pair (segments (length minutes))))) tracks_length;
-    headway_rows = headways_all (length (ends_of (flat_map track_pair (segments (length minutes))))) tracks_length;
-    running_once = places_differ running_code 0 (keys_of (flat_map (running_pair minutes) (segments (length minutes)))) (running_places minutes (length minutes));
-    headways_once = places_differ headway_code 0 (keys_of (flat_map headway_pair (segments (length minutes)))) (headway_places (length minutes));
+    running = record {
+      each = running_all (length (ends_of (flat_map track_pair (segments (length minutes))))) tracks_length;
+      once = places_differ running_code 0 (keys_of (flat_map (running_pair minutes) (segments (length minutes)))) (running_places minutes (length minutes));
+    };
+    headways = record {
+      each = headways_all (length (ends_of (flat_map track_pair (segments (length minutes))))) tracks_length;
+      once = places_differ headway_code 0 (keys_of (flat_map headway_pair (segments (length minutes)))) (headway_places (length minutes));
+    };
+    crossings = AreRowsOf-none (IsCrossingRow (length (ends_of (flat_map track_pair (segments (length minutes))))) 3);
+    limits = AreRowsOf-none (IsLimitRow (length (map station_name (range_with_len 1 (length minutes + 1)))));
   }
 
   headways_length : length (flat_map headway_pair (segments (length minutes))) ≡ 18 * length minutes
@@ -435,7 +446,7 @@ module _ (minutes : List ℕ) (fits : Fits minutes) where
   complete t a b first second = found t.0 a.0 b.0 (used t a first).0 (used t a first).1 (used t b second).1
 
   pub demo_proper : IsProper (net_of (demo_parts minutes))
-  demo_proper = record { built = built; complete = complete }
+  demo_proper = let crossings = no_crossings (net_of (demo_parts minutes)) refl in record { built = built; complete = complete; both_ways = crossings.0; within_reach = crossings.1 }
 
 -- ---- its tables are those of the demo
 

@@ -47,6 +47,8 @@ net_of parts = record {
   types = parts.types;
   running = parts.running;
   headways = parts.headways;
+  crossings = [];
+  limits = [];
 }
 
 -- ---- its records
@@ -355,14 +357,14 @@ pub network_means : (parts : Parts) → IsProper (net_of parts) → network_of (
 unfolding network_of stations_seen tracks_seen types_seen running_seen headways_seen
 network_means parts proper =
     let built = proper.built in
-    let names = built.names_of_tracks in
+    let names = built.names.names_of_tracks in
     let lengths : length (ends_of parts.tracks) ≡ length (track_names parts.tracks) = sym built.named in
-    let one = stations_back parts.stations built.station_names built.few_stations in
-    let two = tracks_back parts.stations parts.tracks built.station_names names built.ends built.few_tracks in
-    let three = types_back (tracks_seen parts.stations parts.tracks) parts.types refl built.type_names built.few_types in
-    let running = subst (λ (n : ℕ). All (IsRunningRow n (length parts.types)) parts.running) lengths built.running_rows in
-    let headways = subst (λ (n : ℕ). All (IsHeadwayRow n (length parts.types)) parts.headways) lengths built.headway_rows in
-    let four = running_back (types_seen (tracks_seen parts.stations parts.tracks) parts.types) parts.running refl names built.type_names running built.running_once in
-    let five = headways_back (running_seen (types_seen (tracks_seen parts.stations parts.tracks) parts.types) parts.running) parts.headways refl names built.type_names headways built.headways_once in
+    let one = stations_back parts.stations built.names.station_names built.counts.few_stations in
+    let two = tracks_back parts.stations parts.tracks built.names.station_names names built.ends built.counts.few_tracks in
+    let three = types_back (tracks_seen parts.stations parts.tracks) parts.types refl built.names.type_names built.counts.few_types in
+    let running = subst (λ (n : ℕ). All (IsRunningRow n (length parts.types)) parts.running) lengths built.running.each in
+    let headways = subst (λ (n : ℕ). All (IsHeadwayRow n (length parts.types)) parts.headways) lengths built.headways.each in
+    let four = running_back (types_seen (tracks_seen parts.stations parts.tracks) parts.types) parts.running refl names built.names.type_names running built.running.once in
+    let five = headways_back (running_seen (types_seen (tracks_seen parts.stations parts.tracks) parts.types) parts.running) parts.headways refl names built.names.type_names headways built.headways.once in
     let whole = complete_from (net_of parts) proper.complete in
     rw (one, two, three, four, five, whole) refl

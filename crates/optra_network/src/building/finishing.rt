@@ -1,10 +1,10 @@
-//! What `finish` tests and makes: complete headways, and the dense tables.
+//! What `finish` makes once its tests passed: the dense tables.
 ghost use Rattle.std.specs.Prelude.{◌≡◌, ℕ, ◌*◌, ◌<◌, ◌↔◌, length, map, IfErr, IfOk, IsTrue, OnOk, true};
 ghost use Rattle.std.specs.List.{range_with_len};
 ghost use Rattle.optra_network.specs.Headways.{type_id, lesser, hmin_or_0, headway_before};
-ghost use Rattle.optra_network.specs.Net.{track_id, HasAllHeadways, IsProper};
+ghost use Rattle.optra_network.specs.Net.{HasAllHeadways, HasBothWays, IsWithinReach};
 ghost use Rattle.optra_network.specs.Refusals.{IsFinishFault};
-ghost use Rattle.optra_network.specs.Tables.{AreRows, AreTables, has_headway, least_at};
+ghost use Rattle.optra_network.specs.Tables.{AreRows, AreTables, least_at};
 
 use super::Builder;
 use crate::dense::{Outgoing, Rows, Tables, above_zero};
@@ -12,17 +12,20 @@ use crate::{NetFault, NetRefusal, NoMemory, TrackId, TypeId};
 use std::alloc::Global;
 
 impl Builder {
-    /// The dense tables, where no headway is missing.
+    /// The dense tables, where no headway is missing, and no direction of a crossing, and none reaches too far.
     pub(super) fn complete_tables(&self) -> Result<Tables, NetFault>
         ensures tables { IfOk result (AreTables self.now) }
         ensures complete { OnOk result (HasAllHeadways self.now) }
+        ensures both_ways { OnOk result (HasBothWays self.now) }
+        ensures within_reach { OnOk result (IsWithinReach self.now) }
         ensures err { IfErr result (IsFinishFault self.now) }
     {
         let alloc = *self.tracks.allocator();
-        let rows = self.rows(alloc)?;
-        if !self.has_all_headways(&rows) {
+        if !self.headways_whole() {
             return Err(NetFault::Refused(NetRefusal::MissingHeadway));
         }
+        self.whole_crossings(alloc)?;
+        let rows = self.rows(alloc)?;
         Ok(self.tables(alloc, rows)?)
     }
 
@@ -30,55 +33,6 @@ impl Builder {
         ensures { IfOk result (AreRows self.now) }
     {
         Rows::new(alloc, self.tracks.len(), &self.running, &self.headways)
-    }
-
-    fn has_all_headways(&self, rows: &Rows) -> bool
-        requires { AreRows self.now rows.now }
-        ensures { IsTrue result ↔ HasAllHeadways self.now }
-    {
-        for track in 0..self.tracks.len() {
-            if !self.has_headways_on(rows, TrackId(track as u16)) {
-                return false;
-            }
-        }
-        true
-    }
-
-    fn has_headways_on(&self, rows: &Rows, track: TrackId) -> bool
-        requires { AreRows self.now rows.now }
-        ensures { IsTrue result ↔ ((a b : ℕ) → a < length self.now.types → b < length self.now.types → has_headway self.now track.0 a b ≡ true) }
-    {
-        for first in 0..self.types.len() {
-            if !self.has_headways_after(rows, track, TypeId(first as u16)) {
-                return false;
-            }
-        }
-        true
-    }
-
-    fn has_headways_after(&self, rows: &Rows, track: TrackId, first: TypeId) -> bool
-        requires { AreRows self.now rows.now }
-        ensures { IsTrue result ↔ ((b : ℕ) → b < length self.now.types → has_headway self.now track.0 first.0 b ≡ true) }
-    {
-        for second in 0..self.types.len() {
-            if !self.has_headway(rows, track, first, TypeId(second as u16)) {
-                return false;
-            }
-        }
-        true
-    }
-
-    fn has_headway(&self, rows: &Rows, track: TrackId, first: TypeId, second: TypeId) -> bool
-        requires { AreRows self.now rows.now }
-        ensures { result ≡ has_headway self.now track.0 first.0 second.0 }
-    {
-        if !rows.may_use(track, first) {
-            return true;
-        }
-        if !rows.may_use(track, second) {
-            return true;
-        }
-        rows.headway(track, first, second) != 0
     }
 
     fn tables(&self, alloc: Global, rows: Rows) -> Result<Tables, NoMemory>

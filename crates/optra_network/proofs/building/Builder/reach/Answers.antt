@@ -1,9 +1,8 @@
-use Rattle.std.proofs.Common.{◌≡◌, ◌≤◌, ◌<◌, ◌+◌, ◌⊎◌, inl, inr, arith, length, ap, true, subst, sym, rules, ℕ}
+use Rattle.std.proofs.Common.{◌≡◌, ◌≤◌, ◌<◌, ◌+◌, inl, inr, arith, length, ap, true, subst, sym, ℕ}
 use Rattle.std.proofs.lemmas.Bool.{cases_lt}
 use Rattle.optra_network.specs.Net.{Net}
 use Rattle.optra_network.specs.Headways.{type_id}
-use Rattle.optra_network.specs.Partners.{is_partner, is_paired}
-use Rattle.optra_network.specs.declared.Partner.{Partner}
+use Rattle.optra_network.specs.Partners.{is_paired}
 use Rattle.optra_network.specs.declared.TypeId.{TypeId}
 use Rattle.optra_network.proofs.PartnerLemmas.{within_from, partner_kind}
 use Rattle.optra_network.proofs.building.Builder.reach.Goals as goal

@@ -1,6 +1,5 @@
-use Rattle.std.proofs.Common.{◌≡◌, sym, ◌∙◌, subst, arith, true≢false, ◌≤◌, ◌<◌, ◌+◌, true}
+use Rattle.std.proofs.Common.{◌≡◌, sym, ◌∙◌, subst, arith, true≢false, ◌≤◌, ◌<◌, ◌+◌}
 use Rattle.optra_network.specs.Headways.{hmin_or_0, headway_or_0}
-use Rattle.optra_network.specs.Partners.{is_paired}
 use Rattle.optra_network.proofs.ReadLemmas.{may_use_read, least_read, headway_read}
 use Rattle.optra_network.proofs.PartnerLemmas.{first_may_not, second_may_not, near_none, headway_most, pair_parts}
 use Rattle.optra_network.proofs.building.Builder.reach_between.Goals as goal

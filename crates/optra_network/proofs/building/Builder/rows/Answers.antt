@@ -14,7 +14,7 @@ pub new-requires : goal.new-requires
 new-requires c =
     let len : c.len.result ≡ length c.self.inside.tracks.items = grind arith in
     record {
-      few = let few = c.self.invariant.few_tracks in omega arith;
+      few = let few = c.self.invariant.counts.few_tracks in omega arith;
       of_pairs = subst (λ n. All (λ row. IsPair n row.0) c.self.inside.running.entries) (sym len) (pairs_built (net_of c.self.inside) c.self.invariant);
       of_triples = subst (λ n. All (λ row. IsTriple n row.0) c.self.inside.headways.entries) (sym len) (triples_built (net_of c.self.inside) c.self.invariant);
     }

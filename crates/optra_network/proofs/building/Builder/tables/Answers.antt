@@ -1,4 +1,4 @@
-use Rattle.std.proofs.Common.{◌≡◌, ◌≤◌, ◌<◌, length, subst, sym, map, All, List, ℕ}
+use Rattle.std.proofs.Common.{◌≤◌, ◌<◌, length, subst, sym, map, All, List}
 use Rattle.optra_network.specs.Net.{Net, track_id}
 use Rattle.optra_network.specs.Headways.{type_id}
 use Rattle.optra_network.specs.BuilderParts.{net_of}
@@ -14,7 +14,7 @@ new-requires c =
     let tails =
     subst (λ n. All (λ (t : Track). t.tail.0 < n) c.self.inside.tracks.items) (sym c.len.ensures) (tails_built (net_of c.self.inside) c.self.invariant) in
     record {
-      few = subst (λ (tracks : List Track). length tracks ≤ 1000) (sym c.deref.ensures.value) c.self.invariant.few_tracks;
+      few = subst (λ (tracks : List Track). length tracks ≤ 1000) (sym c.deref.ensures.value) c.self.invariant.counts.few_tracks;
       ends = subst (All (λ (t : Track). t.tail.0 < c.len.result)) (sym c.deref.ensures.value) tails;
     }
 

@@ -1,4 +1,4 @@
-use Rattle.std.proofs.Common.{◌≡◌, ◌<◌, ◌+◌, ◌*◌, ◌↔◌, ◌∙◌, ap, sym, subst, length, map, List, ℕ, Vec, Global, Contains, arith}
+use Rattle.std.proofs.Common.{◌+◌, ◌*◌, ◌↔◌, ◌∙◌, ap, sym, subst, map, Vec, Global, Contains, arith}
 use Rattle.std.proofs.lemmas.List.{length-map}
 use Rattle.std.proofs.lemmas.Option.{get_or_from_slice_get, slice_get_within}
 use Rattle.std.proofs.Math.ListN.{get_or-map}

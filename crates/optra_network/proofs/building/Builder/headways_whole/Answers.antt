@@ -1,7 +1,7 @@
 use Rattle.std.proofs.Common.{arith, rules, subst, length, true≢false, sym, ap}
 use Rattle.optra_network.specs.Net.{Net, IsBuilt}
 use Rattle.optra_network.proofs.NetLemmas.{HasAllHeadways-from_tests, tests_from-HasAllHeadways}
-use Rattle.optra_network.proofs.building.Builder.has_all_headways.Goals as goal
+use Rattle.optra_network.proofs.building.Builder.headways_whole.Goals as goal
 
 pub returns-then-not-has_headways_on : goal.returns-then-not-has_headways_on
 returns-then-not-has_headways_on c =

@@ -1,0 +1,2 @@
+pub mod Platforms
+pub mod PlatformLemmas

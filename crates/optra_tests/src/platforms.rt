@@ -1,0 +1,124 @@
+//! Rows of platforms, at values worked by hand.
+ghost use Rattle.std.specs.Prelude.{◌≡◌};
+ghost use Rattle.optra_walk.specs.Legs.{dwell_of};
+
+use crate::crossings::{add_headways, line};
+use optra_network::{Network, StationId, TrackId, TypeId};
+use optra_platform::{PRow, PlatformRows};
+use optra_walk::{Action, Leg, RowFamily};
+use std::process::Abort;
+use std::test::Fail;
+
+const IC: TypeId = TypeId(0);
+
+fn dwell(action: Action) -> u16
+    ensures { result ≡ dwell_of action }
+{
+    match action {
+        Action::Halt(dwell) | Action::Wait(dwell) => dwell,
+        Action::Pass | Action::Finish => 0,
+    }
+}
+
+fn leg(track: u16, depart: u16, action: Action) -> Leg
+    ensures { result ≡ record { track = record { 0 = track }; depart = depart; from_halt = true; action = action } }
+{
+    Leg {
+        track: TrackId(track),
+        depart,
+        from_halt: true,
+        action,
+    }
+}
+
+/// The row at a place of those that a leg uses.
+fn touched(
+    rt: &impl Abort,
+    net: &Network,
+    track: u16,
+    depart: u16,
+    action: Action,
+    k: u32,
+) -> Option<PRow> {
+    assert!(rt; depart <= 2879);
+    assert!(rt; dwell(action) <= 240);
+    assert!(rt; net.run(TrackId(track), IC, false, false).is_some());
+    PlatformRows::new().touched(net, IC, leg(track, depart, action), k)
+}
+
+/// A track, a departure, what the train does at its head ten minutes later, and the minute of the row at a place. Track 0
+/// leads to a station where one train may stand, track 1 to one without a limit.
+static TOUCHED: [(u16, u16, Action, u32, Option<u16>); 14] = [
+    (0, 0, Action::Halt(5), 0, Some(10)),
+    (0, 0, Action::Halt(5), 4, Some(14)),
+    (0, 0, Action::Halt(5), 5, None),
+    (0, 0, Action::Halt(0), 0, None),
+    (0, 7, Action::Wait(1), 0, Some(17)),
+    (0, 7, Action::Wait(1), 1, None),
+    (0, 0, Action::Pass, 0, None),
+    (0, 0, Action::Finish, 0, None),
+    (0, 0, Action::Halt(240), 239, Some(249)),
+    (0, 0, Action::Halt(240), 240, None),
+    (0, 2869, Action::Halt(240), 0, Some(2879)),
+    (0, 2869, Action::Halt(240), 1, None),
+    (0, 2870, Action::Halt(240), 0, None),
+    (1, 0, Action::Halt(5), 0, None),
+];
+
+#[test]
+fn a_leg_uses_the_minutes_in_which_it_stands(rt: HostRuntime) -> Result<(), Fail> {
+    let mut net = line(&rt, rt.alloc())?;
+    add_headways(&mut net)?;
+    let net = net.finish()?;
+    for (track, depart, action, k, minute) in &TOUCHED {
+        let row = touched(&rt, &net, *track, *depart, *action, *k);
+        let want = minute.map(|minute| PRow {
+            station: StationId(1),
+            minute,
+        });
+        assert_eq!(rt; row, want, "{track} {depart} {k}");
+    }
+    Ok(())
+}
+
+/// How much a halt of 5 minutes at the limited station, from minute 10 on, uses of a row.
+fn used(rt: &impl Abort, net: &Network, station: u16, minute: u16) -> u32 {
+    let action = Action::Halt(5);
+    assert!(rt; dwell(action) <= 240);
+    assert!(rt; net.run(TrackId(0), IC, false, false).is_some());
+    let row = PRow {
+        station: StationId(station),
+        minute,
+    };
+    PlatformRows::new().leg_use(net, IC, leg(0, 0, action), row)
+}
+
+#[test]
+fn a_station_has_rows_up_to_its_limit(rt: HostRuntime) -> Result<(), Fail> {
+    let mut net = line(&rt, rt.alloc())?;
+    add_headways(&mut net)?;
+    let net = net.finish()?;
+    assert_eq!(rt; used(&rt, &net, 1, 9), 0);
+    assert_eq!(rt; used(&rt, &net, 1, 10), 1);
+    assert_eq!(rt; used(&rt, &net, 1, 14), 1);
+    assert_eq!(rt; used(&rt, &net, 1, 15), 0);
+    assert_eq!(rt; used(&rt, &net, 0, 10), 0);
+    let rows = PlatformRows::new();
+    let row = PRow {
+        station: StationId(1),
+        minute: 2879,
+    };
+    assert!(rt; rows.is_row(&net, row));
+    assert_eq!(rt; rows.cap(&net, row), 1);
+    let late = PRow {
+        minute: 2880,
+        ..row
+    };
+    assert!(rt; !rows.is_row(&net, late));
+    let free = PRow {
+        station: StationId(0),
+        ..row
+    };
+    assert!(rt; !rows.is_row(&net, free));
+    Ok(())
+}
