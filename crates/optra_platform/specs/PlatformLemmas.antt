@@ -1,6 +1,7 @@
 -- The laws of the rows of platforms.
-use Rattle.std.proofs.Common.{◌≡◌, ℕ, zero, suc, ◌+◌, ◌-◌, ◌<◌, ◌≤◌, ◌&&◌, ◌↔◌, min, Bool, true, false, cond, nat_eq, nat_lt, nat_le, Option, Some, None, IsSome, List, [], map, length, get_or, sum_by, refl, sym, ap, ◌∙◌, subst, arith, rules, true≢false}
+use Rattle.std.proofs.Common.{◌≡◌, ℕ, zero, suc, ◌+◌, ◌-◌, ◌<◌, ◌≤◌, ◌&&◌, ◌↔◌, min, Bool, true, false, cond, nat_eq, nat_lt, nat_le, Option, Some, None, IsSome, List, [], map, length, get_or, sum_by, refl, sym, ap, ◌∙◌, subst, arith, rules, true≢false, ◌||◌, not}
 use Rattle.std.proofs.lemmas.Bool.{ltb-true, leb-true, eqb-true, lt-ltb, le-leb, eq-eqb, and_parts, and_from, false_from_ne_true}
+use Rattle.std.proofs.lemmas.List.{nil_from_length}
 use Rattle.std.proofs.lemmas.List.FromFn.{length-map-range_with_len}
 use Rattle.std.proofs.lemmas.List.Sums.{sum_by-le}
 use Rattle.std.proofs.lemmas.Map.Lookups.{exact_unsigned}
@@ -16,7 +17,7 @@ use Rattle.optra_network.specs.declared.Times.{Times}
 use Rattle.optra_network.specs.declared.TypeId.{TypeId}
 use Rattle.optra_network.proofs.MemberLemmas.{In, in_from, contains_from, all_from_in, in_map, in_map_from, in_range, in_range_from}
 use Rattle.optra_network.proofs.ReadLemmas.{halt_most}
-use Rattle.optra_walk.specs.Families.{Ascends, Entry, FitRows, IsUsable, ListsRows, TellsApart}
+use Rattle.optra_walk.specs.Families.{Ascends, Entry, FitRows, IsUsable, ListsRows, TellsApart, UseAlike}
 use Rattle.optra_walk.specs.Legs.{after_action, arrival_of, dwell_of, next_depart_of}
 use Rattle.optra_walk.specs.Rules.{KeepsHalts, head_of, is_standing, stands_at}
 use Rattle.optra_walk.specs.declared.Action.{Action}
@@ -24,7 +25,7 @@ use Rattle.optra_walk.specs.declared.Action.TheVariants.{Pass, Halt, Wait, Finis
 use Rattle.optra_walk.specs.declared.Leg.{Leg}
 use Rattle.optra_platform.specs.declared.PRow.{PRow}
 use Rattle.optra_platform.specs.contracts.PRowOrd.TheImpl.{ghosts}
-use Rattle.optra_platform.specs.Platforms.{is_row_of, uses_row, use_in, platform_rows, row_at, rows_between, rows_from, rows_of_stay, standing_rows}
+use Rattle.optra_platform.specs.Platforms.{is_row_of, uses_row, use_in, is_free, platform_rows, row_at, rows_between, rows_from, rows_of_stay, standing_rows}
 
 -- the order of rows
 abbrev pub row_cmp : PRow → PRow → Ordering
@@ -219,6 +220,35 @@ unusable_none net kind leg row may_not =
     ap (λ b. cond b 1 0) (false_from_ne_true (uses_row net kind leg row) (λ e.
     never_stays leg.action (head_of net leg.track) row
     (subst (λ (o : Option ℕ). stays leg.action (head_of net leg.track) o row ≡ true) none (and_parts (is_row_of net row) (stands_at net kind leg row.station row.minute) e).1)))
+
+-- ---- legs that use no row
+
+free_stay : (net : Net) (action : Action) (head : Option StationId) (arrival : Option ℕ)
+    → (not (is_standing action) || option_map_or (λ s. nat_eq (halt_max_of net s) 0) head true) ≡ true → rows_of_stay net head arrival (after_action action arrival) ≡ []
+free_stay net Pass head arrival h = nil_from_length _ (let f = few_rows net Pass head arrival in omega arith)
+free_stay net Finish head arrival h = nil_from_length _ (let f = few_rows net Finish head arrival in omega arith)
+free_stay net (Halt dwell) None arrival h = refl
+free_stay net (Halt dwell) (Some s) None h = refl
+free_stay net (Halt dwell) (Some s) (Some a) h = ap (λ n. cond (nat_lt 0 n) (rows_between s a (a + dwell)) []) (eqb-true _ _ h)
+free_stay net (Wait dwell) None arrival h = refl
+free_stay net (Wait dwell) (Some s) None h = refl
+free_stay net (Wait dwell) (Some s) (Some a) h = ap (λ n. cond (nat_lt 0 n) (rows_between s a (a + dwell)) []) (eqb-true _ _ h)
+
+pub free_rows : (net : Net) (kind : TypeId) (leg : Leg) → is_free net leg ≡ true → standing_rows net kind leg ≡ []
+free_rows net kind leg h = free_stay net leg.action (head_of net leg.track) (arrival_of net kind leg) h
+
+pub free_uses : (net : Net) (kind : TypeId) (leg : Leg) (row : PRow) → is_free net leg ≡ true → use_in net kind leg row ≡ 0
+free_uses net kind leg row h =
+    ap (λ b. cond b 1 0) (false_from_ne_true (uses_row net kind leg row) (λ e.
+    let u = and_parts (is_row_of net row) (stands_at net kind leg row.station row.minute) e in
+    let inside : In row (standing_rows net kind leg) = in_rows net leg.action (head_of net leg.track) (arrival_of net kind leg) row u.0 u.1 in
+    subst (λ (rows : List PRow). In row rows) (free_rows net kind leg h) inside))
+
+-- two legs that use none use alike
+pub free_alike : (net : Net) (kind : TypeId) (first second : Leg) → is_free net first ≡ true → is_free net second ≡ true
+    → UseAlike (platform_rows net) (standing_rows net) kind first second
+free_alike net kind first second f s =
+    ((λ row. free_uses net kind first row f ∙ sym (free_uses net kind second row s)), free_rows net kind first f ∙ sym (free_rows net kind second s))
 
 -- legs keep the halt rule exactly where they use no row above its capacity
 pub halts_by_rows : (net : Net) (entries : List Entry) → KeepsHalts net entries ↔ FitRows (platform_rows net) entries

@@ -1,5 +1,5 @@
 -- Rows of platforms: which there are, and which legs use them.
-use Rattle.std.specs.Prelude.{ℕ, ◌-◌, ◌<◌, ◌≤◌, ◌&&◌, nat_lt, nat_le, min, Bool, List, [], map, Option, if◌then◌else◌}
+use Rattle.std.specs.Prelude.{ℕ, ◌-◌, ◌<◌, ◌≤◌, ◌&&◌, ◌||◌, not, true, nat_eq, nat_lt, nat_le, min, Bool, List, [], map, Option, if◌then◌else◌}
 use Rattle.std.specs.List.{range_with_len}
 use Rattle.std.specs.Option.{option_map_or}
 use Rattle.optra_network.specs.Net.{Net, halt_max_of}
@@ -8,7 +8,7 @@ use Rattle.optra_network.specs.declared.TypeId.{TypeId}
 use Rattle.optra_walk.specs.declared.Leg.{Leg}
 use Rattle.optra_walk.specs.Families.{Rows}
 use Rattle.optra_walk.specs.Legs.{arrival_of, next_depart_of}
-use Rattle.optra_walk.specs.Rules.{head_of, stands_at}
+use Rattle.optra_walk.specs.Rules.{head_of, is_standing, stands_at}
 use Rattle.optra_platform.specs.declared.PRow.{PRow}
 
 -- the rows: the stations with a limit, and the minutes of the two days
@@ -50,3 +50,7 @@ rows_of_stay net head arrival departure = option_map_or (λ s. option_map_or (λ
 -- the rows that a leg uses, ascending
 abbrev pub standing_rows : Net → TypeId → Leg → List PRow
 standing_rows net kind leg = rows_of_stay net (head_of net leg.track) (arrival_of net kind leg) (next_depart_of net kind leg)
+
+-- whether a leg uses no row whatever its times are: it stands nowhere, or its station has no limit
+abbrev pub is_free : Net → Leg → Bool
+is_free net leg = not (is_standing leg.action) || option_map_or (λ s. nat_eq (halt_max_of net s) 0) (head_of net leg.track) true

@@ -1,8 +1,9 @@
 //! The rows of platforms, as a family.
-ghost use Rattle.std.specs.Prelude.{◌≡◌, ◌+◌, ◌-◌, ◌↔◌, min, nat_eq, nat_le, nat_lt, false, slice_get, IsTrue};
+ghost use Rattle.std.specs.Prelude.{◌≡◌, ◌+◌, ◌-◌, ◌↔◌, min, nat_eq, nat_le, nat_lt, false, slice_get, IsTrue, true};
 ghost use Rattle.std.specs.Option.{option_map_or};
+ghost use Rattle.optra_network.specs.Net.{halt_max_of};
 ghost use Rattle.optra_walk.specs.Rules.{head_of, is_standing, stands_at};
-ghost use Rattle.optra_platform.specs.Platforms.{IsPlatformRow, is_row_of, rows_between};
+ghost use Rattle.optra_platform.specs.Platforms.{IsPlatformRow, is_free, is_row_of, rows_between};
 
 use crate::PRow;
 use optra_network::{Minute, Network, StationId, TrackId, TypeId};
@@ -74,6 +75,27 @@ impl RowFamily for PlatformRows {
             return None;
         }
         row_between(station, from, until, k)
+    }
+
+    /// Legs that use no row whatever their times are use alike.
+    fn use_alike(&self, net: &Network, _kind: TypeId, first: Leg, second: Leg) -> bool {
+        is_free(net, first) && is_free(net, second)
+    }
+}
+
+/// Whether the leg stands nowhere, or at a station without a limit.
+fn is_free(net: &Network, leg: Leg) -> bool
+    ensures { result ≡ is_free net.now leg }
+{
+    !is_standing(leg.action) || has_no_limit(net, head(net, leg.track))
+}
+
+fn has_no_limit(net: &Network, head: Option<StationId>) -> bool
+    ensures { result ≡ option_map_or (λ s. nat_eq (halt_max_of net.now s) 0) head true }
+{
+    match head {
+        Some(station) => net.halt_max(station) == 0,
+        None => true,
     }
 }
 
