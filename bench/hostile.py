@@ -11,6 +11,7 @@ and each round's certificate has to be confirmed. At the first difference it kee
 """
 import os
 import random
+import resource
 import shutil
 import subprocess
 import sys
@@ -28,6 +29,7 @@ CHECK = ["check", *WORDS, "--cert", "c.csv"]
 AUCTION = ["auction", *WORDS, "--rules", "rules.csv", "--actions", "actions.csv", "--certs", "p"]
 MOST_BYTES = 20_000
 SECONDS = 1.0
+MOST_SECONDS = 20
 
 # Cells at the ends of ranges and of forms.
 NUMBERS = [b"0", b"1", b"2", b"3", b"16", b"30", b"31", b"60", b"100", b"120", b"121", b"240", b"241", b"999", b"1000", b"1001", b"2878",
@@ -191,18 +193,16 @@ def lay(folder, files):
 
 
 def ran(program, folder, words):
-    """The status, the output, the error line and the processor seconds of a run; the status is None where it had to be ended."""
+    """The status, the output, the error line and the processor seconds of a run; one that takes far too long is ended by the system."""
     with open(f"{folder}/out", "wb") as out, open(f"{folder}/err", "wb") as err:
         process = subprocess.Popen([program, *words], cwd=folder, stdout=out, stderr=err)
-        # A run that takes long on the clock alone, since others use the machine, is no fault.
-        timer = 60
         try:
-            process.wait(timer)
-        except subprocess.TimeoutExpired:
-            process.kill()
-            process.wait()
-            return None, b"", b"", float(timer)
-    return process.returncode, reader.read(f"{folder}/out"), reader.read(f"{folder}/err"), 0.0
+            resource.prlimit(process.pid, resource.RLIMIT_CPU, (MOST_SECONDS, MOST_SECONDS))
+        except ProcessLookupError:
+            pass
+        _, ended, use = os.wait4(process.pid, 0)
+        process.returncode = os.waitstatus_to_exitcode(ended)
+    return process.returncode, reader.read(f"{folder}/out"), reader.read(f"{folder}/err"), use.ru_utime + use.ru_stime
 
 
 def expected(files, words):
@@ -252,9 +252,9 @@ def auction_fault(folder, status, out, net):
 
 def difference(program, folder, files, words, seen):
     """What is wrong with a run, or None."""
-    status, out, err, _ = result = timed(program, folder, words)
-    if result[3] > SECONDS:
-        return f"took {result[3]:.2f} seconds"
+    status, out, err, seconds = ran(program, folder, words)
+    if seconds > SECONDS:
+        return f"took {seconds:.2f} seconds"
     (want_status, want_out, want_err), known = expected(files, words)
     seen[f"{words[0]} {status}"] += 1
     if known:
@@ -266,15 +266,6 @@ def difference(program, folder, files, words, seen):
     if (status, out, err) != (want_status, want_out, want_err):
         return f"status {status}, out {out[:200]}, err {err[:200]}; the reader: {want_status}, {want_out}, {want_err}"
     return None
-
-
-def timed(program, folder, words):
-    """A run with its processor seconds."""
-    before = os.times()
-    status, out, err, seconds = ran(program, folder, words)
-    after = os.times()
-    used = after.children_user - before.children_user + after.children_system - before.children_system
-    return status, out, err, max(seconds, used)
 
 
 def main(program, count, seed):

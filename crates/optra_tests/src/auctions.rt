@@ -156,7 +156,8 @@ fn specs(alloc: Global) -> Result<Vec<Bid>, ReadError>
     let bids =
         "bid,bidder,type,origin,destination,depart_from,depart_ideal,depart_to,arrive_from,arrive_ideal,arrive_to,base,early_depart,late_depart,early_arrive,late_arrive,travel,wait,wait_max\ns1,ann,ic,A,B,2,2,2,0,16,60,500,0,0,0,0,0,0,0\ns2,ann,ic,A,B,20,20,20,0,34,60,1100,0,0,0,0,0,0,0\n";
     let stops = "bid,station,min_dwell,max_dwell,arrive_from,arrive_to\n";
-    read_bids(alloc, &net, bids.as_bytes(), stops.as_bytes())
+    let specs = read_bids(alloc, &net, bids.as_bytes(), stops.as_bytes())?;
+    Ok(specs)
 }
 
 /// Takes the actions of a round and closes it, where the auction isn't closed.
