@@ -1,5 +1,5 @@
 -- A table that is filled place by place, from late to early.
-use Rattle.std.proofs.Common.{◌≡◌, ℕ, ◌+◌, ◌≤◌, ◌<◌, ◌⊎◌, inl, inr, List, ◌∷◌, length, Option, None, sym, ap, ◌∙◌, Bool, true, false, ◌-◌, refl, true≢false, subst, arith, slice_set, slice_index_or}
+use Rattle.std.proofs.Common.{◌≡◌, ℕ, zero, suc, ◌+◌, ◌≤◌, ◌<◌, ◌⊎◌, inl, inr, List, ◌∷◌, length, Option, None, sym, ap, ◌∙◌, Bool, true, false, ◌-◌, refl, true≢false, subst, arith, slice_set, slice_index_or}
 use Rattle.std.specs.Prelude.{ℤ, ◌&&◌, nat_lt, nat_le, slice_index, if◌then◌else◌}
 use Rattle.std.proofs.lemmas.Bool.{cases_lt, lt-ltb}
 use Rattle.std.proofs.lemmas.Bool.Decides.{nat_tests}
@@ -17,7 +17,7 @@ use Rattle.optra_checker.specs.Places.{IsPlaced, IsSmall, slot_of, spot_at, plac
 use Rattle.optra_checker.specs.Settings.{IsSetting}
 use Rattle.optra_checker.specs.Rests.{IsBestRest, AnyLeg}
 use Rattle.optra_checker.specs.declared.reach.Reach.{Reach}
-use Rattle.optra_checker.specs.Reaches.{IsReach, IsReached, IsInTime}
+use Rattle.optra_checker.specs.Reaches.{IsReach, IsReached, IsInTime, IsNear, IsWithoutFar}
 use Rattle.optra_checker.specs.Tables.{IsTable, IsFilled, IsReadyFor, HasBest, entry_at, rest_at, end_of, is_early}
 use Rattle.optra_checker.proofs.HorizonLemmas.{after_later, rest_before}
 use Rattle.optra_checker.proofs.ReachLemmas.{reached_after, rest_in_time}
@@ -90,6 +90,36 @@ module _ (w : Weights) (net : Net) (bid : Bid) where
           | inr l ↦ h.each s placed l reached early
         ];
   }
+
+  -- the stations behind so many, to which no train comes
+  pub filled_far : (table : RestTable) (minute left more : ℕ) → table.layout.first ≤ minute → left + more ≤ table.layout.stations
+      → ((station : ℕ) → left ≤ station → station < left + more → IsNear bid.path table.reach.from_origin.items table.reach.to_destination.items station → ⊥)
+      → IsFilled w net bid table (spot_at table.layout (minute - table.layout.first) (left + more)) → IsFilled w net bid table (spot_at table.layout (minute - table.layout.first) left)
+  filled_far table minute left zero from within far h =
+      let e : left + zero ≡ left = omega arith in
+      subst (λ (n : ℕ). IsFilled w net bid table (spot_at table.layout (minute - table.layout.first) n)) e h
+  filled_far table minute left (suc more) from within far h =
+      let e : left + suc more ≡ left + more + 1 = omega arith in
+      filled_far table minute left more from (omega (arith, within)) (λ station l b near. far station l (omega (arith, b)) near)
+      (filled_skip table minute (left + more) from (omega (arith, within))
+      (λ s m t reached soon.
+      let near : IsNear bid.path table.reach.from_origin.items table.reach.to_destination.items (left + more) =
+      (let p = ap (λ (n : ℕ). slice_index table.reach.from_origin.items n) t in
+      let q = ap (λ (n : ℕ). slice_index table.reach.to_destination.items n) t in
+      omega (arith, reached, soon, p, q)) in
+      far (left + more) (omega arith) (omega arith) near)
+      (subst (λ (n : ℕ). IsFilled w net bid table (spot_at table.layout (minute - table.layout.first) n)) e h))
+
+  -- so many of the first stations, without the last ones that are far
+  pub filled_without : (table : RestTable) (minute count left : ℕ) → table.layout.first ≤ minute → count ≤ table.layout.stations
+      → IsWithoutFar bid.path table.reach.from_origin.items table.reach.to_destination.items count left
+      → IsFilled w net bid table (spot_at table.layout (minute - table.layout.first) count) → IsFilled w net bid table (spot_at table.layout (minute - table.layout.first) left)
+  filled_without table minute count left from within is h =
+      let fewer = is.fewer in
+      let e : count ≡ left + (count - left) = omega (arith, fewer) in
+      filled_far table minute left (count - left) from (omega (arith, within, fewer))
+      (λ station l b near. is.far station l (omega (arith, b, fewer)) near)
+      (subst (λ (n : ℕ). IsFilled w net bid table (spot_at table.layout (minute - table.layout.first) n)) e h)
 
   -- one more place
   pub filled_more : (table after : RestTable) (here : State) (rest : Option ℤ) → IsPlaced table.layout here → IsFilled w net bid table (place_of table.layout here + 1)

@@ -34,10 +34,25 @@ pub record AreLeast (net : Net) (kind : TypeId) (back : Bool) (at : StationId) (
   pub zero : slice_index least at.0 ≡ 0
   pub each : (n : ℕ) → n < length net.tracks → IsLeastAlong net kind back least (track_id n)
 
--- from the origin of the path, and on to its destination
+-- a train may come to the station, and still end its walk in time
+abbrev pub IsNear : Path → List ℕ → List ℕ → ℕ → Type 0
+IsNear path from on station = path.depart.from + slice_index from station + slice_index on station ≤ path.arrive.to
+
+-- so many of the first stations, without some of the last ones, all of which are far
+pub record IsWithoutFar (path : Path) (from on : List ℕ) (count left : ℕ) : Type 0 where
+  pub fewer : left ≤ count
+  pub far : (station : ℕ) → left ≤ station → station < count → IsNear path from on station → ⊥
+
+-- for each number of first stations, how many are left without the last ones that are far
+pub record SkipsFar (path : Path) (from on skips : List ℕ) : Type 0 where
+  pub len : length skips ≡ length from + 1
+  pub each : (count : ℕ) → count ≤ length from → IsWithoutFar path from on count (slice_index skips count)
+
+-- from the origin of the path, and on to its destination; and which stations are far
 pub record IsReach (net : Net) (path : Path) (reach : Reach) : Type 0 where
   pub from : AreLeast net path.kind false path.origin reach.from_origin.items
   pub on : AreLeast net path.kind true path.destination reach.to_destination.items
+  pub far : SkipsFar path reach.from_origin.items reach.to_destination.items reach.skips.items
 
 -- a train may be there by then
 abbrev pub IsReached : Path → Reach → State → Type 0

@@ -1,9 +1,9 @@
 //! Which states may come into a walk, by the minutes that trains take at least between stations.
-ghost use Rattle.std.specs.Prelude.{◌≡◌, ◌≤◌, ◌<◌, ◌↔◌, length, sum, ℕ, false, true, Some, slice_get, slice_index, IfOk, IsTrue};
+ghost use Rattle.std.specs.Prelude.{◌≡◌, ◌+◌, ◌≤◌, ◌<◌, ◌↔◌, length, sum, ℕ, false, true, Some, slice_get, slice_index, IfOk, IsTrue};
 ghost use Rattle.optra_network.specs.Net.{IsStation, track_id};
 ghost use Rattle.std.specs.Option.{option_map};
 ghost use Rattle.optra_bid.specs.Specs.{IsPathOn};
-ghost use Rattle.optra_checker.specs.Reaches.{near_of, far_of, IsQuickest, IsLeastAlong, AreLeast, IsReach, IsReached, IsInTime};
+ghost use Rattle.optra_checker.specs.Reaches.{near_of, far_of, IsQuickest, IsLeastAlong, AreLeast, IsNear, IsWithoutFar, SkipsFar, IsReach, IsReached, IsInTime};
 
 use crate::states::State;
 use optra_bid::Bid;
@@ -18,6 +18,8 @@ const NEVER: u16 = u16::MAX;
 pub(crate) struct Reach {
     pub from_origin: Vec<u16>,
     pub to_destination: Vec<u16>,
+    /// For each number of first stations, how many they are without the last ones to which no train of the bid comes.
+    pub skips: Vec<u16>,
 }
 
 /// The least minutes of the type on the track, over the modes at its ends.
@@ -129,6 +131,37 @@ fn least_minutes(
     Ok(least)
 }
 
+/// Whether a train of the bid may come to a station that is so far from both ends, and still end its walk in time.
+fn is_near(bid: &Bid, from_origin: u16, to_destination: u16) -> bool
+    ensures { IsTrue result ↔ (bid.now.path.depart.from + from_origin + to_destination ≤ bid.now.path.arrive.to) }
+{
+    let path = &bid.path;
+    u32::from(path.depart.from) + u32::from(from_origin) + u32::from(to_destination)
+        <= u32::from(path.arrive.to)
+}
+
+/// For each number of first stations, how many they are without the last ones that are far.
+fn skip_far(
+    alloc: Global,
+    bid: &Bid,
+    from_origin: &[u16],
+    to_destination: &[u16],
+) -> Result<Vec<u16>, NoMemory>
+    requires same { length to_destination.now ≡ length from_origin.now }
+    requires few { length from_origin.now ≤ 300 }
+    ensures { IfOk result (λ skips. SkipsFar bid.now.path from_origin.now to_destination.now skips.items) }
+{
+    let mut skips = vec![in alloc; 0; 1]?;
+    let mut near = 0;
+    'stations: for (station, minutes) in from_origin.iter().enumerate() {
+        if is_near(bid, *minutes, to_destination[station]) {
+            near = station as u16 + 1;
+        }
+        skips.push(near)?;
+    }
+    Ok(skips)
+}
+
 /// The least minutes between the bid's ends and each station.
 pub(crate) fn make_reach(alloc: Global, net: &Network, bid: &Bid) -> Result<Reach, NoMemory>
     requires { IsPathOn net.now bid.now.path }
@@ -137,9 +170,11 @@ pub(crate) fn make_reach(alloc: Global, net: &Network, bid: &Bid) -> Result<Reac
     let path = &bid.path;
     let from_origin = least_minutes(alloc, net, path.kind, false, path.origin)?;
     let to_destination = least_minutes(alloc, net, path.kind, true, path.destination)?;
+    let skips = skip_far(alloc, bid, &from_origin, &to_destination)?;
     Ok(Reach {
         from_origin,
         to_destination,
+        skips,
     })
 }
 
@@ -156,5 +191,15 @@ impl Reach {
         let on = u32::from(self.to_destination[station]);
         u32::from(bid.path.depart.from) + from <= minute
             && minute + on <= u32::from(bid.path.arrive.to)
+    }
+
+    /// How many of so many first stations are left without the last ones that are far.
+    pub(crate) fn without_far(&self, bid: &Bid, count: u16) -> u16
+        requires far { SkipsFar bid.now.path self.now.from_origin.items self.now.to_destination.items self.now.skips.items }
+        requires count { count ≤ length self.now.from_origin.items }
+        ensures { IsWithoutFar bid.now.path self.now.from_origin.items self.now.to_destination.items count result }
+    {
+        let _ = bid;
+        self.skips[count as usize]
     }
 }

@@ -35,6 +35,7 @@ impl RestTable {
             reach: Reach {
                 from_origin: Vec::new(alloc),
                 to_destination: Vec::new(alloc),
+                skips: Vec::new(alloc),
             },
             rests: Vec::new(alloc),
         }

@@ -90,10 +90,11 @@ fn fill_minute<W: Weighing>(
     ensures asks { AreAsked (W.weights weighing.now) asks.new }
     ensures layout { table.new.layout ≡ table.old.layout }
 {
-    let mut left = table.layout.stations;
+    let mut left = table.reach.without_far(bid, table.layout.stations);
     'stations: while left > 0 {
-        left -= 1;
-        fill_spot(net, bid, weighing, asks, table, minute, StationId(left));
+        let station = left - 1;
+        fill_spot(net, bid, weighing, asks, table, minute, StationId(station));
+        left = table.reach.without_far(bid, station);
     }
 }
 
