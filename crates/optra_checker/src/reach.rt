@@ -54,6 +54,9 @@ fn lower_by(net: &Network, kind: TypeId, back: bool, least: &mut [u16], track: T
     ensures no_more { (k : ℕ) → slice_index least.new k ≤ slice_index least.old k }
 {
     let (near, far) = ends(net, track, back);
+    if least[far.0 as usize] <= least[near.0 as usize] {
+        return false;
+    }
     let Some(minutes) = quickest(net, track, kind) else {
         return false;
     };
@@ -109,9 +112,11 @@ fn lower(net: &Network, kind: TypeId, back: bool, least: &mut [u16]) -> bool
     ensures stays { result ≡ false → (n : ℕ) → n < length net.now.tracks → IsLeastAlong net.now kind back least.new (track_id n) }
     ensures no_more { (k : ℕ) → slice_index least.new k ≤ slice_index least.old k }
 {
-    let on = lower_on(net, kind, back, least);
-    let down = lower_down(net, kind, back, least);
-    on || down
+    if !lower_on(net, kind, back, least) {
+        return false;
+    }
+    let _ = lower_down(net, kind, back, least);
+    true
 }
 
 /// For each station the least minutes of trains of the type from a station to it, or back from it.
@@ -144,18 +149,20 @@ fn is_near(bid: &Bid, from_origin: u16, to_destination: u16) -> bool
 fn skip_far(
     alloc: Global,
     bid: &Bid,
+    count: u16,
     from_origin: &[u16],
     to_destination: &[u16],
 ) -> Result<Vec<u16>, NoMemory>
     requires same { length to_destination.now ≡ length from_origin.now }
-    requires few { length from_origin.now ≤ 300 }
+    requires count { length from_origin.now ≡ count }
     ensures { IfOk result (λ skips. SkipsFar bid.now.path from_origin.now to_destination.now skips.items) }
 {
     let mut skips = vec![in alloc; 0; 1]?;
     let mut near = 0;
-    'stations: for (station, minutes) in from_origin.iter().enumerate() {
-        if is_near(bid, *minutes, to_destination[station]) {
-            near = station as u16 + 1;
+    'stations: for station in 0..count {
+        let place = station as usize;
+        if is_near(bid, from_origin[place], to_destination[place]) {
+            near = station + 1;
         }
         skips.push(near)?;
     }
@@ -170,7 +177,13 @@ pub(crate) fn make_reach(alloc: Global, net: &Network, bid: &Bid) -> Result<Reac
     let path = &bid.path;
     let from_origin = least_minutes(alloc, net, path.kind, false, path.origin)?;
     let to_destination = least_minutes(alloc, net, path.kind, true, path.destination)?;
-    let skips = skip_far(alloc, bid, &from_origin, &to_destination)?;
+    let skips = skip_far(
+        alloc,
+        bid,
+        net.station_count(),
+        &from_origin,
+        &to_destination,
+    )?;
     Ok(Reach {
         from_origin,
         to_destination,
