@@ -12,6 +12,8 @@ use Rattle.optra_bid.specs.Specs.{Path}
 use Rattle.optra_checker.specs.Weights.{Weights}
 use Rattle.optra_checker.specs.declared.states.State.{State}
 use Rattle.optra_checker.specs.declared.states.Layout.{Layout}
+use Rattle.optra_checker.specs.declared.ways.Way.{Way}
+use Rattle.optra_checker.specs.Ways.{IsWay, IsOn}
 use Rattle.optra_checker.specs.declared.rest_table.RestTable.{RestTable}
 use Rattle.optra_checker.specs.Places.{IsPlaced, IsSmall, slot_of, spot_at, place_of, places_of}
 use Rattle.optra_checker.specs.Settings.{IsSetting}
@@ -20,7 +22,7 @@ use Rattle.optra_checker.specs.declared.reach.Reach.{Reach}
 use Rattle.optra_checker.specs.Reaches.{IsReach, IsReached, IsInTime, IsNear, IsWithoutFar}
 use Rattle.optra_checker.specs.Tables.{IsTable, IsFilled, IsReadyFor, HasBest, entry_at, rest_at, end_of, is_early}
 use Rattle.optra_checker.proofs.HorizonLemmas.{after_later, rest_before}
-use Rattle.optra_checker.proofs.ReachLemmas.{reached_after, rest_in_time}
+use Rattle.optra_checker.proofs.ReachLemmas.{reached_after, rest_in_time, late_leg}
 use Rattle.optra_checker.proofs.PlaceLemmas.{place_below, place_later, one_place, of_spot}
 
 pub early_before : (table : RestTable) (s : State) → is_early table s ≡ true → s.minute < end_of table
@@ -56,6 +58,18 @@ module _ (w : Weights) (net : Net) (bid : Bid) where
   -- a state from which a walk can't end in time
   pub late_rest : (reach : Reach) (s : State) → IsReach net bid.path reach → (IsInTime bid.path reach s → ⊥) → IsBestRest w net bid s AnyLeg None
   late_rest reach s is late = record { greatest = λ n c. late (rest_in_time net bid.path reach is s (c.0 ∷ c.1) c.3.rest); size = tt }
+
+  -- a track on which no walk may end in time
+  pub late_way : (table : RestTable) (s : State) (way : Way) → IsSetting net bid.path table.layout → IsReach net bid.path table.reach → IsWay net bid.path s way → s.minute < bid.path.arrive.to
+      → end_of table < way.pass + slice_index table.reach.to_destination.items way.head.0 → end_of table < way.halt + slice_index table.reach.to_destination.items way.head.0
+      → IsBestRest w net bid s (IsOn way.track) None
+  late_way table s way setting reach is before pass halt =
+      let f = setting.laid.first in
+      let m = setting.laid.minutes in
+      record {
+        greatest = λ n c. late_leg net bid.path table.reach reach s way c.0 c.1 is c.2 (omega (arith, pass, f, m, before)) (omega (arith, halt, f, m, before)) c.3.rest;
+        size = tt;
+      }
 
   -- a state that is not too late
   pub early_time : (table : RestTable) (s : State) → IsSetting net bid.path table.layout → IsPlaced table.layout s → is_early table s ≡ true → IsInTime bid.path table.reach s

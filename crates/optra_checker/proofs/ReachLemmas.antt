@@ -1,9 +1,10 @@
 -- Which states come into walks: those that are reached lead to such, and a state that is too late has no rest.
-use Rattle.std.proofs.Common.{◌≡◌, ℕ, ◌+◌, ◌≤◌, inl, inr, Bool, not, List, [], ◌∷◌, Option, None, Some, IsSomeAnd, slice_get, slice_index, refl, ap, subst, arith}
+use Rattle.std.proofs.Common.{◌≡◌, ℕ, ◌+◌, ◌≤◌, ◌<◌, ◌⊎◌, ◌∙◌, inl, inr, Bool, false, not, sym, List, [], ◌∷◌, Option, None, Some, IsSomeAnd, slice_get, slice_index, refl, ap, subst, arith}
 use Rattle.std.specs.Option.{option_map}
 use Rattle.std.proofs.lemmas.Option.{slice_get_within}
 use Rattle.optra_network.specs.Net.{Net, IsFromTo, times_of, minutes_by}
 use Rattle.optra_network.specs.declared.StationId.{StationId}
+use Rattle.optra_network.specs.declared.TrackId.{TrackId}
 use Rattle.optra_network.specs.declared.TypeId.{TypeId}
 use Rattle.optra_network.specs.declared.Track.{Track}
 use Rattle.optra_network.specs.declared.Times.{Times}
@@ -16,7 +17,9 @@ use Rattle.optra_walk.specs.Walks.{tail_of, head_of}
 use Rattle.optra_checker.specs.declared.states.State.{State}
 use Rattle.optra_checker.specs.declared.reach.Reach.{Reach}
 use Rattle.optra_checker.specs.Reaches.{IsReach, IsReached, IsInTime}
+use Rattle.optra_checker.specs.declared.ways.Way.{Way}
 use Rattle.optra_checker.specs.Rests.{FitsAction, IsMove, IsAfter, IsRest}
+use Rattle.optra_checker.specs.Ways.{IsWay, leg_by}
 
 track_there : (tracks : List Track) (n : ℕ) (s : StationId) → option_map (λ (t : Track). t.tail) (slice_get tracks n) ≡ Some s → (t : Track) × (slice_get tracks n ≡ Some t) × (t.tail ≡ s)
 track_there tracks n s e = by (slice_get tracks n) refl e
@@ -110,3 +113,50 @@ module _ (net : Net) (path : Path) (reach : Reach) (is : IsReach net path reach)
       let l = at.2 in
       let n = k.1 in
       omega arith
+
+  -- a leg by a way on which no walk may end in time has no rest
+  pub late_leg : (s : State) (way : Way) (leg : Leg) (legs : List Leg) → IsWay net path s way → leg.track ≡ way.track
+      → path.arrive.to < way.pass + slice_index reach.to_destination.items way.head.0 → path.arrive.to < way.halt + slice_index reach.to_destination.items way.head.0
+      → IsRest net path s (leg ∷ legs) → ⊥
+  late_leg s way leg legs w on pass halt (m, goes) = by goes
+    where
+      arrives : (n : ℕ) → arrival_of net path.kind leg ≡ Some n → path.arrive.to < n + slice_index reach.to_destination.items way.head.0
+      arrives n e = by leg.action refl
+        where
+          same : (a : Action) → leg.action ≡ a → leg ≡ leg_by s way.track a
+          same a e = λ i. record { track = on i; depart = m.time i; from_halt = m.mode i; action = e i }
+
+          at : (n k : ℕ) → Some n ≡ Some k → n ≡ k
+          at n k e = cc
+
+          halts : (a : Action) → is_pass a ≡ false → leg.action ≡ a → n ≡ way.halt
+          halts a h f = at n way.halt (sym e ∙ ap (arrival_of net path.kind) (same a f) ∙ ap (λ b. option_map (λ (times : Times). s.minute + minutes_by s.halted (not b) times) (times_of net way.track path.kind)) h ∙ w.halt)
+
+          by : (a : Action) → leg.action ≡ a → path.arrive.to < n + slice_index reach.to_destination.items way.head.0
+          by Pass f = let k : n ≡ way.pass = at n way.pass (sym e ∙ ap (arrival_of net path.kind) (same Pass f) ∙ w.pass) in omega (arith, k, pass)
+          by (Halt d) f = let k = halts (Halt d) refl f in omega (arith, k, halt)
+          by (Wait d) f = let k = halts (Wait d) refl f in omega (arith, k, halt)
+          by Finish f = let k = halts Finish refl f in omega (arith, k, halt)
+
+      head : (x : StationId) → head_of net leg ≡ Some x → x ≡ way.head
+      head x e = at x way.head (sym e ∙ ap (λ (t : TrackId). option_map (λ (t : Track). t.head) (slice_get net.tracks t.0)) on ∙ w.head)
+        where
+          at : (x y : StationId) → Some x ≡ Some y → x ≡ y
+          at x y e = cc
+
+      by : ((leg.action ≡ Finish) × (legs ≡ [])) ⊎ ((after : State) × IsAfter net path s leg after × IsRest net path after legs) → ⊥
+      by (inl f) =
+          let fits : FitsAction net path s.done leg Finish = subst (λ a. FitsAction net path s.done leg a) f.0 m.action in
+          let at = arrival_within (arrival_of net path.kind leg) path.arrive.from path.arrive.to fits.1.time in
+          let l = arrives at.0 at.1 in
+          let h = ap (λ (x : StationId). slice_index reach.to_destination.items x.0) (head path.destination fits.1.place) in
+          let z = is.on.zero in
+          let k = at.2 in
+          omega (arith, l, h, z, k)
+      by (inr f) =
+          let i = rest_in_time f.0 legs f.2 in
+          let at = arrived net path.kind leg f.0.minute f.1.time in
+          let l = arrives at.0 at.1 in
+          let h = ap (λ (x : StationId). slice_index reach.to_destination.items x.0) (head f.0.station f.1.place) in
+          let k = at.2 in
+          omega (arith, i, l, h, k)
