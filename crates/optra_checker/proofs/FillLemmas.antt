@@ -19,10 +19,10 @@ use Rattle.optra_checker.specs.Places.{IsPlaced, IsSmall, slot_of, spot_at, plac
 use Rattle.optra_checker.specs.Settings.{IsSetting}
 use Rattle.optra_checker.specs.Rests.{IsBestRest, AnyLeg}
 use Rattle.optra_checker.specs.declared.reach.Reach.{Reach}
-use Rattle.optra_checker.specs.Reaches.{IsReach, IsReached, IsInTime, IsNear, IsWithoutFar}
+use Rattle.optra_checker.specs.Reaches.{IsReach, IsReached, IsInTime, IsAhead, IsNear, IsWithoutFar}
 use Rattle.optra_checker.specs.Tables.{IsTable, IsFilled, IsReadyFor, HasBest, entry_at, rest_at, end_of, is_early}
 use Rattle.optra_checker.proofs.HorizonLemmas.{after_later, rest_before}
-use Rattle.optra_checker.proofs.ReachLemmas.{reached_after, rest_in_time, late_leg}
+use Rattle.optra_checker.proofs.ReachLemmas.{reached_after, rest_in_time, rest_ahead, late_leg}
 use Rattle.optra_checker.proofs.PlaceLemmas.{place_below, place_later, one_place, of_spot}
 
 pub early_before : (table : RestTable) (s : State) → is_early table s ≡ true → s.minute < end_of table
@@ -58,6 +58,10 @@ module _ (w : Weights) (net : Net) (bid : Bid) where
   -- a state from which a walk can't end in time
   pub late_rest : (reach : Reach) (s : State) → IsReach net bid.path reach → (IsInTime bid.path reach s → ⊥) → IsBestRest w net bid s AnyLeg None
   late_rest reach s is late = record { greatest = λ n c. late (rest_in_time net bid.path reach is s (c.0 ∷ c.1) c.3.rest); size = tt }
+
+  -- a state from which the stops that are left take too long
+  pub ahead_rest : (reach : Reach) (s : State) → IsReach net bid.path reach → s.done ≤ length bid.path.stops → (IsAhead bid.path reach s → ⊥) → IsBestRest w net bid s AnyLeg None
+  ahead_rest reach s is few late = record { greatest = λ n c. late (rest_ahead net bid.path reach is s (c.0 ∷ c.1) few c.3.rest); size = tt }
 
   -- a track on which no walk may end in time
   pub late_way : (table : RestTable) (s : State) (way : Way) → IsSetting net bid.path table.layout → IsReach net bid.path table.reach → IsWay net bid.path s way → s.minute < bid.path.arrive.to

@@ -1,12 +1,12 @@
 //! Which states may come into a walk, by the minutes that trains take at least between stations.
-ghost use Rattle.std.specs.Prelude.{◌≡◌, ◌+◌, ◌≤◌, ◌<◌, ◌↔◌, length, sum, ℕ, false, true, Some, slice_get, slice_index, IfOk, IsTrue};
+ghost use Rattle.std.specs.Prelude.{◌≡◌, ◌+◌, ◌≤◌, ◌<◌, ◌↔◌, length, map, sum, ℕ, false, true, Some, slice_get, slice_index, slice_index_or, [], IfOk, IsTrue};
 ghost use Rattle.optra_network.specs.Net.{IsStation, track_id};
 ghost use Rattle.std.specs.Option.{option_map};
 ghost use Rattle.optra_bid.specs.Specs.{IsPathOn};
-ghost use Rattle.optra_checker.specs.Reaches.{near_of, far_of, IsQuickest, IsLeastAlong, AreLeast, IsNear, IsWithoutFar, SkipsFar, IsReach, IsReached, IsInTime};
+ghost use Rattle.optra_checker.specs.Reaches.{near_of, far_of, IsQuickest, IsLeastAlong, AreLeast, IsNear, IsWithoutFar, SkipsFar, AreAhead, levels_of, IsAhead, IsReach, IsReached, IsInTime};
 
 use crate::states::State;
-use optra_bid::Bid;
+use optra_bid::{Bid, Stop};
 use optra_network::{Network, NoMemory, StationId, TrackId, TypeId};
 use std::alloc::Global;
 
@@ -20,6 +20,8 @@ pub(crate) struct Reach {
     pub to_destination: Vec<u16>,
     /// For each number of first stations, how many they are without the last ones to which no train of the bid comes.
     pub skips: Vec<u16>,
+    /// For each number of stops left, the least minutes from each station on to the destination by way of them.
+    pub ahead: Vec<Vec<u16>>,
 }
 
 /// The least minutes of the type on the track, over the modes at its ends.
@@ -119,19 +121,20 @@ fn lower(net: &Network, kind: TypeId, back: bool, least: &mut [u16]) -> bool
     true
 }
 
-/// For each station the least minutes of trains of the type from a station to it, or back from it.
+/// For each station so many and the least minutes of trains of the type from a station to it, or back from it.
 fn least_minutes(
     alloc: Global,
     net: &Network,
     kind: TypeId,
     back: bool,
     at: StationId,
+    start: u16,
 ) -> Result<Vec<u16>, NoMemory>
     requires { IsStation net.now at }
-    ensures { IfOk result (λ least. AreLeast net.now kind back at least.items) }
+    ensures { IfOk result (λ least. AreLeast net.now kind back at start least.items) }
 {
     let mut least = vec![in alloc; NEVER; net.station_count() as usize]?;
-    least[at.0 as usize] = 0;
+    least[at.0 as usize] = start;
     'passes: while lower(net, kind, back, &mut least) {}
     Ok(least)
 }
@@ -169,14 +172,54 @@ fn skip_far(
     Ok(skips)
 }
 
+/// For each number of stops left, the least minutes from each station on to the destination by way of them.
+fn find_ahead(
+    alloc: Global,
+    net: &Network,
+    bid: &Bid,
+    to_destination: Vec<u16>,
+) -> Result<Vec<Vec<u16>>, NoMemory>
+    requires path { IsPathOn net.now bid.now.path }
+    requires last { AreLeast net.now bid.now.path.kind true bid.now.path.destination 0 to_destination.items }
+    ensures { IfOk result (λ levels. AreAhead net.now bid.now.path (map (λ level. level.items) levels.items) (length bid.now.path.stops)) }
+{
+    let path = &bid.path;
+    let mut levels = Vec::new(alloc);
+    levels.push(to_destination)?;
+    let count = path.stops.len();
+    'stops: for left in 0..count {
+        let stop = path.stops[count - 1 - left];
+        let start = start_at(level_of(&levels, left), stop);
+        let level = least_minutes(alloc, net, path.kind, true, stop.station, start)?;
+        levels.push(level)?;
+    }
+    Ok(levels)
+}
+
+/// The minutes for so many stops left.
+fn level_of(levels: &[Vec<u16>], left: usize) -> &[u16]
+    requires { left < length levels.now }
+    ensures { result.now ≡ slice_index_or (map (λ level. level.items) levels.now) left [] }
+{
+    &levels[left]
+}
+
+/// The least minutes from the beginning of a halt at the stop on.
+fn start_at(level: &[u16], stop: Stop) -> u16
+    requires { stop.station.0 < length level.now }
+    ensures { result ≤ stop.min_dwell + slice_index level.now stop.station.0 }
+{
+    level[stop.station.0 as usize].saturating_add(stop.min_dwell)
+}
+
 /// The least minutes between the bid's ends and each station.
 pub(crate) fn make_reach(alloc: Global, net: &Network, bid: &Bid) -> Result<Reach, NoMemory>
     requires { IsPathOn net.now bid.now.path }
     ensures { IfOk result (IsReach net.now bid.now.path) }
 {
     let path = &bid.path;
-    let from_origin = least_minutes(alloc, net, path.kind, false, path.origin)?;
-    let to_destination = least_minutes(alloc, net, path.kind, true, path.destination)?;
+    let from_origin = least_minutes(alloc, net, path.kind, false, path.origin, 0)?;
+    let to_destination = least_minutes(alloc, net, path.kind, true, path.destination, 0)?;
     let skips = skip_far(
         alloc,
         bid,
@@ -184,10 +227,12 @@ pub(crate) fn make_reach(alloc: Global, net: &Network, bid: &Bid) -> Result<Reac
         &from_origin,
         &to_destination,
     )?;
+    let ahead = find_ahead(alloc, net, bid, to_destination.clone()?)?;
     Ok(Reach {
         from_origin,
         to_destination,
         skips,
+        ahead,
     })
 }
 
@@ -214,5 +259,18 @@ impl Reach {
     {
         let _ = bid;
         self.skips[count as usize]
+    }
+
+    /// Whether a walk may still end in time from the state that has the stops left that it has.
+    pub(crate) fn is_ahead(&self, net: &Network, bid: &Bid, state: State) -> bool
+        requires ahead { AreAhead net.now bid.now.path (levels_of self.now) (length bid.now.path.stops) }
+        requires done { state.done ≤ length bid.now.path.stops }
+        requires station { state.station.0 < length net.now.stations }
+        ensures { IsTrue result ↔ IsAhead bid.now.path self.now state }
+    {
+        let _ = net;
+        let level = level_of(&self.ahead, bid.path.stops.len() - state.done as usize);
+        let on = u32::from(level[state.station.0 as usize]);
+        u32::from(state.minute) + on <= u32::from(bid.path.arrive.to)
     }
 }

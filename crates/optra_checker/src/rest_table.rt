@@ -37,6 +37,7 @@ impl RestTable {
                 from_origin: Vec::new(alloc),
                 to_destination: Vec::new(alloc),
                 skips: Vec::new(alloc),
+                ahead: Vec::new(alloc),
             },
             rests: Vec::new(alloc),
         }
