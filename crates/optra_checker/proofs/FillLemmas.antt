@@ -1,5 +1,5 @@
 -- A table that is filled place by place, from late to early.
-use Rattle.std.proofs.Common.{◌≡◌, ℕ, ◌+◌, ◌≤◌, ◌<◌, ◌⊎◌, inl, inr, List, ◌∷◌, length, Option, None, sym, ap, ◌∙◌, Bool, true, false, ◌-◌, refl, true≢false, subst, arith, slice_set, slice_index_or}
+use Rattle.std.proofs.Common.{◌≡◌, ℕ, zero, suc, ◌+◌, ◌≤◌, ◌<◌, ◌⊎◌, inl, inr, List, ◌∷◌, length, Option, None, sym, ap, ◌∙◌, Bool, true, false, ◌-◌, refl, true≢false, subst, arith, slice_set, slice_index_or}
 use Rattle.std.specs.Prelude.{ℤ, ◌&&◌, nat_lt, nat_le, slice_index, if◌then◌else◌}
 use Rattle.std.proofs.lemmas.Bool.{cases_lt, lt-ltb}
 use Rattle.std.proofs.lemmas.Bool.Decides.{nat_tests}
@@ -12,15 +12,17 @@ use Rattle.optra_bid.specs.Specs.{Path}
 use Rattle.optra_checker.specs.Weights.{Weights}
 use Rattle.optra_checker.specs.declared.states.State.{State}
 use Rattle.optra_checker.specs.declared.states.Layout.{Layout}
+use Rattle.optra_checker.specs.declared.ways.Way.{Way}
+use Rattle.optra_checker.specs.Ways.{IsWay, IsOn}
 use Rattle.optra_checker.specs.declared.rest_table.RestTable.{RestTable}
 use Rattle.optra_checker.specs.Places.{IsPlaced, IsSmall, slot_of, spot_at, place_of, places_of}
 use Rattle.optra_checker.specs.Settings.{IsSetting}
 use Rattle.optra_checker.specs.Rests.{IsBestRest, AnyLeg}
 use Rattle.optra_checker.specs.declared.reach.Reach.{Reach}
-use Rattle.optra_checker.specs.Reaches.{IsReach, IsReached, IsInTime}
+use Rattle.optra_checker.specs.Reaches.{IsReach, IsReached, IsInTime, IsAhead, IsNear, IsWithoutFar}
 use Rattle.optra_checker.specs.Tables.{IsTable, IsFilled, IsReadyFor, HasBest, entry_at, rest_at, end_of, is_early}
 use Rattle.optra_checker.proofs.HorizonLemmas.{after_later, rest_before}
-use Rattle.optra_checker.proofs.ReachLemmas.{reached_after, rest_in_time}
+use Rattle.optra_checker.proofs.ReachLemmas.{reached_after, rest_in_time, rest_ahead, late_leg}
 use Rattle.optra_checker.proofs.PlaceLemmas.{place_below, place_later, one_place, of_spot}
 
 pub early_before : (table : RestTable) (s : State) → is_early table s ≡ true → s.minute < end_of table
@@ -57,6 +59,22 @@ module _ (w : Weights) (net : Net) (bid : Bid) where
   pub late_rest : (reach : Reach) (s : State) → IsReach net bid.path reach → (IsInTime bid.path reach s → ⊥) → IsBestRest w net bid s AnyLeg None
   late_rest reach s is late = record { greatest = λ n c. late (rest_in_time net bid.path reach is s (c.0 ∷ c.1) c.3.rest); size = tt }
 
+  -- a state from which the stops that are left take too long
+  pub ahead_rest : (reach : Reach) (s : State) → IsReach net bid.path reach → s.done ≤ length bid.path.stops → (IsAhead bid.path reach s → ⊥) → IsBestRest w net bid s AnyLeg None
+  ahead_rest reach s is few late = record { greatest = λ n c. late (rest_ahead net bid.path reach is s (c.0 ∷ c.1) few c.3.rest); size = tt }
+
+  -- a track on which no walk may end in time
+  pub late_way : (table : RestTable) (s : State) (way : Way) → IsSetting net bid.path table.layout → IsReach net bid.path table.reach → IsWay net bid.path s way → s.minute < bid.path.arrive.to
+      → end_of table < way.pass + slice_index table.reach.to_destination.items way.head.0 → end_of table < way.halt + slice_index table.reach.to_destination.items way.head.0
+      → IsBestRest w net bid s (IsOn way.track) None
+  late_way table s way setting reach is before pass halt =
+      let f = setting.laid.first in
+      let m = setting.laid.minutes in
+      record {
+        greatest = λ n c. late_leg net bid.path table.reach reach s way c.0 c.1 is c.2 (omega (arith, pass, f, m, before)) (omega (arith, halt, f, m, before)) c.3.rest;
+        size = tt;
+      }
+
   -- a state that is not too late
   pub early_time : (table : RestTable) (s : State) → IsSetting net bid.path table.layout → IsPlaced table.layout s → is_early table s ≡ true → IsInTime bid.path table.reach s
   early_time table s setting placed e =
@@ -90,6 +108,36 @@ module _ (w : Weights) (net : Net) (bid : Bid) where
           | inr l ↦ h.each s placed l reached early
         ];
   }
+
+  -- the stations behind so many, to which no train comes
+  pub filled_far : (table : RestTable) (minute left more : ℕ) → table.layout.first ≤ minute → left + more ≤ table.layout.stations
+      → ((station : ℕ) → left ≤ station → station < left + more → IsNear bid.path table.reach.from_origin.items table.reach.to_destination.items station → ⊥)
+      → IsFilled w net bid table (spot_at table.layout (minute - table.layout.first) (left + more)) → IsFilled w net bid table (spot_at table.layout (minute - table.layout.first) left)
+  filled_far table minute left zero from within far h =
+      let e : left + zero ≡ left = omega arith in
+      subst (λ (n : ℕ). IsFilled w net bid table (spot_at table.layout (minute - table.layout.first) n)) e h
+  filled_far table minute left (suc more) from within far h =
+      let e : left + suc more ≡ left + more + 1 = omega arith in
+      filled_far table minute left more from (omega (arith, within)) (λ station l b near. far station l (omega (arith, b)) near)
+      (filled_skip table minute (left + more) from (omega (arith, within))
+      (λ s m t reached soon.
+      let near : IsNear bid.path table.reach.from_origin.items table.reach.to_destination.items (left + more) =
+      (let p = ap (λ (n : ℕ). slice_index table.reach.from_origin.items n) t in
+      let q = ap (λ (n : ℕ). slice_index table.reach.to_destination.items n) t in
+      omega (arith, reached, soon, p, q)) in
+      far (left + more) (omega arith) (omega arith) near)
+      (subst (λ (n : ℕ). IsFilled w net bid table (spot_at table.layout (minute - table.layout.first) n)) e h))
+
+  -- so many of the first stations, without the last ones that are far
+  pub filled_without : (table : RestTable) (minute count left : ℕ) → table.layout.first ≤ minute → count ≤ table.layout.stations
+      → IsWithoutFar bid.path table.reach.from_origin.items table.reach.to_destination.items count left
+      → IsFilled w net bid table (spot_at table.layout (minute - table.layout.first) count) → IsFilled w net bid table (spot_at table.layout (minute - table.layout.first) left)
+  filled_without table minute count left from within is h =
+      let fewer = is.fewer in
+      let e : count ≡ left + (count - left) = omega (arith, fewer) in
+      filled_far table minute left (count - left) from (omega (arith, within, fewer))
+      (λ station l b near. is.far station l (omega (arith, b, fewer)) near)
+      (subst (λ (n : ℕ). IsFilled w net bid table (spot_at table.layout (minute - table.layout.first) n)) e h)
 
   -- one more place
   pub filled_more : (table after : RestTable) (here : State) (rest : Option ℤ) → IsPlaced table.layout here → IsFilled w net bid table (place_of table.layout here + 1)

@@ -11,6 +11,7 @@ pub mod PlaceLemmas
 pub mod RestLemmas
 pub mod HorizonLemmas
 pub mod WayLemmas
+pub mod WatchLemmas
 pub mod BestLemmas
 pub mod MoveLemmas
 pub mod TrackLemmas

@@ -19,3 +19,4 @@ pub mod Bounds
 pub mod Reaches
 pub mod Asks
 pub mod Frees
+pub mod Watches

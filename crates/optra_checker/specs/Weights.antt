@@ -24,6 +24,11 @@ abbrev pub TellsCost : Weights → Leg → Option ℤ → Type 0
 TellsCost w leg None = w.may_have leg ≡ false
 TellsCost w leg (Some n) = (w.may_have leg ≡ true) × (n ≡ w.cost_of leg) × IsBetween (pos 0) (pos 1152921504606846976) n
 
+-- a walk may have every leg, at no cost
+pub record AreAllFree (w : Weights) : Type 0 where
+  pub may : (leg : Leg) → w.may_have leg ≡ true
+  pub none : (leg : Leg) → w.cost_of leg ≡ pos 0
+
 -- a walk may have both legs at one cost, or neither
 abbrev pub AreAlike : Weights → Leg → Leg → Type 0
 AreAlike w first second = (w.may_have first ≡ w.may_have second) × (w.cost_of first ≡ w.cost_of second)

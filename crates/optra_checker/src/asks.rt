@@ -26,6 +26,9 @@ pub(crate) fn leg_cost<W: Weighing>(
     ensures told { TellsCost (W.weights weighing.now) leg result }
     ensures asks { AreAsked (W.weights weighing.now) asks.new }
 {
+    if weighing.is_free() {
+        return Some(0);
+    }
     let place = leg.track.0 as usize;
     if let Some(last) = asks[place] {
         if weighing.alike(last.leg, leg) {

@@ -1,9 +1,11 @@
 //! Whether the stated bound is the greatest bound of the leaves with prices.
-ghost use Rattle.std.specs.Prelude.{◌≡◌, ◌↔◌, All, IsTrue, IfOk, Some, length};
+ghost use Rattle.std.specs.Prelude.{◌≡◌, ◌↔◌, All, IsTrue, IfOk, Some, length, map, option_map};
 ghost use Rattle.optra_bid.specs.Instances.{IsInstance};
 ghost use Rattle.optra_node.specs.Trees.{IsTree, places};
 ghost use Rattle.optra_node.specs.Certificates.{IsFormedItem, SplitsUndecided, HasPrices, IsGreatestBound};
+ghost use Rattle.optra_node.specs.Nodes.{yes_load};
 ghost use Rattle.optra_checker.specs.Frees.{AreFree};
+ghost use Rattle.optra_checker.specs.Watches.{AreWatches};
 ghost use Rattle.optra_checker.specs.Bounds.{IsItemBound, IsGreatestOf};
 
 use crate::frees::{Free, find_frees};
@@ -11,6 +13,7 @@ use crate::open_node::OpenNode;
 use crate::rest_table::RestTable;
 use crate::rests::greater;
 use crate::terms::leaf_bound;
+use crate::watches::{find_watches, split_loads};
 use optra_network::{Cents, NoMemory};
 use optra_node::{Item, Prices};
 use optra_walk::{Instance, RowFamily};
@@ -29,17 +32,19 @@ fn item_bound<F: RowFamily>(
     node: &OpenNode<'_, F>,
     item: &Item<F::Row>,
     frees: &[Free],
+    watches: &[Option<Vec<F::Row>>],
     table: &mut RestTable,
 ) -> Result<Option<i128>, NoMemory>
     requires instance { IsInstance node.now.net node.now.bids }
     requires frees { AreFree node.now.net node.now.bids frees.now }
+    requires watches { AreWatches (F.rows_of node.now.family node.now.net) node.now.bids (yes_load (F.rows_of node.now.family node.now.net) node.now.bids node.now.node) frees.now (map (option_map (λ w. w.items)) watches.now) }
     requires formed { IsFormedItem F.Row.cmp node.now.net (length node.now.bids) item.now }
     requires prices { HasPrices (F.rows_of node.now.family node.now.net) item.now }
     ensures { IfOk result (IsItemBound node.now.net (F.rows_of node.now.family node.now.net) node.now.bids node.now.node item.now) }
 {
     match item {
         Item::Priced { prices } => {
-            let cents = leaf_bound(alloc, node, entries(prices), frees, table)?;
+            let cents = leaf_bound(alloc, node, entries(prices), frees, watches, table)?;
             Ok(Some(cents))
         }
         Item::Split { .. } | Item::NoWalk { .. } | Item::Forced { .. } => Ok(None),
@@ -63,9 +68,11 @@ fn greatest_bound<F: RowFamily>(
     let mut node = OpenNode::new(alloc, inst, rows)?;
     let mut table = RestTable::new(alloc);
     let frees = find_frees(alloc, inst, &mut table)?;
+    let loads = split_loads(alloc, inst, rows, tree)?;
+    let watches = find_watches(alloc, inst, rows, &loads, &frees)?;
     let mut greatest = None;
     'items: for item in tree {
-        let cents = item_bound(alloc, &node, item, &frees, &mut table)?;
+        let cents = item_bound(alloc, &node, item, &frees, &watches, &mut table)?;
         greatest = greater(greatest, cents);
         node = node.pass(item)?;
     }

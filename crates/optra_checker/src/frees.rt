@@ -43,7 +43,7 @@ impl<'a> Weighing for FreeWeights<'a> {
         Some(0)
     }
 
-    fn alike(&self, _first: Leg, _second: Leg) -> bool {
+    fn is_free(&self) -> bool {
         true
     }
 

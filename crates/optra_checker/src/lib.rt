@@ -35,6 +35,7 @@ mod taking;
 mod terms;
 mod tracing;
 mod walks;
+mod watches;
 mod ways;
 mod weighing;
 

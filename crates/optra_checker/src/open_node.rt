@@ -1,7 +1,7 @@
 //! The node at hand while a tree is gone through.
-ghost use Rattle.std.specs.Prelude.{◌≡◌, ◌<◌, ◌↔◌, ◌++◌, ◌∷◌, [], IsTrue, IfOk, length, pos, true};
+ghost use Rattle.std.specs.Prelude.{◌≡◌, ◌<◌, ◌↔◌, ◌++◌, ◌∷◌, [], All, IsTrue, IfOk, length, pos, true};
 ghost use Rattle.std.specs.List.{list_any};
-ghost use Rattle.optra_node.specs.Nodes.{IsFormedLeg, IsFormedDecision, IsUndecided, IsOverfull, IsBlocked, kind_at, has_yes};
+ghost use Rattle.optra_node.specs.Nodes.{IsFormedLeg, IsFormedDecision, IsUndecided, IsOverfull, IsBlocked, kind_at, has_yes, yes_load};
 ghost use Rattle.optra_node.specs.Spans.{IsLegOk, IsLetBy, IsStartOk};
 ghost use Rattle.optra_node.specs.Summaries.{decisions_for};
 ghost use Rattle.optra_node.specs.Trees.{children};
@@ -55,6 +55,13 @@ fn any_yes(decisions: &[Decision]) -> bool
     ensures { result ≡ list_any (λ d. d.yes) decisions.now }
 {
     decisions.iter().any(|decision| decision.yes)
+}
+
+/// Whether there is no decision.
+fn has_none(decisions: &[Decision]) -> bool
+    ensures { IsTrue result ↔ (decisions.now ≡ []) }
+{
+    decisions.is_empty()
 }
 
 impl<'a, F: RowFamily> OpenNode<'a, F> {
@@ -249,6 +256,26 @@ impl<'a, F: RowFamily> OpenNode<'a, F> {
         ensures { IsTrue result ↔ IsLegOk self.now.net (F.rows_of self.now.family self.now.net) self.now.bids self.now.node bid (kind_at self.now.bids bid) leg }
     {
         self.let_by(bid, leg) && !self.blocked(bid, leg)
+    }
+
+    /// Whether no decision is for the bid.
+    pub(crate) fn is_left_alone(&self, bid: u32) -> bool
+        requires { bid < length self.now.bids }
+        ensures { IsTrue result → All (λ d. d.bid ≡ bid → ⊥) self.now.node }
+    {
+        has_none(self.own(bid))
+    }
+
+    /// Whether the yes legs use nothing of any of the rows.
+    pub(crate) fn are_unused(&self, rows: &[F::Row]) -> bool
+        ensures { IsTrue result → All (λ row. yes_load (F.rows_of self.now.family self.now.net) self.now.bids self.now.node row ≡ 0) rows.now }
+    {
+        'rows: for row in rows {
+            if total(&self.totals, *row) > 0 {
+                return false;
+            }
+        }
+        true
     }
 
     /// The instance.

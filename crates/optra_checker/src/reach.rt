@@ -1,12 +1,12 @@
 //! Which states may come into a walk, by the minutes that trains take at least between stations.
-ghost use Rattle.std.specs.Prelude.{◌≡◌, ◌≤◌, ◌<◌, ◌↔◌, length, sum, ℕ, false, true, Some, slice_get, slice_index, IfOk, IsTrue};
+ghost use Rattle.std.specs.Prelude.{◌≡◌, ◌+◌, ◌≤◌, ◌<◌, ◌↔◌, length, map, sum, ℕ, false, true, Some, slice_get, slice_index, slice_index_or, [], IfOk, IsTrue};
 ghost use Rattle.optra_network.specs.Net.{IsStation, track_id};
 ghost use Rattle.std.specs.Option.{option_map};
 ghost use Rattle.optra_bid.specs.Specs.{IsPathOn};
-ghost use Rattle.optra_checker.specs.Reaches.{near_of, far_of, IsQuickest, IsLeastAlong, AreLeast, IsReach, IsReached, IsInTime};
+ghost use Rattle.optra_checker.specs.Reaches.{near_of, far_of, IsQuickest, IsLeastAlong, AreLeast, IsNear, IsWithoutFar, SkipsFar, AreAhead, levels_of, IsAhead, IsReach, IsReached, IsInTime};
 
 use crate::states::State;
-use optra_bid::Bid;
+use optra_bid::{Bid, Stop};
 use optra_network::{Network, NoMemory, StationId, TrackId, TypeId};
 use std::alloc::Global;
 
@@ -18,6 +18,10 @@ const NEVER: u16 = u16::MAX;
 pub(crate) struct Reach {
     pub from_origin: Vec<u16>,
     pub to_destination: Vec<u16>,
+    /// For each number of first stations, how many they are without the last ones to which no train of the bid comes.
+    pub skips: Vec<u16>,
+    /// For each number of stops left, the least minutes from each station on to the destination by way of them.
+    pub ahead: Vec<Vec<u16>>,
 }
 
 /// The least minutes of the type on the track, over the modes at its ends.
@@ -52,6 +56,9 @@ fn lower_by(net: &Network, kind: TypeId, back: bool, least: &mut [u16], track: T
     ensures no_more { (k : ℕ) → slice_index least.new k ≤ slice_index least.old k }
 {
     let (near, far) = ends(net, track, back);
+    if least[far.0 as usize] <= least[near.0 as usize] {
+        return false;
+    }
     let Some(minutes) = quickest(net, track, kind) else {
         return false;
     };
@@ -107,26 +114,102 @@ fn lower(net: &Network, kind: TypeId, back: bool, least: &mut [u16]) -> bool
     ensures stays { result ≡ false → (n : ℕ) → n < length net.now.tracks → IsLeastAlong net.now kind back least.new (track_id n) }
     ensures no_more { (k : ℕ) → slice_index least.new k ≤ slice_index least.old k }
 {
-    let on = lower_on(net, kind, back, least);
-    let down = lower_down(net, kind, back, least);
-    on || down
+    if !lower_on(net, kind, back, least) {
+        return false;
+    }
+    let _ = lower_down(net, kind, back, least);
+    true
 }
 
-/// For each station the least minutes of trains of the type from a station to it, or back from it.
+/// For each station so many and the least minutes of trains of the type from a station to it, or back from it.
 fn least_minutes(
     alloc: Global,
     net: &Network,
     kind: TypeId,
     back: bool,
     at: StationId,
+    start: u16,
 ) -> Result<Vec<u16>, NoMemory>
     requires { IsStation net.now at }
-    ensures { IfOk result (λ least. AreLeast net.now kind back at least.items) }
+    ensures { IfOk result (λ least. AreLeast net.now kind back at start least.items) }
 {
     let mut least = vec![in alloc; NEVER; net.station_count() as usize]?;
-    least[at.0 as usize] = 0;
+    least[at.0 as usize] = start;
     'passes: while lower(net, kind, back, &mut least) {}
     Ok(least)
+}
+
+/// Whether a train of the bid may come to a station that is so far from both ends, and still end its walk in time.
+fn is_near(bid: &Bid, from_origin: u16, to_destination: u16) -> bool
+    ensures { IsTrue result ↔ (bid.now.path.depart.from + from_origin + to_destination ≤ bid.now.path.arrive.to) }
+{
+    let path = &bid.path;
+    u32::from(path.depart.from) + u32::from(from_origin) + u32::from(to_destination)
+        <= u32::from(path.arrive.to)
+}
+
+/// For each number of first stations, how many they are without the last ones that are far.
+fn skip_far(
+    alloc: Global,
+    bid: &Bid,
+    count: u16,
+    from_origin: &[u16],
+    to_destination: &[u16],
+) -> Result<Vec<u16>, NoMemory>
+    requires same { length to_destination.now ≡ length from_origin.now }
+    requires count { length from_origin.now ≡ count }
+    ensures { IfOk result (λ skips. SkipsFar bid.now.path from_origin.now to_destination.now skips.items) }
+{
+    let mut skips = vec![in alloc; 0; 1]?;
+    let mut near = 0;
+    'stations: for station in 0..count {
+        let place = station as usize;
+        if is_near(bid, from_origin[place], to_destination[place]) {
+            near = station + 1;
+        }
+        skips.push(near)?;
+    }
+    Ok(skips)
+}
+
+/// For each number of stops left, the least minutes from each station on to the destination by way of them.
+fn find_ahead(
+    alloc: Global,
+    net: &Network,
+    bid: &Bid,
+    to_destination: Vec<u16>,
+) -> Result<Vec<Vec<u16>>, NoMemory>
+    requires path { IsPathOn net.now bid.now.path }
+    requires last { AreLeast net.now bid.now.path.kind true bid.now.path.destination 0 to_destination.items }
+    ensures { IfOk result (λ levels. AreAhead net.now bid.now.path (map (λ level. level.items) levels.items) (length bid.now.path.stops)) }
+{
+    let path = &bid.path;
+    let mut levels = Vec::new(alloc);
+    levels.push(to_destination)?;
+    let count = path.stops.len();
+    'stops: for left in 0..count {
+        let stop = path.stops[count - 1 - left];
+        let start = start_at(level_of(&levels, left), stop);
+        let level = least_minutes(alloc, net, path.kind, true, stop.station, start)?;
+        levels.push(level)?;
+    }
+    Ok(levels)
+}
+
+/// The minutes for so many stops left.
+fn level_of(levels: &[Vec<u16>], left: usize) -> &[u16]
+    requires { left < length levels.now }
+    ensures { result.now ≡ slice_index_or (map (λ level. level.items) levels.now) left [] }
+{
+    &levels[left]
+}
+
+/// The least minutes from the beginning of a halt at the stop on.
+fn start_at(level: &[u16], stop: Stop) -> u16
+    requires { stop.station.0 < length level.now }
+    ensures { result ≤ stop.min_dwell + slice_index level.now stop.station.0 }
+{
+    level[stop.station.0 as usize].saturating_add(stop.min_dwell)
 }
 
 /// The least minutes between the bid's ends and each station.
@@ -135,11 +218,21 @@ pub(crate) fn make_reach(alloc: Global, net: &Network, bid: &Bid) -> Result<Reac
     ensures { IfOk result (IsReach net.now bid.now.path) }
 {
     let path = &bid.path;
-    let from_origin = least_minutes(alloc, net, path.kind, false, path.origin)?;
-    let to_destination = least_minutes(alloc, net, path.kind, true, path.destination)?;
+    let from_origin = least_minutes(alloc, net, path.kind, false, path.origin, 0)?;
+    let to_destination = least_minutes(alloc, net, path.kind, true, path.destination, 0)?;
+    let skips = skip_far(
+        alloc,
+        bid,
+        net.station_count(),
+        &from_origin,
+        &to_destination,
+    )?;
+    let ahead = find_ahead(alloc, net, bid, to_destination.clone()?)?;
     Ok(Reach {
         from_origin,
         to_destination,
+        skips,
+        ahead,
     })
 }
 
@@ -156,5 +249,28 @@ impl Reach {
         let on = u32::from(self.to_destination[station]);
         u32::from(bid.path.depart.from) + from <= minute
             && minute + on <= u32::from(bid.path.arrive.to)
+    }
+
+    /// How many of so many first stations are left without the last ones that are far.
+    pub(crate) fn without_far(&self, bid: &Bid, count: u16) -> u16
+        requires far { SkipsFar bid.now.path self.now.from_origin.items self.now.to_destination.items self.now.skips.items }
+        requires count { count ≤ length self.now.from_origin.items }
+        ensures { IsWithoutFar bid.now.path self.now.from_origin.items self.now.to_destination.items count result }
+    {
+        let _ = bid;
+        self.skips[count as usize]
+    }
+
+    /// Whether a walk may still end in time from the state that has the stops left that it has.
+    pub(crate) fn is_ahead(&self, net: &Network, bid: &Bid, state: State) -> bool
+        requires ahead { AreAhead net.now bid.now.path (levels_of self.now) (length bid.now.path.stops) }
+        requires done { state.done ≤ length bid.now.path.stops }
+        requires station { state.station.0 < length net.now.stations }
+        ensures { IsTrue result ↔ IsAhead bid.now.path self.now state }
+    {
+        let _ = net;
+        let level = level_of(&self.ahead, bid.path.stops.len() - state.done as usize);
+        let on = u32::from(level[state.station.0 as usize]);
+        u32::from(state.minute) + on <= u32::from(bid.path.arrive.to)
     }
 }

@@ -1,10 +1,11 @@
 //! The best rests of states, in one dense table.
-ghost use Rattle.std.specs.Prelude.{◌≡◌, ◌+◌, ◌<◌, ◌≤◌, length, IfOk, OnOk, true, slice_set};
+ghost use Rattle.std.specs.Prelude.{◌≡◌, ◌+◌, ◌<◌, ◌≤◌, length, IfOk, IsTrue, OnOk, true, slice_index, slice_set};
 ghost use Rattle.optra_checker.specs.Places.{IsPlaced, IsSmall, places_of};
 ghost use Rattle.optra_checker.specs.Tables.{IsTable, is_early, rest_at, end_of};
 
 use crate::reach::Reach;
 use crate::states::{Layout, State};
+use crate::ways::Way;
 use optra_network::NoMemory;
 use std::alloc::Global;
 
@@ -35,6 +36,8 @@ impl RestTable {
             reach: Reach {
                 from_origin: Vec::new(alloc),
                 to_destination: Vec::new(alloc),
+                skips: Vec::new(alloc),
+                ahead: Vec::new(alloc),
             },
             rests: Vec::new(alloc),
         }
@@ -78,6 +81,18 @@ impl RestTable {
         }
         let on = u32::from(self.reach.to_destination[state.station.0 as usize]);
         minute + on <= self.end()
+    }
+
+    /// Whether no walk that goes by the way may end in time.
+    pub(crate) fn is_late(&self, way: Way) -> bool
+        requires table { IsTable self.now }
+        requires head { way.head.0 < self.now.layout.stations }
+        ensures pass { IsTrue result → end_of self.now < way.pass + slice_index self.now.reach.to_destination.items way.head.0 }
+        ensures halt { IsTrue result → end_of self.now < way.halt + slice_index self.now.reach.to_destination.items way.head.0 }
+    {
+        let arrival = way.pass.min(way.halt);
+        let on = u32::from(self.reach.to_destination[way.head.0 as usize]);
+        self.end() < u32::from(arrival) + on
     }
 
     /// What the table has for the state; `None` where it is too late for a walk to end in time.

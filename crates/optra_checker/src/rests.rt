@@ -293,6 +293,9 @@ fn track_rest<W: Weighing>(
     ensures asks { AreAsked (W.weights weighing.now) asks.new }
 {
     let way = find_way(net, bid, state, track)?;
+    if table.is_late(way) {
+        return None;
+    }
     way_rest(net, bid, weighing, asks, table, way)
 }
 

@@ -5,12 +5,12 @@ ghost use Rattle.optra_network.specs.Net.{IsFromTo};
 ghost use Rattle.optra_checker.specs.Asks.{AreAsked};
 ghost use Rattle.optra_checker.specs.Places.{slot_of, spot_at};
 ghost use Rattle.optra_checker.specs.Reaches.{IsReach};
-ghost use Rattle.optra_checker.specs.Rests.{start_state};
+ghost use Rattle.optra_checker.specs.Rests.{start_state, IsBestRest, AnyLeg};
 ghost use Rattle.optra_checker.specs.Shares.{IsStartValue};
 ghost use Rattle.optra_checker.specs.Sizes.{IsWholeRest};
 ghost use Rattle.optra_checker.specs.Settings.{IsSetting};
 ghost use Rattle.optra_checker.specs.Starts.{IsBestStart, IsAt};
-ghost use Rattle.optra_checker.specs.Tables.{IsTable, IsFilled, end_of};
+ghost use Rattle.optra_checker.specs.Tables.{IsTable, IsFilled, IsReadyFor, end_of};
 ghost use Rattle.optra_checker.specs.Weights.{AreWeightsFor, IsBestWorth, IsWorthSize};
 
 use crate::asks::Ask;
@@ -36,6 +36,27 @@ fn state_at(minute: Minute, station: StationId, slot: u16) -> State
         halted: slot % 2 == 1,
         done: slot / 2,
     }
+}
+
+/// The best rest from the state on; none at once where the stops that it has left take too long.
+fn spot_rest<W: Weighing>(
+    net: &Network,
+    bid: &Bid,
+    weighing: &W,
+    asks: &mut [Option<Ask>],
+    table: &RestTable,
+    state: State,
+) -> Option<i128>
+    requires asks { AreAsked (W.weights weighing.now) asks.old }
+    requires weights { AreWeightsFor (W.weights weighing.now) net.now bid.now.path }
+    requires ready { IsReadyFor (W.weights weighing.now) net.now bid.now table.now state }
+    ensures best { IsBestRest (W.weights weighing.now) net.now bid.now state AnyLeg result }
+    ensures asks { AreAsked (W.weights weighing.now) asks.new }
+{
+    if !table.reach.is_ahead(net, bid, state) {
+        return None;
+    }
+    state_rest(net, bid, weighing, asks, table, state)
 }
 
 /// Fills the places of a station in a minute, behind which the table is filled; nothing where no train of the bid may be
@@ -67,7 +88,7 @@ fn fill_spot<W: Weighing>(
     'slots: while left > 0 {
         left -= 1;
         let state = state_at(minute, station, left);
-        let rest = state_rest(net, bid, weighing, asks, table, state);
+        let rest = spot_rest(net, bid, weighing, asks, table, state);
         table.put(table.layout.place(state), rest);
     }
 }
@@ -90,10 +111,11 @@ fn fill_minute<W: Weighing>(
     ensures asks { AreAsked (W.weights weighing.now) asks.new }
     ensures layout { table.new.layout ≡ table.old.layout }
 {
-    let mut left = table.layout.stations;
+    let mut left = table.reach.without_far(bid, table.layout.stations);
     'stations: while left > 0 {
-        left -= 1;
-        fill_spot(net, bid, weighing, asks, table, minute, StationId(left));
+        let station = left - 1;
+        fill_spot(net, bid, weighing, asks, table, minute, StationId(station));
+        left = table.reach.without_far(bid, station);
     }
 }
 

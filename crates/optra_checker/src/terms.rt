@@ -1,5 +1,5 @@
 //! What the bids add to the dual value of a node, and the dual value.
-ghost use Rattle.std.specs.Prelude.{◌≡◌, ◌↔◌, ◌⊎◌, ◌<◌, ◌≤◌, length, slice_get, Some, IfOk, IfSome, IsSomeAnd, IsTrue, All, true, not, is_some, pos, ◌≤ℤ◌};
+ghost use Rattle.std.specs.Prelude.{◌≡◌, ◌↔◌, ◌⊎◌, ◌<◌, ◌≤◌, length, slice_get, Some, IfOk, IfSome, IsSomeAnd, IsTrue, All, true, not, is_some, map, option_map, [], pos, ◌≤ℤ◌};
 ghost use Rattle.optra_bid.specs.Specs.{IsBetween};
 ghost use Rattle.optra_bid.specs.Instances.{IsInstance};
 ghost use Rattle.optra_bid.specs.declared.bids.Bid.{Bid as Asked};
@@ -7,10 +7,11 @@ ghost use Rattle.optra_node.specs.Duals.{ArePrices, whole_cents};
 ghost use Rattle.optra_node.specs.Certificates.{AreAscending, IsBoundOf};
 ghost use Rattle.optra_walk.specs.Families.{IsUsable};
 ghost use Rattle.optra_walk.specs.Values.{first_departure};
-ghost use Rattle.optra_node.specs.Nodes.{kind_at};
+ghost use Rattle.optra_node.specs.Nodes.{kind_at, yes_load};
 ghost use Rattle.optra_checker.specs.Frees.{IsFree, AreFree, IsFreeLeg};
 ghost use Rattle.optra_checker.specs.Leaves.{IsBestOffer, AreTerms, IsSumSize, leaf_weights, plus_of, dual_by};
 ghost use Rattle.optra_checker.specs.Tests.{may_start_at};
+ghost use Rattle.optra_checker.specs.Watches.{AreWatched, AreWatches, IsLetBe};
 ghost use Rattle.optra_checker.specs.Weights.{IsBestWorth, IsWorthSize};
 
 use crate::frees::Free;
@@ -188,6 +189,74 @@ pub(crate) fn best_offer<F: RowFamily>(
     }
 }
 
+/// Whether there is no price.
+fn are_none<R>(prices: &[(R, i64)]) -> bool
+    ensures { IsTrue result ↔ (prices.now ≡ []) }
+{
+    prices.is_empty()
+}
+
+/// Whether there are legs.
+fn has_some(legs: &[Leg]) -> bool
+    ensures { IsTrue result ↔ 0 < length legs.now }
+{
+    !legs.is_empty()
+}
+
+/// Whether it is seen at once that nothing of the node bears on the best of all walks of the bid.
+fn is_let_be<F: RowFamily>(
+    node: &OpenNode<'_, F>,
+    prices: &[(F::Row, i64)],
+    bid: u32,
+    free: &Free,
+    watched: &Option<Vec<F::Row>>,
+) -> bool
+    requires { bid < length node.now.bids }
+    ensures { IsTrue result → IsLetBe (F.rows_of node.now.family node.now.net) node.now.bids node.now.node prices.now bid (option_map (λ w. w.items) watched.now) free.now.legs.items }
+{
+    let Some(watched) = watched else {
+        return false;
+    };
+    if !has_some(legs_of(free)) {
+        return false;
+    }
+    if !are_none(prices) {
+        return false;
+    }
+    if !node.is_left_alone(bid) {
+        return false;
+    }
+    node.are_unused(watched)
+}
+
+/// As [`best_offer`]: where nothing of the node bears on the best of all walks of the bid, it is the best that the node
+/// allows.
+fn offer_at<F: RowFamily>(
+    alloc: Global,
+    node: &OpenNode<'_, F>,
+    prices: &[(F::Row, i64)],
+    bid: u32,
+    free: &Free,
+    watched: &Option<Vec<F::Row>>,
+    table: &mut RestTable,
+) -> Result<Option<i128>, NoMemory>
+    requires instance { IsInstance node.now.net node.now.bids }
+    requires bid { bid < length node.now.bids }
+    requires free { IsSomeAnd (slice_get node.now.bids bid) (λ b. IsFree node.now.net b free.now) }
+    requires watched { AreWatched (F.rows_of node.now.family node.now.net) (kind_at node.now.bids bid) (yes_load (F.rows_of node.now.family node.now.net) node.now.bids node.now.node) (option_map (λ w. w.items) watched.now) free.now.legs.items }
+    requires ascending { AreAscending F.Row.cmp prices.now }
+    requires proper { ArePrices (F.rows_of node.now.family node.now.net) prices.now }
+    ensures best { IfOk result (λ best. (b : Asked) → slice_get node.now.bids bid ≡ Some b → IsBestOffer node.now.net (F.rows_of node.now.family node.now.net) node.now.bids node.now.node prices.now bid b best) }
+    ensures size { IfOk result (λ best. IfSome best IsWorthSize) }
+{
+    let inst = node.inst();
+    let _ = inst.net.track_count();
+    if is_let_be(node, prices, bid, free, watched) {
+        return Ok(Some(or_zero(free.best)));
+    }
+    best_offer(alloc, node, prices, bid, Some(free), table)
+}
+
 /// A sum with one offer more; none where either is missing.
 fn plus(sum: Option<i128>, best: Option<i128>) -> Option<i128>
     requires sum { IfSome sum (IsSumSize 1000) }
@@ -206,10 +275,12 @@ fn term_sum<F: RowFamily>(
     node: &OpenNode<'_, F>,
     prices: &[(F::Row, i64)],
     frees: &[Free],
+    watches: &[Option<Vec<F::Row>>],
     table: &mut RestTable,
 ) -> Result<Option<i128>, NoMemory>
     requires instance { IsInstance node.now.net node.now.bids }
     requires frees { AreFree node.now.net node.now.bids frees.now }
+    requires watches { AreWatches (F.rows_of node.now.family node.now.net) node.now.bids (yes_load (F.rows_of node.now.family node.now.net) node.now.bids node.now.node) frees.now (map (option_map (λ w. w.items)) watches.now) }
     requires ascending { AreAscending F.Row.cmp prices.now }
     requires proper { ArePrices (F.rows_of node.now.family node.now.net) prices.now }
     ensures terms { IfOk result (AreTerms node.now.net (F.rows_of node.now.family node.now.net) node.now.bids node.now.node prices.now (length node.now.bids)) }
@@ -218,7 +289,8 @@ fn term_sum<F: RowFamily>(
     let count = node.inst().bids.len() as u32;
     let mut sum = Some(0);
     'bids: for bid in 0..count {
-        let best = best_offer(alloc, node, prices, bid, Some(&frees[bid as usize]), table)?;
+        let (free, watched) = (&frees[bid as usize], &watches[bid as usize]);
+        let best = offer_at(alloc, node, prices, bid, free, watched, table)?;
         sum = plus(sum, best);
     }
     Ok(sum)
@@ -249,15 +321,17 @@ pub(crate) fn leaf_bound<F: RowFamily>(
     node: &OpenNode<'_, F>,
     prices: &[(F::Row, i64)],
     frees: &[Free],
+    watches: &[Option<Vec<F::Row>>],
     table: &mut RestTable,
 ) -> Result<i128, NoMemory>
     requires instance { IsInstance node.now.net node.now.bids }
     requires frees { AreFree node.now.net node.now.bids frees.now }
+    requires watches { AreWatches (F.rows_of node.now.family node.now.net) node.now.bids (yes_load (F.rows_of node.now.family node.now.net) node.now.bids node.now.node) frees.now (map (option_map (λ w. w.items)) watches.now) }
     requires ascending { AreAscending F.Row.cmp prices.now }
     requires proper { ArePrices (F.rows_of node.now.family node.now.net) prices.now }
     ensures { IfOk result (IsBoundOf node.now.net (F.rows_of node.now.family node.now.net) node.now.bids node.now.node prices.now) }
 {
-    let sum = term_sum(alloc, node, prices, frees, table)?;
+    let sum = term_sum(alloc, node, prices, frees, watches, table)?;
     let value = dual_by(node.capacity_price(prices), sum);
     Ok(whole_cents(value))
 }

@@ -1,7 +1,7 @@
 //! What legs cost a walk, and which legs and starts it may have.
 ghost use Rattle.std.specs.Prelude.{◌≡◌, true};
 ghost use Rattle.optra_walk.specs.Families.{IsUsable};
-ghost use Rattle.optra_checker.specs.Weights.{Weights, TellsCost, AreAlike};
+ghost use Rattle.optra_checker.specs.Weights.{Weights, TellsCost, AreAllFree, AreAlike};
 
 use optra_network::Minute;
 use optra_walk::Leg;
@@ -17,6 +17,13 @@ pub(crate) trait Weighing {
     fn cost(&self, leg: Leg) -> Option<i128>
         requires { IsUsable (weights self.now).net (weights self.now).kind leg }
         ensures { TellsCost (weights self.now) leg result };
+
+    /// Whether it sees at once that a walk may have every leg, at no cost. It is never true of others.
+    fn is_free(&self) -> bool
+        ensures { result ≡ true → AreAllFree (weights self.now) }
+    {
+        false
+    }
 
     /// Whether it sees at once that both legs cost the same, or that a walk may have neither. It is never true of others; a
     /// weighing that doesn't see it says no, and is then asked of each leg.

@@ -1,15 +1,38 @@
-use Rattle.std.proofs.Common.{◌+◌, List, take, sym, subst}
+use Rattle.std.proofs.Common.{◌+◌, List, Option, Vec, Global, map, take, sym, subst}
+use Rattle.std.specs.Prelude.{option_map}
 use Rattle.std.proofs.lemmas.List.{take_all}
 use Rattle.optra_node.specs.declared.Decision.{Decision}
 use Rattle.optra_node.specs.declared.Item.{Item}
-use Rattle.optra_node.specs.Summaries.{Summed}
+use Rattle.optra_node.specs.Nodes.{yes_load}
+use Rattle.optra_node.specs.Summaries.{Summed, total_of}
 use Rattle.optra_node.specs.Trees.{placed, root, places}
 use Rattle.optra_node.specs.Certificates.{SplitsUndecided}
 use Rattle.optra_checker.specs.Bounds.{IsItemBound, IsGreatestOf}
+use Rattle.optra_checker.specs.ToCome.{to_come}
+use Rattle.optra_checker.specs.declared.frees.Free.{Free}
+use Rattle.optra_checker.specs.Watches.{AreWatches}
+use Rattle.optra_checker.proofs.WatchLemmas.{open_load, watches_less}
 use Rattle.optra_checker.specs.Rests.{greater_of}
 use Rattle.optra_checker.proofs.AtLemmas.{at_more, here_of_all, as_summed, place_is}
 use Rattle.optra_checker.proofs.BoundLemmas.{bound_more}
 use Rattle.optra_checker.proofs.bounding.greatest_bound.Goals as goal
+
+pub item_bound-requires-clause-watches : goal.item_bound-requires-clause-watches
+item_bound-requires-clause-watches g c =
+    let net = c.args.inst.net.now in
+    let bids = c.args.inst.bids.now in
+    let rows = g.F.RowFamily.rows_of c.args.rows.now net in
+    let v = c.items.node in
+    let loads = total_of g.F.Row.Ord.cmp c.in_ok-loads.loads in
+    let watches = map (option_map (λ (w : Vec g.row.F-Row.Denot Global). w.items)) c.in_ok-watches.watches.items in
+    let ways = c.items.invariant.at.ways c.items-test.true in
+    let less = watches_less rows bids loads (yes_load rows bids v.node) (λ row none. open_load rows bids row c.args.tree.now c.items.item-index v.node (to_come v.node) ways (c.in_ok-loads.ensures row none)) c.in_ok-frees.frees.items watches
+    (subst (λ (fs : List Free). AreWatches rows bids loads fs watches) c.deref.ensures.value c.in_ok-watches.ensures) in
+    let here = subst (λ (w : Summed g.row.F.Denot). AreWatches (g.F.RowFamily.rows_of w.family w.net) w.bids (yes_load (g.F.RowFamily.rows_of w.family w.net) w.bids w.node) c.in_ok-frees.frees.items watches)
+    (sym (as_summed c.args.rows.now net bids v c.items.invariant.at.same)) less in
+    let load = yes_load (g.F.RowFamily.rows_of v.family v.net) v.bids v.node in
+    subst (λ (ws : List (Option (Vec g.row.F-Row.Denot Global))). AreWatches (g.F.RowFamily.rows_of v.family v.net) v.bids load c.deref-in-items.result.now (map (option_map (λ (w : Vec g.row.F-Row.Denot Global). w.items)) ws)) (sym c.deref-in-items-2.ensures.value)
+    (subst (λ (fs : List Free). AreWatches (g.F.RowFamily.rows_of v.family v.net) v.bids load fs watches) (sym c.deref-in-items.ensures.value) here)
 
 pub pass-requires-clause-undecided : goal.pass-requires-clause-undecided
 pass-requires-clause-undecided g c =

@@ -1,11 +1,11 @@
--- The station itself keeps 0 minutes.
-use Rattle.std.proofs.Common.{◌≡◌, sum, length, slice_index}
+-- The station itself keeps at most the first minutes.
+use Rattle.std.proofs.Common.{◌≡◌, ◌≤◌, sum, length, slice_index}
 use Rattle.optra_checker.proofs.reach.least_minutes.Given as goal
 
 abbrev pub invariant-passes : goal.invariant-passes
 invariant-passes l = record {
   len : length l.least.items ≡ length l.net.stations;
-  zero : slice_index l.least.items l.fn.at.0 ≡ 0;
+  first : slice_index l.least.items l.fn.at.0 ≤ l.fn.start;
 }
 
 abbrev pub decreases-passes : goal.decreases-passes

@@ -20,8 +20,8 @@ returns-then-not-has-clause-filled g c =
     let told = c.has.ensures.1 same in cc)
     c.requires.filled
 
-pub state_rest-rest-requires-clause-ready : goal.state_rest-rest-requires-clause-ready
-state_rest-rest-requires-clause-ready g c =
+pub spot_rest-rest-requires-clause-ready : goal.spot_rest-rest-requires-clause-ready
+spot_rest-rest-requires-clause-ready g c =
     let w = g.W.Weighing.weights c.args.weighing.now in
     let table = c.slots.table in
     let state = c.state_at-state.result in
@@ -60,11 +60,11 @@ slots-preserved g c =
     let next = spot_next table state c.args.minute c.args.station c.slots.left is.minute is.station is.slot some in
     let place = spot_place table state c.args.minute c.args.station c.slots.left is.minute is.station is.slot some in
     let filled = subst (λ (n : ℕ). IsFilled w c.args.net.now c.args.bid.now table n) (sym next) c.slots.invariant.filled in
-    let rests = c.put.ensures.rests ∙ ap (λ (n : ℕ). slice_set table.rests.items n c.state_rest-rest.result) c.place.ensures.value in
-    let more = filled_more w c.args.net.now c.args.bid.now table after state c.state_rest-rest.result placed filled c.state_rest-rest.ensures.best rests c.put.ensures.layout c.put.ensures.reach in
+    let rests = c.put.ensures.rests ∙ ap (λ (n : ℕ). slice_set table.rests.items n c.spot_rest-rest.result) c.place.ensures.value in
+    let more = filled_more w c.args.net.now c.args.bid.now table after state c.spot_rest-rest.result placed filled c.spot_rest-rest.ensures.best rests c.put.ensures.layout c.put.ensures.reach in
     record {
       filled = subst (λ (n : ℕ). IsFilled w c.args.net.now c.args.bid.now after n) (place ∙ ap (λ (l : Layout). spot_at l (c.args.minute - l.first) c.args.station.0 + (c.slots.left - 1)) (sym c.put.ensures.layout)) more;
-      asks = c.state_rest-rest.ensures.asks;
+      asks = c.spot_rest-rest.ensures.asks;
       few = let e = ap (λ (l : Layout). l.slots) c.put.ensures.layout in let f = c.slots.invariant.few in omega arith;
       layout = c.put.ensures.layout ∙ c.slots.invariant.layout;
       reach = c.put.ensures.reach ∙ c.slots.invariant.reach;

@@ -1,8 +1,12 @@
-use Rattle.std.proofs.Common.{◌+◌, ◌<◌, IfSome, sym, ap, subst, arith, length}
+use Rattle.std.proofs.Common.{◌+◌, ◌<◌, IfSome, Vec, Global, sym, ap, subst, arith, length}
+use Rattle.std.specs.Prelude.{option_map}
+use Rattle.std.proofs.lemmas.List.{length-map}
 use Rattle.std.proofs.lemmas.Int.{ints}
 use Rattle.optra_node.proofs.ChildLemmas.{some_at}
+use Rattle.optra_node.specs.Nodes.{yes_load}
 use Rattle.optra_checker.specs.Leaves.{AreTerms, IsSumSize}
 use Rattle.optra_checker.proofs.FreeLemmas.{free_at}
+use Rattle.optra_checker.proofs.WatchLemmas.{watched_at}
 use Rattle.optra_checker.proofs.LeafLemmas.{terms_none, terms_more, size_more, size_below}
 use Rattle.optra_checker.proofs.terms.term_sum.Goals as goal
 
@@ -18,8 +22,27 @@ bounds-frees-bid g c =
     let count = c.requires.frees.count in
     omega arith
 
-pub best_offer-requires-clause-free : goal.best_offer-requires-clause-free
-best_offer-requires-clause-free g c =
+pub bounds-watches-bid : goal.bounds-watches-bid
+bounds-watches-bid g c =
+    let l = c.bids-test.true in
+    let same = ap length c.inst.ensures.bids in
+    let count = c.requires.frees.count in
+    let each = c.requires.watches.count in
+    let mapped = length-map c.args.watches.now (option_map (λ (w : Vec g.row.F-Row.Denot Global). w.items)) in
+    omega (arith, l, same, count, each, mapped)
+
+pub offer_at-requires-clause-watched : goal.offer_at-requires-clause-watched
+offer_at-requires-clause-watched g c =
+    let node = c.args.node.now in
+    let l = c.bids-test.true in
+    let same = ap length c.inst.ensures.bids in
+    let count = c.requires.frees.count in
+    let within : c.bids.bid < length c.args.frees.now = omega (arith, l, same, count) in
+    watched_at (g.F.RowFamily.rows_of node.family node.net) node.bids (yes_load (g.F.RowFamily.rows_of node.family node.net) node.bids node.node) c.args.frees.now c.args.watches.now c.bids.bid c.index-frees-bid.result c.index-watches-bid.result
+    (option_map (λ (w : Vec g.row.F-Row.Denot Global). w.items)) within c.index-frees-bid.is c.index-watches-bid.is c.requires.watches
+
+pub offer_at-requires-clause-free : goal.offer_at-requires-clause-free
+offer_at-requires-clause-free g c =
     let node = c.args.node.now in
     let l = c.bids-test.true in
     let same = ap length c.inst.ensures.bids in

@@ -1,0 +1,25 @@
+use Rattle.std.proofs.Common.{◌≤◌, ◌*◌, ◌+◌, length, arith}
+use Rattle.optra_checker.specs.Places.{mode_of}
+use Rattle.optra_checker.proofs.AtLemmas.{not_both}
+use Rattle.optra_checker.proofs.FillLemmas.{ahead_rest}
+use Rattle.optra_checker.proofs.table.spot_rest.Goals as goal
+
+pub is_ahead-requires-clause-done : goal.is_ahead-requires-clause-done
+is_ahead-requires-clause-done g c =
+    let slots = c.requires.ready.setting.laid.slots in
+    let done = c.requires.ready.placed.done in
+    omega (arith, slots, done)
+
+pub is_ahead-requires-clause-station : goal.is_ahead-requires-clause-station
+is_ahead-requires-clause-station g c =
+    let stations = c.requires.ready.setting.laid.stations in
+    let station = c.requires.ready.placed.station in
+    omega (arith, stations, station)
+
+pub returns-then-not-is_ahead-clause-best : goal.returns-then-not-is_ahead-clause-best
+returns-then-not-is_ahead-clause-best g c =
+    let w = g.W.Weighing.weights c.args.weighing.now in
+    let ready = c.requires.ready in
+    let slots = ready.setting.laid.slots in
+    let done = ready.placed.done in
+    ahead_rest w c.args.net.now c.args.bid.now c.args.table.now.reach c.args.state ready.reach (omega (arith, slots, done)) (λ h. not_both c.is_ahead.result c.if-not-is_ahead.true (c.is_ahead.ensures.1 h))

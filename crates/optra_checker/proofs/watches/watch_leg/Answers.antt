@@ -1,0 +1,29 @@
+use Rattle.std.proofs.Common.{◌≡◌, ℕ, ◌+◌, ◌<◌, ◌≤◌, ◌∙◌, Option, Some, IfSome, slice_get, subst, sym, inl, inr, ap, arith}
+use Rattle.std.specs.Prelude.{Contains}
+use Rattle.std.proofs.lemmas.Bool.{cases_lt}
+use Rattle.optra_node.specs.Summaries.{total_of}
+use Rattle.optra_checker.proofs.WatchLemmas.{watched_all, seen_more}
+use Rattle.optra_checker.proofs.watches.watch_leg.Goals as goal
+
+pub loop-k-preserved : goal.loop-k-preserved
+loop-k-preserved g c =
+    let rows = g.F.RowFamily.rows_of c.args.rows.now c.args.net.now in
+    let used = g.F.RowFamily.rows_used c.args.rows.now c.args.net.now c.args.kind c.args.leg in
+    let loads = total_of g.F.Row.Ord.cmp c.args.loads.now in
+    let kept = c.in_ok-watch_row.ensures.kept in
+    let l = c.if-cap-leg_use.false in
+    let cap = c.cap.ensures in
+    let takes = c.leg_use.ensures in
+    record {
+      kept = λ q has. kept q (c.loop-k.invariant.kept q has);
+      seen = seen_more rows c.args.kind loads c.loop-k.watched.items c.watch_row.new.watched.items c.args.leg used c.loop-k.k c.in-Some.row (sym c.touched.ensures ∙ c.in-Some.is) kept c.loop-k.invariant.seen (omega (arith, l, cap, takes)) c.in_ok-watch_row.ensures.watched;
+    }
+
+pub returns-clause-watched : goal.returns-clause-watched
+returns-clause-watched g c t =
+    let rows = g.F.RowFamily.rows_of c.args.rows.now c.args.net.now in
+    let used = g.F.RowFamily.rows_used c.args.rows.now c.args.net.now c.args.kind c.args.leg in
+    let lists = g.met.F.RowFamily.lists_rows c.args.rows.now c.args.net.now c.args.kind c.args.leg c.track_count.ensures.proper c.requires in
+    let few = lists.few in
+    let past = c.loop-k-test.false in
+    watched_all rows c.args.kind g.F.Row.Ord.cmp (total_of g.F.Row.Ord.cmp c.args.loads.now) c.loop-k.watched.items c.args.leg used c.loop-k.k lists (omega (arith, few, past)) c.loop-k.invariant.seen
