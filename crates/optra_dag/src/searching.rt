@@ -94,7 +94,8 @@ pub fn first_best<W: Weight>(
 }
 
 /// The same over lent buffers, for callers that search many times: `Some` with the weight where there is a path,
-/// which the buffers then hold. They are emptied first, and grow where the graph needs more than they had.
+/// which the buffers then hold. They are emptied first, and grow where the graph needs more than they had. After
+/// `NoMemory` they may hold any path; the next search empties them as well.
 pub fn first_best_in<W: Weight>(
     buffers: &mut Buffers,
     dag: &Dag,

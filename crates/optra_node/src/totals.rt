@@ -29,7 +29,7 @@ fn raise<R: Copy + Ord>(totals: &mut BTreeMap<R, u128>, row: R, by: u32) -> Resu
     Ok(())
 }
 
-/// Adds what a leg of the type uses.
+/// Adds what a leg of the type uses. After `NoMemory` some of it may be added, and the totals serve no more.
 pub fn add_leg<F: RowFamily>(
     totals: &mut BTreeMap<F::Row, u128>,
     net: &Network,
@@ -52,7 +52,7 @@ pub fn add_leg<F: RowFamily>(
     Ok(())
 }
 
-/// Adds what the decided leg uses, where it is yes.
+/// Adds what the decided leg uses, where it is yes. After `NoMemory` some of it may be added, and the totals serve no more.
 pub fn add_decision<F: RowFamily>(
     totals: &mut BTreeMap<F::Row, u128>,
     inst: Instance<'_>,

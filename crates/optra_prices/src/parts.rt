@@ -71,7 +71,8 @@ pub fn graph_of<'a, F: RowFamily>(
     kept.tables[number as usize].graph
 }
 
-/// Puts the parts of all arcs of a bid's graph in place of those that were there. `NoMemory` is its only refusal.
+/// Puts the parts of all arcs of a bid's graph in place of those that were there. After `NoMemory`, its only refusal, there
+/// may be any parts; the next call puts others in their place.
 pub fn tell_parts<F: RowFamily>(
     parts: &mut Vec<ArcPart>,
     inst: Instance<'_>,
@@ -104,7 +105,8 @@ pub fn free_room<F: RowFamily>(
     empty_room(alloc, inst.net, rows, &kept.numbering)
 }
 
-/// Adds what a usable leg of the type uses to a room. `NoMemory` is its only refusal.
+/// Adds what a usable leg of the type uses to a room. After `NoMemory`, its only refusal, some of it may be added, and the
+/// room serves no more.
 pub fn take_up<F: RowFamily>(
     room: &mut Room,
     inst: Instance<'_>,

@@ -86,7 +86,7 @@ fn is_header(cells: &ByteRecord, header: &[&str]) -> bool
     true
 }
 
-/// Reads the first record, which has to be the header, or gives the fault.
+/// Reads the first record, which has to be the header, or gives the fault. After want of memory there are no more records.
 pub fn under_header<F: Drop>(
     records: &mut Records<'_>,
     header: &[&str],
@@ -130,7 +130,8 @@ fn read_rows<T: TableRows>(
 
 /// Reads a table into what is known: its header, or the fault of one that is missing, and then its records in order,
 /// each of which adds to what is known or has the first fault of the table. Rows count the records from 1, which is the
-/// header. The row of cells is used for each record in turn.
+/// header. The row of cells is used for each record in turn. After a fault or want of memory a first part of the records may
+/// be added, and what is known serves no more.
 pub fn read_table<T: TableRows>(
     alloc: Global,
     context: &T::Context,

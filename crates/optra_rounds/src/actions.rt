@@ -16,7 +16,8 @@ pub struct Taken {
     pub later: Vec<TimedAct>,
 }
 
-/// Takes the actions of the auction's round, one after another in their order, and keeps the others.
+/// Takes the actions of the auction's round, one after another in their order, and keeps the others. After `NoMemory` a first
+/// part of them was taken, and the list is gone.
 pub fn take_actions(
     alloc: Global,
     auction: &mut Auction,
