@@ -1,14 +1,25 @@
 //! Crossings between tracks and limits of stations, from a builder into a network.
-use optra_network::{Builder, NetFault, NetRefusal, StationId, TrackId, TypeId, is_name};
+use optra_network::{Builder, NetFault, NetRefusal, Network, StationId, TrackId, TypeId, is_name};
 use std::alloc::Global;
 use std::process::Abort;
 use std::test::Fail;
 
-/// Tracks beside ab and ba, which cross ab in the tests of its reach.
-static OTHERS: [&str; 16] = [
-    "c1", "c2", "c3", "c4", "c5", "c6", "c7", "c8", "c9", "c10", "c11", "c12", "c13", "c14", "c15",
-    "c16",
-];
+/// A crossing: first track, second track, first type, second type, minutes.
+type Crossing = (&'static str, &'static str, &'static str, &'static str, u64);
+
+/// What a network has beside the line: its headways, more tracks that cross ab for 120 minutes each way, and crossings.
+pub struct Added {
+    has_headways: bool,
+    others: &'static [&'static str],
+    crossings: &'static [Crossing],
+}
+
+/// The line with its headways alone.
+pub static LINE: Added = Added {
+    has_headways: true,
+    others: &[],
+    crossings: &[],
+};
 
 fn add_station(
     rt: &impl Abort,
@@ -38,35 +49,73 @@ fn add_type(rt: &impl Abort, net: &mut Builder, name: &str) -> Result<TypeId, Ne
 
 /// A track each way between A, where any number may stand, and B, where one train may. The type ic may use both tracks, and
 /// fr neither.
-pub fn line(rt: &impl Abort, alloc: Global) -> Result<Builder, NetFault> {
-    let mut net = Builder::new(alloc)?;
-    add_station(rt, &mut net, "A", 0)?;
-    add_station(rt, &mut net, "B", 1)?;
-    add_track(rt, &mut net, "ab", "A", "B")?;
-    add_track(rt, &mut net, "ba", "B", "A")?;
-    add_type(rt, &mut net, "ic")?;
-    add_type(rt, &mut net, "fr")?;
+fn add_line(rt: &impl Abort, net: &mut Builder) -> Result<(), NetFault> {
+    add_station(rt, net, "A", 0)?;
+    add_station(rt, net, "B", 1)?;
+    add_track(rt, net, "ab", "A", "B")?;
+    add_track(rt, net, "ba", "B", "A")?;
+    add_type(rt, net, "ic")?;
+    add_type(rt, net, "fr")?;
     net.running("ab", "ic", [10, 10, 10, 10])?;
-    net.running("ba", "ic", [10, 10, 10, 10])?;
-    Ok(net)
+    net.running("ba", "ic", [10, 10, 10, 10])
 }
 
 /// The headways of the line.
-pub fn add_headways(net: &mut Builder) -> Result<(), NetFault> {
+fn add_headways(net: &mut Builder) -> Result<(), NetFault> {
     net.headway("ab", "ic", "ic", 5)?;
     net.headway("ba", "ic", "ic", 5)
 }
 
-/// Why the network isn't finished.
-fn refusal(net: Builder) -> Option<NetRefusal> {
-    match net.finish() {
-        Err(NetFault::Refused(why)) => Some(why),
-        _ => None,
+/// More tracks that cross ab for 120 minutes each way.
+fn add_others(rt: &impl Abort, net: &mut Builder, names: &[&str]) -> Result<(), NetFault> {
+    for name in names {
+        add_track(rt, net, name, "A", "B")?;
+        net.crossing("ab", name, "ic", "ic", 120)?;
+        net.crossing(name, "ab", "ic", "ic", 120)?;
+    }
+    Ok(())
+}
+
+fn add_crossings(net: &mut Builder, crossings: &[Crossing]) -> Result<(), NetFault> {
+    for (first_track, second_track, first, second, minutes) in crossings {
+        net.crossing(first_track, second_track, first, second, *minutes)?;
+    }
+    Ok(())
+}
+
+fn add_all(rt: &impl Abort, net: &mut Builder, added: &Added) -> Result<(), NetFault> {
+    add_line(rt, net)?;
+    if added.has_headways {
+        add_headways(net)?;
+    }
+    add_others(rt, net, added.others)?;
+    add_crossings(net, added.crossings)?;
+    assert_eq!(rt; net.headways_whole(), added.has_headways);
+    Ok(())
+}
+
+/// The line with what is added to it. The builder is owned here alone.
+pub fn network(rt: &impl Abort, alloc: Global, added: &Added) -> Result<Network, NetFault> {
+    let mut net = Builder::new(alloc)?;
+    match add_all(rt, &mut net, added) {
+        Ok(()) => net.finish(),
+        Err(fault) => Err(fault),
     }
 }
 
-/// First track, second track, first type, second type, and the crossing's minutes. Its two directions differ, and fr may
-/// use neither track.
+/// Crossings whose two directions differ, also of fr, which may use neither track.
+static CROSSED: Added = Added {
+    has_headways: true,
+    others: &[],
+    crossings: &[
+        ("ab", "ba", "ic", "ic", 12),
+        ("ba", "ab", "ic", "ic", 7),
+        ("ab", "ba", "ic", "fr", 120),
+        ("ba", "ab", "fr", "ic", 1),
+    ],
+};
+
+/// First track, second track, first type, second type, and the crossing's minutes.
 static CROSSINGS: [(u16, u16, u16, u16, Option<u16>); 6] = [
     (0, 1, 0, 0, Some(12)),
     (1, 0, 0, 0, Some(7)),
@@ -78,13 +127,7 @@ static CROSSINGS: [(u16, u16, u16, u16, Option<u16>); 6] = [
 
 #[test]
 fn a_network_keeps_its_crossings_and_limits(rt: HostRuntime) -> Result<(), Fail> {
-    let mut net = line(&rt, rt.alloc())?;
-    add_headways(&mut net)?;
-    net.crossing("ab", "ba", "ic", "ic", 12)?;
-    net.crossing("ba", "ab", "ic", "ic", 7)?;
-    net.crossing("ab", "ba", "ic", "fr", 120)?;
-    net.crossing("ba", "ab", "fr", "ic", 1)?;
-    let net = net.finish()?;
+    let net = network(&rt, rt.alloc(), &CROSSED)?;
     for (a, b, first, second, want) in &CROSSINGS {
         let minutes = net.crossing(TrackId(*a), TrackId(*b), TypeId(*first), TypeId(*second));
         assert_eq!(rt; minutes, *want, "{a} {b} {first} {second}");
@@ -95,36 +138,61 @@ fn a_network_keeps_its_crossings_and_limits(rt: HostRuntime) -> Result<(), Fail>
     Ok(())
 }
 
-/// The line with a crossing of ab with ba and of ab with each other track, the last with so many minutes back.
-fn reaching(rt: &impl Abort, alloc: Global, back: u64) -> Result<Builder, NetFault> {
-    let mut net = line(rt, alloc)?;
-    add_headways(&mut net)?;
-    for name in &OTHERS {
-        add_track(rt, &mut net, name, "A", "B")?;
-        net.crossing("ab", name, "ic", "ic", 120)?;
-        net.crossing(name, "ab", "ic", "ic", 120)?;
+/// Sixteen tracks beside ab and ba.
+const OTHERS: &[&str] = &[
+    "c1", "c2", "c3", "c4", "c5", "c6", "c7", "c8", "c9", "c10", "c11", "c12", "c13", "c14", "c15",
+    "c16",
+];
+
+/// Networks, and why each isn't finished. A missing headway is told before a crossing of one direction. The reach of ab is
+/// sixteen times 239 minutes, and 120 + 57 - 1 or one more.
+static FINISHED: [(Added, Option<NetRefusal>); 4] = [
+    (
+        Added {
+            has_headways: false,
+            others: &[],
+            crossings: &[("ab", "ba", "ic", "ic", 12)],
+        },
+        Some(NetRefusal::MissingHeadway),
+    ),
+    (
+        Added {
+            has_headways: true,
+            others: &[],
+            crossings: &[("ab", "ba", "ic", "ic", 12)],
+        },
+        Some(NetRefusal::OneWayCrossing),
+    ),
+    (
+        Added {
+            has_headways: true,
+            others: OTHERS,
+            crossings: &[("ab", "ba", "ic", "ic", 120), ("ba", "ab", "ic", "ic", 57)],
+        },
+        None,
+    ),
+    (
+        Added {
+            has_headways: true,
+            others: OTHERS,
+            crossings: &[("ab", "ba", "ic", "ic", 120), ("ba", "ab", "ic", "ic", 58)],
+        },
+        Some(NetRefusal::Reach),
+    ),
+];
+
+/// Why the line isn't finished with what is added to it.
+fn refusal(rt: &impl Abort, alloc: Global, added: &Added) -> Option<NetRefusal> {
+    match network(rt, alloc, added) {
+        Err(NetFault::Refused(why)) => Some(why),
+        _ => None,
     }
-    net.crossing("ab", "ba", "ic", "ic", 120)?;
-    net.crossing("ba", "ab", "ic", "ic", back)?;
-    Ok(net)
 }
 
 #[test]
 fn a_network_is_refused_in_order(rt: HostRuntime) -> Result<(), Fail> {
-    let mut net = line(&rt, rt.alloc())?;
-    net.crossing("ab", "ba", "ic", "ic", 12)?;
-    assert!(rt; !net.headways_whole());
-    assert_eq!(rt; refusal(net), Some(NetRefusal::MissingHeadway));
-    let mut net = line(&rt, rt.alloc())?;
-    net.crossing("ab", "ba", "ic", "ic", 12)?;
-    add_headways(&mut net)?;
-    assert!(rt; net.headways_whole());
-    assert_eq!(rt; refusal(net), Some(NetRefusal::OneWayCrossing));
-    // Sixteen times 239 minutes, and 120 + 57 - 1 or one more.
-    assert_eq!(rt; refusal(reaching(&rt, rt.alloc(), 57)?), None);
-    assert_eq!(rt;
-        refusal(reaching(&rt, rt.alloc(), 58)?),
-        Some(NetRefusal::Reach)
-    );
+    for (added, want) in &FINISHED {
+        assert_eq!(rt; refusal(&rt, rt.alloc(), added), *want);
+    }
     Ok(())
 }

@@ -1,8 +1,8 @@
 //! Rows of platforms, at values worked by hand.
-ghost use Rattle.std.specs.Prelude.{◌≡◌};
+ghost use Rattle.std.specs.Prelude.{◌≡◌, true};
 ghost use Rattle.optra_walk.specs.Legs.{dwell_of};
 
-use crate::crossings::{add_headways, line};
+use crate::crossings::{LINE, network};
 use optra_network::{Network, StationId, TrackId, TypeId};
 use optra_platform::{PRow, PlatformRows};
 use optra_walk::{Action, Leg, RowFamily};
@@ -67,9 +67,7 @@ static TOUCHED: [(u16, u16, Action, u32, Option<u16>); 14] = [
 
 #[test]
 fn a_leg_uses_the_minutes_in_which_it_stands(rt: HostRuntime) -> Result<(), Fail> {
-    let mut net = line(&rt, rt.alloc())?;
-    add_headways(&mut net)?;
-    let net = net.finish()?;
+    let net = network(&rt, rt.alloc(), &LINE)?;
     for (track, depart, action, k, minute) in &TOUCHED {
         let row = touched(&rt, &net, *track, *depart, *action, *k);
         let want = minute.map(|minute| PRow {
@@ -95,9 +93,7 @@ fn used(rt: &impl Abort, net: &Network, station: u16, minute: u16) -> u32 {
 
 #[test]
 fn a_station_has_rows_up_to_its_limit(rt: HostRuntime) -> Result<(), Fail> {
-    let mut net = line(&rt, rt.alloc())?;
-    add_headways(&mut net)?;
-    let net = net.finish()?;
+    let net = network(&rt, rt.alloc(), &LINE)?;
     assert_eq!(rt; used(&rt, &net, 1, 9), 0);
     assert_eq!(rt; used(&rt, &net, 1, 10), 1);
     assert_eq!(rt; used(&rt, &net, 1, 14), 1);
