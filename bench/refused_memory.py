@@ -4,7 +4,7 @@
 Of each run below (or of those that are named) it counts the allocations, by a library that stands in front of the C library's (made
 by `cc`), and then runs the program once for each, with that one refused. The run has to answer as it does with ample memory, or 8: then
 with nothing on the output, nothing put, and `no memory` on the error line. At the first other answer it says which allocation was
-refused and ends with status 1. The runs of an auction are passed over while the program has no such command. Run by hand.
+refused and ends with status 1. Run by hand.
 """
 import os
 import shutil
@@ -96,9 +96,6 @@ def main(program, names):
         if names and name not in names:
             continue
         ample, count = answer(program, library, words, files, 0)
-        if ample[0] == 2:
-            print(f"{name}: no such command yet", flush=True)
-            continue
         refusals = 0
         for number in range(1, count + 1):
             got, _ = answer(program, library, words, files, number)
