@@ -5,6 +5,7 @@ pub mod BothReads
 pub mod Examples
 pub mod WritableLemmas
 pub mod ApartLemmas
+pub mod CountLemmas
 pub mod ColumnLemmas
 pub mod RowLemmas
 pub mod TellLemmas

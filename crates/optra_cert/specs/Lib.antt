@@ -5,8 +5,12 @@ pub mod ListLemmas
 pub mod TextLemmas
 pub mod Headways
 pub mod HeadwayLemmas
+pub mod Kinds
+pub mod OneKind
+pub mod OneKindLemmas
 pub mod Boths
 pub mod BothLemmas
+pub mod Counts
 pub mod Certs
 pub mod CertTexts
 pub mod Writables

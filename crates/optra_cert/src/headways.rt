@@ -1,13 +1,11 @@
 //! The texts of headway rows.
-ghost use Rattle.std.specs.Prelude.{◌≡◌, ◌++◌, ◌∷◌, [], Some, OnOk};
-ghost use Rattle.std.specs.Fmt.{decimal};
+ghost use Rattle.std.specs.Prelude.{◌≡◌, Some};
 ghost use Rattle.optra_cert.specs.RowTexts.{read_by};
 ghost use Rattle.optra_cert.specs.Headways.{headway_texts, window_kind, pair_kind};
 
-use crate::columns::{minute_in, track_in, type_in};
+use crate::columns::{minute_in, push_minute, push_text, track_in, type_in};
 use crate::{Cell, RowRead, RowText};
-use itoa::Buffer;
-use optra_network::{Minute, Network, NoMemory};
+use optra_network::{Network, NoMemory};
 use optra_rows::{HRow, HeadwayRows};
 use std::alloc::Global;
 
@@ -28,8 +26,8 @@ impl RowText for HeadwayRows {
         let mut cells = Vec::new(alloc);
         match row {
             HRow::Window { track, minute } => {
-                push(alloc, &mut cells, "window")?;
-                push(alloc, &mut cells, net.track_name(track))?;
+                push_text(alloc, &mut cells, "window")?;
+                push_text(alloc, &mut cells, net.track_name(track))?;
                 push_minute(alloc, &mut cells, minute)?;
             }
             HRow::Pair {
@@ -39,11 +37,11 @@ impl RowText for HeadwayRows {
                 second_at,
                 second,
             } => {
-                push(alloc, &mut cells, "pair")?;
-                push(alloc, &mut cells, net.track_name(track))?;
-                push(alloc, &mut cells, net.type_name(first))?;
+                push_text(alloc, &mut cells, "pair")?;
+                push_text(alloc, &mut cells, net.track_name(track))?;
+                push_text(alloc, &mut cells, net.type_name(first))?;
                 push_minute(alloc, &mut cells, first_at)?;
-                push(alloc, &mut cells, net.type_name(second))?;
+                push_text(alloc, &mut cells, net.type_name(second))?;
                 push_minute(alloc, &mut cells, second_at)?;
             }
         }
@@ -109,20 +107,4 @@ fn read_pair(net: &Network, fields: &[Cell]) -> RowRead<HRow>
         second_at,
         second,
     })
-}
-
-/// Adds a text.
-fn push(alloc: Global, cells: &mut Vec<Cell>, text: &str) -> Result<(), NoMemory>
-    ensures { OnOk result (cells.new.items ≡ cells.old.items ++ text.now ∷ []) }
-{
-    cells.push(Cell::new(alloc, text.as_bytes())?)?;
-    Ok(())
-}
-
-/// Adds a minute, in decimal.
-fn push_minute(alloc: Global, cells: &mut Vec<Cell>, minute: Minute) -> Result<(), NoMemory>
-    ensures { OnOk result (cells.new.items ≡ cells.old.items ++ decimal minute ∷ []) }
-{
-    let mut buffer = Buffer::new();
-    push(alloc, cells, buffer.format(minute))
 }

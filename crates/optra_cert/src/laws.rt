@@ -1,12 +1,15 @@
 //! The laws that lead from a valid certificate to its text, and back.
 ghost use Rattle.std.specs.Prelude.{◌≡◌, ◌≤◌, length};
 ghost use Rattle.optra_cert.specs.CertLaws.{OneFirstFault, TextHasNoFault, TextTellsCert};
+ghost use Rattle.optra_cert.specs.Counts.{AreFewTogether};
 ghost use Rattle.optra_cert.specs.Headways.{headway_texts};
 ghost use Rattle.optra_cert.specs.RowTexts.{AreApart};
 ghost use Rattle.optra_cert.specs.Writables.{ValidIsWritable};
 
 use crate::RowText;
-use optra_walk::Instance;
+use optra_network::Network;
+use optra_rows::{Both, Either};
+use optra_walk::{Instance, RowFamily};
 
 /// A valid certificate of an instance can be written, in the family's version.
 pub fn valid_is_writable<F: RowText>(inst: Instance<'_>, rows: &F)
@@ -50,3 +53,12 @@ pub fn first_fault_is_one<F: RowText>(inst: Instance<'_>, rows: &F)
 pub fn headway_kinds_are_apart()
     ensures { AreApart headway_texts.kinds }
 {}
+
+/// A law, and no work: two families together have fewer rows than the sum of two numbers, where the first has fewer than the
+/// one and the second fewer than the other. So rows of three families can be counted where those of each are few.
+pub fn both_rows_are_few<A: RowFamily, B: RowFamily>(net: &Network, rows: &Both<A, B>)
+    ensures { AreFewTogether A.Row.cmp B.Row.cmp ⟦<Either<A::Row, B::Row> as Ord>⟧.cmp (A.rows_of rows.now.first net.now) (B.rows_of rows.now.second net.now) }
+{
+    let _ = net;
+    let _ = rows;
+}

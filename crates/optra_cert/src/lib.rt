@@ -9,7 +9,7 @@ use std::marker::Model;
 use thiserror::Error;
 
 mod cell;
-mod columns;
+pub mod columns;
 mod fields;
 mod frame;
 mod headways;
@@ -26,8 +26,8 @@ mod writing;
 
 pub use cell::Cell;
 pub use laws::{
-    first_fault_is_one, headway_kinds_are_apart, text_has_no_fault, text_tells_cert,
-    valid_is_writable,
+    both_rows_are_few, first_fault_is_one, headway_kinds_are_apart, text_has_no_fault,
+    text_tells_cert, valid_is_writable,
 };
 pub use record_reader::read_certificate;
 pub use row_text::{RowRead, RowText};

@@ -5,6 +5,7 @@ use Rattle.std.specs.Map.{lookup}
 use Rattle.optra_network.specs.Net.{Net, IsBuilt, track_id, same_pair, same_triple, times_of, headway_of, leaves, out_tracks_of}
 use Rattle.optra_network.specs.Headways.{type_id, hmin_or_0}
 use Rattle.optra_network.specs.Partners.{partners_of}
+use Rattle.optra_network.specs.Crossers.{HoldsCrossers}
 use Rattle.optra_network.specs.declared.StationId.{StationId}
 use Rattle.optra_network.specs.declared.TrackId.{TrackId}
 use Rattle.optra_network.specs.declared.Track.{Track}
@@ -107,3 +108,4 @@ pub record AreTables (net : Net) (tables : Tables) : Type 0 where
   pub leasts : HoldsPairs (hmin_at net) (length net.tracks) tables.leasts.items
   pub out : AreOut net.tracks (length net.stations) tables.out
   pub partners : HoldsPairs (λ t k. partners_of net (track_id t) (type_id k)) (length net.tracks) (map (λ list. list.items) tables.partners.items)
+  pub crossers : HoldsCrossers net (length net.tracks) (map (λ list. list.items) tables.crossers.items)

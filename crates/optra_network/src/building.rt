@@ -14,6 +14,7 @@ use std::alloc::Global;
 use std::marker::Model;
 
 mod completing;
+mod crossers;
 mod crossing;
 mod finishing;
 mod pairing;

@@ -6,7 +6,7 @@ ghost use Rattle.std.specs.Prelude.{◌≡◌, ℕ, ◌+◌, ◌*◌, ◌<◌, �
 ghost use Rattle.optra_network.specs.Net.{out_tracks_of};
 ghost use Rattle.optra_network.specs.Tables.{no_times, IsPair, IsTriple, found_times, found_headway, HoldsPairs, HoldsTriples, at_pair, at_triple, HoldsOut, HasRange, range_of, AreOut, AreJoined};
 
-use crate::{NoMemory, Partner, StationId, Times, Track, TrackId, TypeId};
+use crate::{Crosser, NoMemory, Partner, StationId, Times, Track, TrackId, TypeId};
 use indexmap::IndexMap;
 use std::alloc::Global;
 
@@ -21,6 +21,8 @@ pub(crate) struct Tables {
     pub(crate) out: Outgoing,
     /// The partners of a use in pair rows, by track and type.
     pub(crate) partners: Vec<Vec<Partner>>,
+    /// The types that have a crossing with a type on a track, by both.
+    pub(crate) crossers: Vec<Vec<Crosser>>,
 }
 
 /// Running times and headways by place.
@@ -187,7 +189,7 @@ fn out_lists(
 }
 
 /// So many empty lists.
-fn empty_lists(alloc: Global, count: usize) -> Result<Vec<Vec<TrackId>>, NoMemory>
+pub(crate) fn empty_lists<T: Drop>(alloc: Global, count: usize) -> Result<Vec<Vec<T>>, NoMemory>
     ensures { IfOk result (λ lists. map (λ list. list.items) lists.items ≡ replicate count []) }
 {
     let mut lists = Vec::new(alloc);

@@ -1,16 +1,18 @@
 //! A finished network, its look-ups, and when two uses of tracks are in conflict.
 ghost use Rattle.std.specs.Prelude.{◌≡◌, ◌+◌, ◌<◌, ◌≤◌, ◌↔◌, length, All, Contains, IfSome, IsTrue, MatchBool, Some, slice_get};
+ghost use Rattle.std.specs.List.Sorted.{IsPermutation};
 ghost use Rattle.std.specs.Option.{option_map};
 ghost use Rattle.optra_network.specs.Headways.{hmin_of};
 ghost use Rattle.optra_network.specs.Net.{times_of, headway_of, crossing_of, halt_max_of, minutes_by, out_tracks_of, IsFromTo, MayUse, IsProper, IsStation, IsTrack, IsKind};
 ghost use Rattle.optra_network.specs.Refusals.{station_named, track_named, type_named};
 ghost use Rattle.optra_network.specs.Conflict.{AreCompatible, KeepsHeadway};
 ghost use Rattle.optra_network.specs.Partners.{IsPartner, partners_of};
+ghost use Rattle.optra_network.specs.Crossers.{crossers_of, TracksRise};
 ghost use Rattle.optra_network.specs.declared.Partner.{Partner};
 
 use crate::dense::{Tables, above_zero};
 use crate::names::Names;
-use crate::{Partner, StationId, Times, Track, TrackId, TrackUse, TypeId};
+use crate::{Crosser, Partner, StationId, Times, Track, TrackId, TrackUse, TypeId};
 use indexmap::IndexMap;
 use std::marker::Model;
 
@@ -123,6 +125,17 @@ impl Network {
         ensures each { (partner : Partner) → Contains result.now partner ↔ IsPartner self.now track kind partner }
     {
         &self.tables.partners[track.0 as usize * 16 + kind.0 as usize]
+    }
+
+    /// The types on other tracks that have a crossing with a type on a track, in the order of their tracks. This call is
+    /// beyond the rest of the surface: rows of crossings need it at hand, since a family of rows takes no memory.
+    pub fn crossers(&self, track: TrackId, kind: TypeId) -> &[Crosser]
+        requires { MayUse self.now track kind }
+        ensures all { IsPermutation (crossers_of self.now track kind) result.now }
+        ensures order { TracksRise result.now }
+        ensures proper { IsProper self.now }
+    {
+        &self.tables.crossers[track.0 as usize * 16 + kind.0 as usize]
     }
 
     /// How many stations there are, at most 300.

@@ -54,6 +54,20 @@ pub struct Partner {
     pub kind: TypeId,
 }
 
+/// A type on another track that has a crossing with a type on a track: a use of the one and a use of the other that come
+/// too near are not compatible. `Network::crossers` gives them.
+#[derive(Clone, Copy, Debug, PartialEq, Eq, PartialOrd, Ord)]
+pub struct Crosser {
+    /// The other track.
+    pub track: TrackId,
+    /// The type on it, which may use it.
+    pub kind: TypeId,
+    /// The own use departs at least so many minutes after the other one, 1 to 120, where it departs after it.
+    pub before: u16,
+    /// The other use departs at least so many minutes after the own one, 1 to 120, where it departs after it.
+    pub after: u16,
+}
+
 /// The ends of a track, two different stations. No call takes or gives it: it stands in what contracts see of a
 /// network, so it is public.
 #[derive(Clone, Copy, Debug, PartialEq, Eq)]

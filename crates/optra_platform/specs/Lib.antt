@@ -1,2 +1,4 @@
 pub mod Platforms
 pub mod PlatformLemmas
+pub mod PlatformTexts
+pub mod PlatformTextLemmas

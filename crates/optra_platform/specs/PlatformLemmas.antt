@@ -17,7 +17,7 @@ use Rattle.optra_network.specs.declared.Times.{Times}
 use Rattle.optra_network.specs.declared.TypeId.{TypeId}
 use Rattle.optra_network.proofs.MemberLemmas.{In, in_from, contains_from, all_from_in, in_map, in_map_from, in_range, in_range_from}
 use Rattle.optra_network.proofs.ReadLemmas.{halt_most}
-use Rattle.optra_walk.specs.Families.{Ascends, Entry, FitRows, IsUsable, ListsRows, TellsApart, UseAlike}
+use Rattle.optra_walk.specs.Families.{Ascends, Entry, FitRows, IsUsable, ListsRows, TellsApart, UseAlike, UsesFew}
 use Rattle.optra_walk.specs.Legs.{after_action, arrival_of, dwell_of, next_depart_of}
 use Rattle.optra_walk.specs.Rules.{KeepsHalts, head_of, is_standing, stands_at}
 use Rattle.optra_walk.specs.declared.Action.{Action}
@@ -25,7 +25,7 @@ use Rattle.optra_walk.specs.declared.Action.TheVariants.{Pass, Halt, Wait, Finis
 use Rattle.optra_walk.specs.declared.Leg.{Leg}
 use Rattle.optra_platform.specs.declared.PRow.{PRow}
 use Rattle.optra_platform.specs.contracts.PRowOrd.TheImpl.{ghosts}
-use Rattle.optra_platform.specs.Platforms.{is_row_of, uses_row, use_in, is_free, platform_rows, row_at, rows_between, rows_from, rows_of_stay, standing_rows}
+use Rattle.optra_platform.specs.Platforms.{count_between, is_row_of, uses_row, use_in, is_free, most_rows, platform_rows, row_at, rows_between, rows_from, rows_of_stay, standing_rows}
 
 -- the order of rows
 abbrev pub row_cmp : PRow → PRow → Ordering
@@ -165,17 +165,20 @@ use_true true h = refl
 use_true false h = absurd (omega arith)
 
 -- a usable leg uses at most 240 rows, each once
-pub few_standing : (net : Net) (kind : TypeId) (leg : Leg) → IsUsable net kind leg → length (standing_rows net kind leg) ≤ 240
+few_standing : (net : Net) (kind : TypeId) (leg : Leg) → IsUsable net kind leg → length (standing_rows net kind leg) ≤ 240
 few_standing net kind leg usable =
     let few = few_rows net leg.action (head_of net leg.track) (arrival_of net kind leg) in
     let dwell = usable.dwell in
     omega arith
 
-pub little_standing : (net : Net) (kind : TypeId) (leg : Leg) → IsUsable net kind leg → sum_by (use_in net kind leg) (standing_rows net kind leg) ≤ 240
+little_standing : (net : Net) (kind : TypeId) (leg : Leg) → IsUsable net kind leg → sum_by (use_in net kind leg) (standing_rows net kind leg) ≤ 240
 little_standing net kind leg usable =
     let few = few_standing net kind leg usable in
     let t = sum_by-le (use_in net kind leg) 1 (standing_rows net kind leg) (λ k d l. use_one (uses_row net kind leg (get_or (standing_rows net kind leg) k d))) in
     omega arith
+
+pub few_halts : (net : Net) (kind : TypeId) (leg : Leg) → IsUsable net kind leg → UsesFew most_rows (use_in net kind leg) (standing_rows net kind leg)
+few_halts net kind leg usable = record { few = few_standing net kind leg usable; total = little_standing net kind leg usable }
 
 pub standing_rows_listed : (net : Net) (kind : TypeId) (leg : Leg) → IsProper net → IsUsable net kind leg
     → ListsRows row_cmp (is_row_of net) (use_in net kind leg) (standing_rows net kind leg)
@@ -220,6 +223,16 @@ unusable_none net kind leg row may_not =
     ap (λ b. cond b 1 0) (false_from_ne_true (uses_row net kind leg row) (λ e.
     never_stays leg.action (head_of net leg.track) row
     (subst (λ (o : Option ℕ). stays leg.action (head_of net leg.track) o row ≡ true) none (and_parts (is_row_of net row) (stands_at net kind leg row.station row.minute) e).1)))
+
+-- ---- how many rows a leg uses
+
+-- at a station with a limit, one for each minute of the stay
+pub count_stay : (net : Net) (s : StationId) (arrival departure : Option ℕ) → 0 < halt_max_of net s → length (rows_of_stay net (Some s) arrival departure) ≡ count_between arrival departure
+count_stay net s None departure limit = refl
+count_stay net s (Some a) None limit = refl
+count_stay net s (Some a) (Some d) limit =
+    ap (λ b. length (cond b (rows_between s a d) [])) (lt-ltb 0 (halt_max_of net s) limit)
+    ∙ length-map-range_with_len (row_at s) a (min d 2880 - a)
 
 -- ---- legs that use no row
 

@@ -31,6 +31,10 @@ use_in net kind leg row = if uses_row net kind leg row then 1 else 0
 abbrev pub platform_rows : Net → Rows PRow
 platform_rows net = record { is_row = is_row_of net; capacity = λ row. halt_max_of net row.station; uses = use_in net }
 
+-- a leg uses at most so many rows
+abbrev pub most_rows : ℕ
+most_rows = 240
+
 -- the row of a station and a minute
 abbrev pub row_at : StationId → ℕ → PRow
 row_at station minute = record { station = station; minute = minute }
@@ -38,6 +42,10 @@ row_at station minute = record { station = station; minute = minute }
 -- the rows of the minutes from an arrival up to a departure, as far as they are in the two days
 abbrev pub rows_between : StationId → ℕ → ℕ → List PRow
 rows_between station arrival departure = map (row_at station) (range_with_len arrival (min departure 2880 - arrival))
+
+-- how many minutes of the two days there are from an arrival up to a departure, of which each may be missing
+abbrev pub count_between : Option ℕ → Option ℕ → ℕ
+count_between arrival departure = option_map_or (λ a. option_map_or (λ d. min d 2880 - a) departure 0) arrival 0
 
 -- the same, where the station has a limit
 abbrev pub rows_from : Net → StationId → ℕ → ℕ → List PRow

@@ -3,7 +3,7 @@ ghost use Rattle.std.specs.Prelude.{◌≡◌, ◌+◌, ◌-◌, ◌↔◌, min,
 ghost use Rattle.std.specs.Option.{option_map_or};
 ghost use Rattle.optra_network.specs.Net.{halt_max_of};
 ghost use Rattle.optra_walk.specs.Rules.{head_of, is_standing, stands_at};
-ghost use Rattle.optra_platform.specs.Platforms.{IsPlatformRow, is_free, is_row_of, rows_between};
+ghost use Rattle.optra_platform.specs.Platforms.{IsPlatformRow, count_between, is_free, is_row_of, rows_between};
 
 use crate::PRow;
 use optra_network::{Minute, Network, StationId, TrackId, TypeId};
@@ -26,8 +26,8 @@ impl PlatformRows {
 
 impl RowFamily for PlatformRows {
     ghost use Rattle.optra_walk.specs.Rules.{KeepsHalts};
-    ghost use Rattle.optra_platform.specs.Platforms.{platform_rows, standing_rows};
-    ghost use Rattle.optra_platform.specs.PlatformLemmas.{rows_told_apart, standing_rows_listed, capacity_low, unusable_none, halts_by_rows};
+    ghost use Rattle.optra_platform.specs.Platforms.{most_rows, platform_rows, standing_rows};
+    ghost use Rattle.optra_platform.specs.PlatformLemmas.{rows_told_apart, standing_rows_listed, few_halts, capacity_low, unusable_none, halts_by_rows};
 
     type Row = PRow;
 
@@ -35,11 +35,15 @@ impl RowFamily for PlatformRows {
 
     ghost rows_used = { λ _ net kind leg. standing_rows net kind leg };
 
+    ghost most = { λ _. most_rows };
+
     ghost KeepsRule = { λ _ net entries. KeepsHalts net entries };
 
     ghost tells_apart = { rows_told_apart };
 
     ghost lists_rows = { λ f net kind leg p u. standing_rows_listed net kind leg p u };
+
+    ghost uses_few = { λ f net kind leg p u. few_halts net kind leg u };
 
     ghost capacity_fits = { λ f net row p is. capacity_low net row p };
 
@@ -75,6 +79,17 @@ impl RowFamily for PlatformRows {
             return None;
         }
         row_between(station, from, until, k)
+    }
+
+    fn used_count(&self, net: &Network, kind: TypeId, leg: Leg) -> u32 {
+        let Some(station) = head(net, leg.track) else {
+            return 0;
+        };
+        if net.halt_max(station) > 0 {
+            count_between(arrival(net, kind, leg), next_depart(net, kind, leg))
+        } else {
+            0
+        }
     }
 
     /// Legs that use no row whatever their times are use alike.
@@ -158,6 +173,16 @@ fn is_before(minute: Minute, departure: Option<u32>) -> bool
         Some(departure) => u32::from(minute) < departure,
         None => false,
     }
+}
+
+/// How many minutes of the two days there are from an arrival up to a departure, and 0 where one of them is missing.
+fn count_between(arrival: Option<u32>, departure: Option<u32>) -> u32
+    ensures { result ≡ count_between arrival departure }
+{
+    let (Some(from), Some(until)) = (arrival, departure) else {
+        return 0;
+    };
+    until.min(DAYS_END).saturating_sub(from)
 }
 
 /// The k-th of the rows of the minutes from one up to another, as far as they are in the two days.

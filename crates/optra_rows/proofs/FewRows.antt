@@ -1,13 +1,11 @@
 -- How many rows of headways a network has at most.
-use Rattle.std.proofs.Common.{◌≡◌, ℕ, zero, suc, ◌+◌, ◌*◌, ◌<◌, ◌≤◌, ◌⊎◌, inl, inr, true, nat_le, nat_lt, List, length, get_or, refl, sym, ◌∙◌, ap, arith}
-use Rattle.std.proofs.lemmas.Bool.{ltb-true, leb-true, and_parts, cases_lt}
+use Rattle.std.proofs.Common.{◌≡◌, ℕ, ◌+◌, ◌*◌, ◌<◌, inl, inr, true, nat_le, nat_lt, List, length, get_or, arith}
+use Rattle.std.proofs.lemmas.Bool.{ltb-true, leb-true, and_parts}
 use Rattle.std.proofs.lemmas.List.Elements.{All-get_or, All-from_get_or}
 use Rattle.std.specs.Prelude.{All}
 use Rattle.std.specs.List.{AllPairs}
-use Rattle.std.specs.Cmp.{nat_cmp_is}
-use Rattle.std.specs.Ordering.{nat_cmp, ordering_then}
-use Rattle.std.specs.declared.cmp.Ordering.{Ordering}
-use Rattle.std.specs.declared.cmp.Ordering.TheVariants.{Less, Equal, Greater}
+use Rattle.std.specs.Ordering.{nat_cmp}
+use Rattle.std.specs.declared.cmp.Ordering.TheVariants.{Less, Greater}
 use Rattle.optra_network.specs.Net.{Net, IsProper}
 use Rattle.optra_network.specs.Partners.{is_paired}
 use Rattle.optra_network.proofs.HeadwayLemmas.{below_types}
@@ -16,6 +14,7 @@ use Rattle.optra_rows.specs.declared.HRow.{HRow}
 use Rattle.optra_rows.specs.declared.HRow.TheVariants.{Window, Pair}
 use Rattle.optra_rows.specs.Headways.{is_row_of}
 use Rattle.optra_rows.specs.TouchedLemmas.{row_cmp}
+use Rattle.optra_rows.proofs.PlaceOrder.{few_by_places, last_part, less_parts}
 
 -- ---- the place of a row among all that could be there
 
@@ -52,29 +51,6 @@ place_small (Pair k t a u b) small =
 
 -- ---- it rises with the order of rows
 
-equal_parts : (x y : ℕ) (o : Ordering) → x ≡ y → ordering_then (nat_cmp x y) o ≡ Less → o ≡ Less
-equal_parts x y o e less = sym (ap (λ c. ordering_then c o) (sym (nat_cmp_is x y Equal e))) ∙ less
-
-greater_parts : (x y : ℕ) (o : Ordering) → y < x → ordering_then (nat_cmp x y) o ≡ Less → ⊥
-greater_parts x y o l less =
-    let bad : Greater ≡ Less = sym (ap (λ c. ordering_then c o) (sym (nat_cmp_is x y Greater l))) ∙ less in absurd (cc bad)
-
--- the first numbers are in order, or they are the same and the rest is
-less_parts : (x y : ℕ) (o : Ordering) → ordering_then (nat_cmp x y) o ≡ Less → (x < y) ⊎ ((x ≡ y) × (o ≡ Less))
-less_parts x y o less = elim (cases_lt x y) [
-  | inl lt ↦ inl lt
-  | inr ge ↦ elim (cases_lt y x) [
-    | inl gt ↦ absurd (greater_parts x y o gt less)
-    | inr le ↦ let same : x ≡ y = omega arith in inr (same, equal_parts x y o same less)
-  ]
-]
-
-last_part : (x y : ℕ) → nat_cmp x y ≡ Less → x < y
-last_part x y less = elim (less_parts x y Less (ap (λ c. ordering_then c Less) less)) [
-  | inl lt ↦ lt
-  | inr same ↦ let bad : Equal ≡ Less = nat_cmp_is x y Equal same.0 ∙ less in absurd (cc bad)
-]
-
 places_rise : (a b : HRow) → IsSmall a → IsSmall b → row_cmp a b ≡ Less → place a < place b
 places_rise (Window k m) (Window k' m') sa sb less =
     let m_small = sa.1 in
@@ -102,17 +78,10 @@ places_rise (Pair k t a u b) (Pair k' t' a' u' b') sa sb less =
 
 -- ---- so there are few
 
--- the row at a place of an ascending list has at least that place
-places_from : (rows : List HRow) (d : HRow) → AllPairs (λ a b. row_cmp a b ≡ Less) rows → All IsSmall rows → (i : ℕ) → i < length rows → i ≤ place (get_or rows i d)
-places_from rows d ascend small zero within = omega arith
-places_from rows d ascend small (suc i) within =
-    let before = places_from rows d ascend small i (omega (arith, within)) in
-    let rise = places_rise (get_or rows i d) (get_or rows (suc i) d) (All-get_or IsSmall rows i d (omega (arith, within)) small) (All-get_or IsSmall rows (suc i) d within small) (ascend i (suc i) d (omega arith) within) in
-    omega (arith, before, rise)
-
 -- an ascending list of rows of headways has fewer than 10^13
 pub few_rows : (net : Net) (rows : List HRow) → IsProper net → AllPairs (λ a b. row_cmp a b ≡ Less) rows → All (λ row. is_row_of net row ≡ true) rows → length rows < 10000000000000
-few_rows net rows proper ascend are = go (length rows) refl
+few_rows net rows proper ascend are =
+    let few = few_by_places row_cmp place IsSmall places_rise rows ascend small d (3000000 + 1000 * 2880 * 16 * 2880 * 16) place_small in omega (arith, few)
   where
     d : HRow
     d = Window (record { 0 = 0 }) 0
@@ -120,10 +89,3 @@ few_rows net rows proper ascend are = go (length rows) refl
     small : All IsSmall rows
     small = All-from_get_or IsSmall rows d
         (λ i within. row_small net (get_or rows i d) proper (All-get_or (λ row. is_row_of net row ≡ true) rows i d within are))
-
-    go : (n : ℕ) → length rows ≡ n → length rows < 10000000000000
-    go zero e = omega (arith, e)
-    go (suc n) e =
-        let last = places_from rows d ascend small n (omega (arith, e)) in
-        let below = place_small (get_or rows n d) (All-get_or IsSmall rows n d (omega (arith, e)) small) in
-        omega (arith, e, last, below)

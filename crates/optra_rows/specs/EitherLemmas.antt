@@ -7,7 +7,7 @@ use Rattle.std.specs.declared.cmp.Ordering.TheVariants.{Less, Equal, Greater}
 use Rattle.optra_network.specs.declared.TypeId.{TypeId}
 use Rattle.optra_network.proofs.MemberLemmas.{in_from, contains_from, all_from_in, in_append, in_append_left, in_append_right, in_map, in_map_from}
 use Rattle.optra_walk.specs.declared.Leg.{Leg}
-use Rattle.optra_walk.specs.Families.{Entry, Rows, Ascends, ListsRows, TellsApart, FitRows, load_of}
+use Rattle.optra_walk.specs.Families.{Entry, Rows, Ascends, ListsRows, UsesFew, TellsApart, FitRows, load_of}
 use Rattle.optra_rows.specs.declared.joining.Either.{Either}
 use Rattle.optra_rows.specs.declared.joining.Either.TheVariants.{First, Second}
 use Rattle.optra_rows.specs.Eithers.{either_of, both_rows, both_lists, AreFew}
@@ -29,6 +29,32 @@ sum_by_along : {P R : Type 0} (f : P → R) (g : R → ℕ) (ps : List P) → su
 sum_by_along f g [] = refl
 sum_by_along f g (p ∷ ps) =
     sum_by-cons g (f p) (map f ps) ∙ ap (λ n. g (f p) + n) (sum_by_along f g ps) ∙ sym (sum_by-cons (λ q. g (f q)) p ps)
+
+-- where two numbers are at most 8,192 together, two families of which each uses at most one of them do so too
+pub few_together : {P Q : Type 0} {m n : ℕ} {use_p : P → ℕ} {use_q : Q → ℕ} {ps : List P} {qs : List Q}
+    → UsesFew m use_p ps → UsesFew n use_q qs → m + n ≤ 8192 → AreFew use_p use_q ps qs
+few_together p q bound = record {
+  few = let a = p.few in let b = q.few in omega (arith, a, b, bound);
+  total = let a = p.total in let b = q.total in omega (arith, a, b, bound);
+}
+
+-- two families together use at most what each uses at most
+pub few_of_both : {P Q : Type 0} {m n : ℕ} {use_p : P → ℕ} {use_q : Q → ℕ} {ps : List P} {qs : List Q}
+    → UsesFew m use_p ps → UsesFew n use_q qs → UsesFew (m + n) (either_of use_p use_q) (both_lists ps qs)
+few_of_both {P} {Q} {m} {n} {use_p} {use_q} {ps} {qs} p q = record {
+  few =
+      let fp : List (Either P Q) = map First ps in let sq : List (Either P Q) = map Second qs in
+      let l : length (both_lists ps qs) ≡ length fp + length sq = length-append fp sq in
+      let a : length fp ≡ length ps = length-map ps First in let b : length sq ≡ length qs = length-map qs Second in
+      let c = p.few in let d = q.few in omega (arith, l, a, b, c, d);
+  total =
+      let u : Either P Q → ℕ = either_of use_p use_q in
+      let fp : List (Either P Q) = map First ps in let sq : List (Either P Q) = map Second qs in
+      let l : sum_by u (both_lists ps qs) ≡ sum_by u fp + sum_by u sq = sum_by-append u fp sq in
+      let a : sum_by u fp ≡ sum_by use_p ps = sum_by_along First u ps in
+      let b : sum_by u sq ≡ sum_by use_q qs = sum_by_along Second u qs in
+      let c = p.total in let d = q.total in omega (arith, l, a, b, c, d);
+}
 
 module _ {P Q : Type 0} (cmp_p : P → P → Ordering) (cmp_q : Q → Q → Ordering) (cmp : Either P Q → Either P Q → Ordering)
     (firsts : (a b : P) → cmp (First a) (First b) ≡ cmp_p a b) (seconds : (a b : Q) → cmp (Second a) (Second b) ≡ cmp_q a b)

@@ -1,5 +1,5 @@
 -- Headway rows: which there are, and which uses of tracks use them.
-use Rattle.std.specs.Prelude.{ℕ, ◌+◌, ◌-◌, ◌≤◌, ◌++◌, filter, nat_le, nat_lt, nat_eq, ◌&&◌, ◌||◌, Bool, List, length, map, Option, Some, None, if◌then◌else◌}
+use Rattle.std.specs.Prelude.{◌≡◌, ℕ, ◌+◌, ◌-◌, ◌<◌, ◌≤◌, ◌++◌, true, false, filter, get_or, nat_le, nat_lt, nat_eq, ◌&&◌, ◌||◌, Bool, List, length, map, Option, Some, None, if◌then◌else◌}
 use Rattle.std.specs.List.{range_with_len}
 use Rattle.std.specs.List.Sorted.{IsNonDecreasingBy}
 use Rattle.optra_network.specs.Net.{Net, IsTrack}
@@ -60,12 +60,31 @@ abbrev pub pair_of : TrackId → TypeId → ℕ → Partner → HRow
 pair_of track kind time partner =
     if nat_lt partner.shift 120 then Pair track (time + partner.shift - 120) partner.kind time kind else Pair track time kind (time + partner.shift - 120) partner.kind
 
+-- a leg uses at most so many rows
+abbrev pub most_rows : ℕ
+most_rows = 3944
+
 -- whether a partner's minute is in the day: no earlier, and no later
 abbrev pub is_started : ℕ → Partner → Bool
 is_started time partner = nat_le 120 (time + partner.shift)
 
 abbrev pub is_not_over : ℕ → Partner → Bool
 is_not_over time partner = nat_le (time + partner.shift) 2999
+
+-- the partners whose minutes are in the day
+abbrev pub in_day : ℕ → List Partner → List Partner
+in_day time partners = filter (λ partner. is_started time partner && is_not_over time partner) partners
+
+-- up to the place the partners' minutes are before the day, and from it on they are not
+pub record IsFirstStarted (time : ℕ) (partners : List Partner) (place : ℕ) : Type 0 where
+  pub before : (k : ℕ) (d : Partner) → k < place → is_started time (get_or partners k d) ≡ false
+  pub after : (k : ℕ) (d : Partner) → place ≤ k → k < length partners → is_started time (get_or partners k d) ≡ true
+
+-- up to the place the partners' minutes are not after the day, and from it on they are
+pub record IsFirstOver (time : ℕ) (partners : List Partner) (place : ℕ) : Type 0 where
+  pub within : place ≤ length partners
+  pub before : (k : ℕ) (d : Partner) → k < place → is_not_over time (get_or partners k d) ≡ true
+  pub after : (k : ℕ) (d : Partner) → place ≤ k → k < length partners → is_not_over time (get_or partners k d) ≡ false
 
 -- partners in the order of their minutes
 abbrev pub ShiftsRise : List Partner → Type 0
@@ -77,7 +96,7 @@ windows_of net track kind time = map (λ minute. Window track minute) (range_wit
 
 -- and the pair rows
 abbrev pub pairs_of : Net → TrackId → TypeId → ℕ → List HRow
-pairs_of net track kind time = map (pair_of track kind time) (filter (λ partner. is_started time partner && is_not_over time partner) (partners_of net track kind))
+pairs_of net track kind time = map (pair_of track kind time) (in_day time (partners_of net track kind))
 
 -- all of them
 abbrev pub touched_rows : Net → TrackId → TypeId → ℕ → List HRow

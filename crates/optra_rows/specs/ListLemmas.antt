@@ -26,6 +26,14 @@ rises_filter p (x ∷ xs) h = go (p x) (rises_filter p xs h.1)
     go true r = ((λ y i. h.0 y (in_filter_from p xs y i).inside), r)
     go false r = r
 
+-- numbers that rise are no more than lie between their bounds
+pub rises_few : (low high : ℕ) (xs : List ℕ) → low ≤ high → ((x : ℕ) → In x xs → (low ≤ x) × (x < high)) → Rises xs → low + length xs ≤ high
+rises_few low high [] le within h = omega arith
+rises_few low high (x ∷ xs) le within h =
+    let own = within x (inl refl) in
+    let more = rises_few (x + 1) high xs (omega (arith, own)) (λ y i. (let l = h.0 y i in omega arith, (within y (inr i)).1)) h.1 in
+    omega (arith, own, more)
+
 module _ {Row : Type 0} (cmp : Row → Row → Ordering) where
   pub ascends_map : (f : ℕ → Row) (xs : List ℕ) → ((a b : ℕ) → In a xs → In b xs → a < b → cmp (f a) (f b) ≡ Less) → Rises xs → Ascends cmp (map f xs)
   ascends_map f [] mono h = tt

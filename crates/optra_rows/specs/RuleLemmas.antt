@@ -118,7 +118,7 @@ use_of_entry e = use_of e.0 e.1
 abbrev uses_at : Net → HRow → Entry → Bool
 uses_at net row e = uses_row net e.1.track e.0 e.1.depart row
 
-usable_at : (net : Net) (entries : List Entry) (i : ℕ) (e : Entry) → All (λ e. IsUsable net e.0 e.1) entries → slice_get entries i ≡ Some e → IsUsable net e.0 e.1
+pub usable_at : (net : Net) (entries : List Entry) (i : ℕ) (e : Entry) → All (λ e. IsUsable net e.0 e.1) entries → slice_get entries i ≡ Some e → IsUsable net e.0 e.1
 usable_at net entries i e all at =
     let P : Entry → Type 0 = λ e. IsUsable net e.0 e.1 in
     subst P (get_or_from_slice_get entries i e e at) (all i e (slice_get_within entries i e at))
@@ -139,7 +139,7 @@ pub record Behind (entries : List Entry) (i : ℕ) (one : TrackUse) : Type 0 whe
   pub at : slice_get entries i ≡ Some entry
   pub is : use_of_entry entry ≡ one
 
-behind : (entries : List Entry) (i : ℕ) (one : TrackUse) (o : Option Entry) → slice_get entries i ≡ o → option_map use_of_entry o ≡ Some one → Behind entries i one
+pub behind : (entries : List Entry) (i : ℕ) (one : TrackUse) (o : Option Entry) → slice_get entries i ≡ o → option_map use_of_entry o ≡ Some one → Behind entries i one
 behind entries i one None e h = absurd (cc)
 behind entries i one (Some x) e h = record { entry = x; at = e; is = cc }
 

@@ -1,9 +1,9 @@
 -- The rows that a leg uses, as a list: ascending, and exactly those.
-use Rattle.std.proofs.Common.{sum_by, ◌≡◌, ℕ, zero, suc, ◌+◌, ◌-◌, ◌*◌, ◌/◌, ◌%◌, ◌<◌, ◌≤◌, ◌&&◌, inl, inr, Bool, true, false, cond, nat_lt, nat_eq, Some, None, is_some, unwrap_or, List, [], ◌∷◌, ◌++◌, map, length, slice_get, get_or, filter, drop, refl, sym, ap, ◌∙◌, subst, arith, length-append}
+use Rattle.std.proofs.Common.{◌≡◌, ℕ, zero, suc, ◌+◌, ◌-◌, ◌*◌, ◌/◌, ◌%◌, ◌<◌, ◌≤◌, ◌&&◌, inl, inr, Bool, true, false, cond, nat_lt, nat_eq, Some, None, is_some, unwrap_or, List, [], ◌∷◌, ◌++◌, map, length, slice_get, get_or, filter, drop, refl, sym, ap, ◌∙◌, subst, arith, length-append}
 use Rattle.std.proofs.lemmas.Bool.{lt-leb, leb-false, ltb-false, ltb-true, leb-true, eqb-true, lt-ltb, le-leb, le-ltb, eq-eqb, and_parts, and_from, or_cases, or_left, or_right, cases_lt, false_from_ne_true}
 use Rattle.std.proofs.lemmas.List.{length-map}
 use Rattle.std.proofs.lemmas.List.Sums.{sum_by-le}
-use Rattle.std.proofs.lemmas.List.FromFn.{length-range_with_len, length-map-range_with_len}
+use Rattle.std.proofs.lemmas.List.FromFn.{length-map-range_with_len}
 use Rattle.std.proofs.lemmas.Option.{slice_get-map}
 use Rattle.std.proofs.lemmas.Map.Lookups.{exact_unsigned}
 use Rattle.std.specs.List.{range_with_len, position_or_len}
@@ -22,13 +22,13 @@ use Rattle.optra_network.proofs.HeadwayLemmas.{below_types}
 use Rattle.optra_network.proofs.TableLemmas.{quotient, remainder}
 use Rattle.optra_network.proofs.MemberLemmas.{In, in_get, in_from, contains_from, in_append, in_append_left, in_append_right, in_map, in_map_from, in_filter, in_filter_from, in_range, in_range_from}
 use Rattle.optra_network.proofs.PartnerLemmas.{numbers_of, PairParts, pair_parts, pair_from, true_some, paired_rule, paired_arithmetic, is_place, partner_places-is}
-use Rattle.optra_walk.specs.Families.{Ascends, ListsRows, TellsApart}
+use Rattle.optra_walk.specs.Families.{Ascends, ListsRows, TellsApart, UsesFew}
 use Rattle.optra_rows.specs.declared.HRow.{HRow}
 use Rattle.optra_rows.specs.declared.HRow.TheVariants.{Window, Pair}
 use Rattle.optra_rows.specs.contracts.HRowOrd.TheImpl.{ghosts}
-use Rattle.optra_rows.specs.Headways.{IsHeadwayRow, is_row_of, is_in_window, uses_row, use_in, pair_of, is_started, is_not_over, ShiftsRise, windows_of, pairs_of, touched_rows, kept}
+use Rattle.optra_rows.specs.Headways.{IsHeadwayRow, is_row_of, is_in_window, uses_row, use_in, pair_of, is_started, is_not_over, ShiftsRise, windows_of, pairs_of, touched_rows, most_rows, kept}
 use Rattle.optra_rows.specs.HeartLemmas.{window_parts, window_from, at_parts, at_itself, same_track, same_type}
-use Rattle.optra_rows.specs.ListLemmas.{length-filter-le, rises_drop, Rises, rises_range, rises_filter, ascends_map, ascends_append, filter_from, slice_get-filter_until, slice_get-drop, slice_get-append, slice_get-append_left, slice_get-range, filter-map, position_or_len-map, kept-map, option_map-map, map-map}
+use Rattle.optra_rows.specs.ListLemmas.{length-filter-le, rises_drop, Rises, rises_few, rises_range, rises_filter, ascends_map, ascends_append, filter_from, slice_get-filter_until, slice_get-drop, slice_get-append, slice_get-append_left, slice_get-range, filter-map, position_or_len-map, kept-map, option_map-map, map-map}
 
 -- the order of rows
 abbrev pub row_cmp : HRow → HRow → Ordering
@@ -313,7 +313,30 @@ module _ (net : Net) (track : TrackId) (kind : TypeId) (time : ℕ) (proper : Is
       subst (λ r. row_cmp r y ≡ Less) m.is (subst (λ r. row_cmp (Window track m.source) r ≡ Less) n.is (window_below n.source m.source)))
 
   -- ---- few
-  few : length rows_by_places ≤ 3960
+  -- no headway is above 120 minutes, so no partner is at the first shift
+  late : (code : ℕ) → is_place net track kind code ≡ true → 16 ≤ code
+  late code h = go (nat_lt (code / 16) 120) refl
+    where
+      go : (c : Bool) → nat_lt (code / 16) 120 ≡ c → 16 ≤ code
+      go true e =
+          let p = pair_parts net track (code / 16) (type_id (code % 16)) 120 kind (ap (λ c. cond c (is_paired net track (code / 16) (type_id (code % 16)) 120 kind) (is_paired net track 120 kind (code / 16) (type_id (code % 16)))) (sym e) ∙ h) in
+          let n = numbers_of net track (type_id (code % 16)) kind proper p.first p.second in
+          let near = p.near in let most = n.most in omega arith
+      go false e = let l = ltb-false (code / 16) 120 e in omega arith
+
+  few_places : length (partner_places net track kind) ≤ 3824
+  few_places =
+      let places : List ℕ = filter (is_place net track kind) (range_with_len 0 3840) in
+      let within : (code : ℕ) → In code places → (16 ≤ code) × (code < 3840) = λ code i.
+      let k = in_filter_from (is_place net track kind) (range_with_len 0 3840) code i in
+      (late code k.passes, (in_range_from 0 3840 code k.inside).1) in
+      let all : 16 + length places ≤ 3840 = rises_few 16 3840 places (omega arith) within (rises_filter (is_place net track kind) (range_with_len 0 3840) (rises_range 0 3840)) in
+      subst (λ xs. length xs ≤ 3824) (partner_places-is net track kind) (let l : length places ≤ 3824 = omega arith in l)
+
+  pub few_partners : length (partners_of net track kind) ≤ 3824
+  few_partners = let same = length-map (partner_places net track kind) partner_at in let f = few_places in omega (arith, same, f)
+
+  few : length rows_by_places ≤ 3944
   few =
       let n = numbers_of net track kind kind proper may may in
       let least = n.least in let most = n.most in
@@ -321,9 +344,7 @@ module _ (net : Net) (track : TrackId) (kind : TypeId) (time : ℕ) (proper : Is
       let w : length (windows_of net track kind time) ≡ hmin_or_0 net track kind = length-map-range_with_len (λ minute. Window track minute) time (hmin_or_0 net track kind) in
       let p : length (pairs_by_places) ≡ length codes = length-map codes (pair_at) in
       let c : length codes ≤ length (partner_places net track kind) = length-filter-le in_day (partner_places net track kind) in
-      let d : length (partner_places net track kind) ≤ 3840 =
-      subst (λ xs. length xs ≤ 3840) (partner_places-is net track kind)
-      (subst (λ m. length (filter (is_place net track kind) (range_with_len 0 3840)) ≤ m) (length-range_with_len 0 3840) (length-filter-le (is_place net track kind) (range_with_len 0 3840))) in
+      let d = few_places in
       omega arith
 
   pub use_one : (row : HRow) → use_in net kind track time row ≤ 1
@@ -355,14 +376,17 @@ module _ (net : Net) (track : TrackId) (kind : TypeId) (time : ℕ) (proper : Is
   pub headway_rows_listed : ListsRows row_cmp (is_row_of net) (use_in net kind track time) (touched_rows net track kind time)
   headway_rows_listed = subst (ListsRows row_cmp (is_row_of net) (use_in net kind track time)) rows_are listed_by_places
 
-  -- at most 3,960 of them, each used once
-  pub few_rows : length (touched_rows net track kind time) ≤ 3960
-  few_rows = subst (λ rows. length rows ≤ 3960) rows_are few
+  -- at most 3,944 of them, each used once
+  few_rows : length (touched_rows net track kind time) ≤ most_rows
+  few_rows = subst (λ rows. length rows ≤ most_rows) rows_are few
 
-  pub little_use : sum_by (use_in net kind track time) (touched_rows net track kind time) ≤ 3960
-  little_use =
-      let f = few_rows in
-      let t = sum_by-le (use_in net kind track time) 1 (touched_rows net track kind time) (λ k d l. use_one (get_or (touched_rows net track kind time) k d)) in omega arith
+  pub few_headways : UsesFew most_rows (use_in net kind track time) (touched_rows net track kind time)
+  few_headways = record {
+    few = few_rows;
+    total =
+        let f = few_rows in
+        let t = sum_by-le (use_in net kind track time) 1 (touched_rows net track kind time) (λ k d l. use_one (get_or (touched_rows net track kind time) k d)) in omega arith;
+  }
 
   -- ---- the k-th
 

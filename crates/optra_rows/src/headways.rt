@@ -10,7 +10,7 @@ ghost use Rattle.optra_walk.specs.declared.Leg.{Leg as Step};
 ghost use Rattle.optra_walk.specs.Choices.{KeepsHeadways, uses_of};
 ghost use Rattle.optra_walk.specs.Families.{IsUsable, FitRows, entries_of};
 ghost use Rattle.optra_rows.specs.FewRows.{AreFewHeadways};
-ghost use Rattle.optra_rows.specs.Headways.{is_row_of, is_used_by, headway_rows, IsHeadwayRow, pair_of, is_started, is_not_over, ShiftsRise, kept};
+ghost use Rattle.optra_rows.specs.Headways.{is_row_of, is_used_by, headway_rows, IsFirstOver, IsFirstStarted, IsHeadwayRow, in_day, pair_of, is_started, is_not_over, ShiftsRise, kept};
 
 use crate::HRow;
 use optra_network::{Minute, Network, Partner, TrackId, TypeId};
@@ -42,9 +42,9 @@ pub fn headway_rows_are_few(net: &Network)
 
 impl RowFamily for HeadwayRows {
     ghost use Rattle.std.proofs.Common.{lit≤};
-    ghost use Rattle.optra_rows.specs.TouchedLemmas.{rows_told_apart, headway_rows_listed, unusable_none};
+    ghost use Rattle.optra_rows.specs.TouchedLemmas.{rows_told_apart, headway_rows_listed, few_headways, unusable_none};
     ghost use Rattle.optra_rows.specs.RuleLemmas.{headways_by_rows};
-    ghost use Rattle.optra_rows.specs.Headways.{touched_rows, KeepsHeadwayRule};
+    ghost use Rattle.optra_rows.specs.Headways.{most_rows, touched_rows, KeepsHeadwayRule};
 
     type Row = HRow;
 
@@ -52,11 +52,15 @@ impl RowFamily for HeadwayRows {
 
     ghost rows_used = { λ _ net kind leg. touched_rows net leg.track kind leg.depart };
 
+    ghost most = { λ _. most_rows };
+
     ghost KeepsRule = { λ _ net entries. KeepsHeadwayRule net entries };
 
     ghost tells_apart = { rows_told_apart };
 
     ghost lists_rows = { λ f net kind leg p u. headway_rows_listed net leg.track kind leg.depart p u.may_use u.depart };
+
+    ghost uses_few = { λ f net kind leg p u. few_headways net leg.track kind leg.depart p u.may_use u.depart };
 
     ghost capacity_fits = { λ f net row p is. lit≤ tt };
 
@@ -97,10 +101,35 @@ impl RowFamily for HeadwayRows {
         pair_at(partners, leg.track, kind, leg.depart, k - least)
     }
 
+    fn used_count(&self, net: &Network, kind: TypeId, leg: Leg) -> u32 {
+        let least = u32::from(least_of(net, leg.track, kind));
+        least + pair_count(net.partners(leg.track, kind), leg.depart)
+    }
+
     /// Legs of a type use the same where they enter the same track at the same minute.
     fn use_alike(&self, _net: &Network, _kind: TypeId, first: Leg, second: Leg) -> bool {
         first.track == second.track && first.depart == second.depart
     }
+}
+
+/// How many of the partners have their minutes in the day.
+fn pair_count(partners: &[Partner], time: Minute) -> u32
+    requires time { time ≤ 2879 }
+    requires order { ShiftsRise partners.now }
+    requires few { length partners.now ≤ 3824 }
+    ensures count { result ≡ length (in_day time partners.now) }
+    ensures few { result ≤ 3824 }
+{
+    first_over(partners, time).saturating_sub(first_started(partners, time)) as u32
+}
+
+/// The place of the first partner whose minute is after the day.
+fn first_over(partners: &[Partner], time: Minute) -> usize
+    requires time { time ≤ 2879 }
+    requires order { ShiftsRise partners.now }
+    ensures { IsFirstOver time partners.now result }
+{
+    partners.partition_point(|partner| u32::from(time) + u32::from(partner.shift) <= 2999)
 }
 
 /// The row of the k-th partner in the day.
@@ -150,6 +179,7 @@ fn first_started(partners: &[Partner], time: Minute) -> usize
     requires order { ShiftsRise partners.now }
     ensures place { result ≡ position_or_len (is_started time) partners.now }
     ensures within { result ≤ length partners.now }
+    ensures parts { IsFirstStarted time partners.now result }
 {
     if time >= 120 {
         return 0;

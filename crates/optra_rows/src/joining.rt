@@ -25,38 +25,17 @@ pub struct Both<A: RowFamily, B: RowFamily> {
     pub first: A,
     /// The family whose rows come after them.
     pub second: B,
-    ghost few: { (net : Net) (kind : Kind) (leg : Step) → IsProper net → IsUsable net kind leg
-        → AreFew ((A.rows_of first net).uses kind leg) ((B.rows_of second net).uses kind leg) (A.rows_used first net kind leg) (B.rows_used second net kind leg) },
+    ghost few: { A.most first + B.most second ≤ 8192 },
 }
 
 impl<A: RowFamily, B: RowFamily> Both<A, B> {
-    /// Two families together. It takes no memory. A usable leg must use at most 8,192 rows of the two together, and its
-    /// uses of them must add up to at most 8,192.
+    /// Two families together. It takes no memory. A leg must use at most 8,192 rows of the two together.
     pub fn new(first: A, second: B) -> Both<A, B>
-        requires { (net : Net) (kind : Kind) (leg : Step) → IsProper net → IsUsable net kind leg → AreFew ((A.rows_of first net).uses kind leg) ((B.rows_of second net).uses kind leg) (A.rows_used first net kind leg) (B.rows_used second net kind leg) }
+        requires { A.most first + B.most second ≤ 8192 }
         ensures first { result.first ≡ first }
         ensures second { result.second ≡ second }
     {
         Both { first, second }
-    }
-
-    /// How many rows of the first family the leg uses, which are at most k.
-    fn first_count(&self, net: &Network, kind: TypeId, leg: Leg, k: u32) -> u32
-        requires usable { IsUsable net.now kind leg }
-        requires most { length (A.rows_used self.now.first net.now kind leg) ≤ k }
-        ensures { result ≡ length (A.rows_used self.now.first net.now kind leg) }
-    {
-        let mut low = 0;
-        let mut high = k;
-        while low < high {
-            let mid = low + (high - low) / 2;
-            if self.first.touched(net, kind, leg, mid).is_some() {
-                low = mid + 1;
-            } else {
-                high = mid;
-            }
-        }
-        low
     }
 }
 
@@ -64,12 +43,14 @@ impl<A: RowFamily, B: RowFamily> RowFamily for Both<A, B> {
     type Row = Either<A::Row, B::Row>;
 
     ghost use Rattle.optra_rows.specs.Eithers.{both_rows, both_lists};
-    ghost use Rattle.optra_rows.specs.EitherLemmas.{tell_both_apart, lists_both, fits_both, caps_fit, none_of_both};
+    ghost use Rattle.optra_rows.specs.EitherLemmas.{tell_both_apart, lists_both, few_together, few_of_both, fits_both, caps_fit, none_of_both};
     ghost use Rattle.std.specs.Prelude.{refl};
 
     ghost rows_of = { λ f net. both_rows (A.rows_of f.first net) (B.rows_of f.second net) };
 
     ghost rows_used = { λ f net kind leg. both_lists (A.rows_used f.first net kind leg) (B.rows_used f.second net kind leg) };
+
+    ghost most = { λ f. A.most f.first + B.most f.second };
 
     ghost KeepsRule = { λ f net entries. A.KeepsRule f.first net entries × B.KeepsRule f.second net entries };
 
@@ -79,7 +60,11 @@ impl<A: RowFamily, B: RowFamily> RowFamily for Both<A, B> {
         lists_both A.Row.cmp B.Row.cmp ⟦<Either<A::Row, B::Row> as Ord>⟧.cmp (λ a b. refl) (λ a b. refl) (λ a b. refl)
         (A.rows_of f.first net) (B.rows_of f.second net) kind leg
         (A.rows_used f.first net kind leg) (B.rows_used f.second net kind leg)
-        (A.lists_rows f.first net kind leg p u) (B.lists_rows f.second net kind leg p u) (f.few net kind leg p u) };
+        (A.lists_rows f.first net kind leg p u) (B.lists_rows f.second net kind leg p u)
+        (few_together (A.uses_few f.first net kind leg p u) (B.uses_few f.second net kind leg p u) f.few) };
+
+    ghost uses_few = { λ f net kind leg p u.
+        few_of_both (A.uses_few f.first net kind leg p u) (B.uses_few f.second net kind leg p u) };
 
     ghost capacity_fits = { λ f net row p is. caps_fit (A.rows_of f.first net) (B.rows_of f.second net) (λ r. A.capacity_fits f.first net r p) (λ r. B.capacity_fits f.second net r p) row is };
 
@@ -115,12 +100,18 @@ impl<A: RowFamily, B: RowFamily> RowFamily for Both<A, B> {
         leg: Leg,
         k: u32,
     ) -> Option<Either<A::Row, B::Row>> {
-        if let Some(p) = self.first.touched(net, kind, leg, k) {
+        let count = self.first.used_count(net, kind, leg);
+        if k < count {
+            let p = self.first.touched(net, kind, leg, k)?;
             return Some(Either::First(p));
         }
-        let count = self.first_count(net, kind, leg, k);
         let q = self.second.touched(net, kind, leg, k - count)?;
         Some(Either::Second(q))
+    }
+
+    fn used_count(&self, net: &Network, kind: TypeId, leg: Leg) -> u32 {
+        let _ = net.track_count();
+        self.first.used_count(net, kind, leg) + self.second.used_count(net, kind, leg)
     }
 
     fn use_alike(&self, net: &Network, kind: TypeId, first: Leg, second: Leg) -> bool {

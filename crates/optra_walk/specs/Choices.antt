@@ -10,6 +10,8 @@ use Rattle.optra_walk.specs.declared.Leg.{Leg}
 use Rattle.optra_walk.specs.Legs.{use_of}
 use Rattle.optra_walk.specs.Walks.{IsWalk}
 use Rattle.optra_walk.specs.Values.{value_of}
+use Rattle.optra_walk.specs.Families.{entries_of}
+use Rattle.optra_walk.specs.Rules.{KeepsCrossings, KeepsHalts}
 
 -- one entry for each bid, and each entry that is there is a walk of its bid
 abbrev pub IsChoice : Net → List Bid → List (Option (List Leg)) → Type 0
@@ -27,10 +29,12 @@ abbrev pub KeepsHeadways : Net → List TrackUse → Type 0
 KeepsHeadways net uses =
     (i j : ℕ) (a b : TrackUse) → i ≢ j → slice_get uses i ≡ Some a → slice_get uses j ≡ Some b → AreCompatible net a b
 
--- a choice whose uses keep the headways
+-- a choice whose uses keep the headways and the crossings, and whose legs keep the limits of stations
 pub record IsConflictFree (net : Net) (bids : List Bid) (walks : List (Option (List Leg))) : Type 0 where
   pub choice : IsChoice net bids walks
   pub headways : KeepsHeadways net (uses_of bids walks)
+  pub crossings : KeepsCrossings net (uses_of bids walks)
+  pub halts : KeepsHalts net (entries_of bids walks)
 
 -- the sum of the values of the walks
 abbrev pub revenue_of : Net → List Bid → List (Option (List Leg)) → ℤ

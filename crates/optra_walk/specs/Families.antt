@@ -59,3 +59,8 @@ pub record ListsRows {R : Type 0} (cmp : R → R → Ordering) (is_row : R → B
   pub are_rows : (row : R) → 0 < uses row → is_row row ≡ true
   pub few : length rows ≤ 8192
   pub total : sum_by uses rows ≤ 8192
+
+-- the rows are at most so many, and they are used at most so much in all
+pub record UsesFew {R : Type 0} (most : ℕ) (uses : R → ℕ) (rows : List R) : Type 0 where
+  pub few : length rows ≤ most
+  pub total : sum_by uses rows ≤ most

@@ -1,5 +1,5 @@
--- The rules on all trains together that networks with crossings and limits of stations have beside the headway rule. No plan
--- heeds them yet: the tables that are read give neither.
+-- The rules on all trains together that networks with crossings and limits of stations have beside the headway rule. Where a
+-- network has neither, every list of trains keeps them.
 use Rattle.std.specs.Prelude.{◌≡◌, ◌≢◌, ℕ, ◌+◌, ◌≤◌, ◌<◌, ◌⊎◌, ◌&&◌, nat_eq, nat_le, nat_lt, Bool, true, false, List, count_by, Option, Some, IsSomeAnd, slice_get}
 use Rattle.std.specs.Option.{option_map, option_map_or}
 use Rattle.optra_network.specs.Net.{Net, crossing_of, halt_max_of}

@@ -4,11 +4,11 @@
 //! This is the packing form of train timetabling: R. Borndörfer and T. Schlechte, "Models for Railway Track
 //! Allocation", 2007. Searches, prices and certificates speak of rows alone, so a rule that is stated by a new family
 //! needs no change in them.
-ghost use Rattle.std.specs.Prelude.{◌≡◌, ℕ, ◌≤◌, ◌↔◌, List, Option, slice_get, true, All};
+ghost use Rattle.std.specs.Prelude.{◌≡◌, ℕ, ◌≤◌, ◌↔◌, List, Option, length, slice_get, true, All};
 ghost use Rattle.optra_network.specs.Net.{Net, IsProper, MayUse};
 ghost use Rattle.optra_network.specs.declared.TypeId.{TypeId as Kind};
 ghost use Rattle.optra_walk.specs.declared.Leg.{Leg as Step};
-ghost use Rattle.optra_walk.specs.Families.{IsUsable, Entry, Rows, UseAlike, ListsRows, TellsApart, FitRows};
+ghost use Rattle.optra_walk.specs.Families.{IsUsable, Entry, Rows, UseAlike, ListsRows, UsesFew, TellsApart, FitRows};
 
 use crate::Leg;
 use optra_network::{Network, TypeId};
@@ -28,6 +28,9 @@ pub trait RowFamily {
 
     /// The rows that a leg of a type uses, ascending.
     ghost rows_used: { Self → Net → Kind → Step → List Self.Row };
+
+    /// So many rows a leg uses at most, on any network, and so much of them in all.
+    ghost most: { Self → ℕ };
 
     /// The rule on the legs of all trains together, each with its type.
     ghost KeepsRule: { Self → Net → List Entry → Type 0 };
@@ -55,6 +58,11 @@ pub trait RowFamily {
         requires { IsUsable net.now kind leg }
         ensures { result ≡ slice_get (rows_used self.now net.now kind leg) k };
 
+    /// How many rows a usable leg of the type uses, at most 8,192. From this place on `touched` answers `None`.
+    fn used_count(&self, net: &Network, kind: TypeId, leg: Leg) -> u32
+        requires { IsUsable net.now kind leg }
+        ensures { result ≡ length (rows_used self.now net.now kind leg) };
+
     /// Whether the family sees at once that two usable legs of the type use as much of each row. It is never true of
     /// others; a family that doesn't see it says no, and its users then compare row by row.
     fn use_alike(&self, net: &Network, kind: TypeId, first: Leg, second: Leg) -> bool
@@ -76,6 +84,10 @@ pub trait RowFamily {
     /// and the uses add up to at most 8,192.
     ghost lists_rows: { (f : Self) (net : Net) (kind : Kind) (leg : Step) → IsProper net → IsUsable net kind leg
         → ListsRows Self.Row.cmp (rows_of f net).is_row ((rows_of f net).uses kind leg) (rows_used f net kind leg) };
+
+    /// They are at most `most`, and so are the uses added up.
+    ghost uses_few: { (f : Self) (net : Net) (kind : Kind) (leg : Step) → IsProper net → IsUsable net kind leg
+        → UsesFew (most f) ((rows_of f net).uses kind leg) (rows_used f net kind leg) };
 
     /// The capacity of a row is at most 65,535.
     ghost capacity_fits: { (f : Self) (net : Net) (row : Self.Row) → IsProper net → (rows_of f net).is_row row ≡ true

@@ -42,11 +42,13 @@ impl Builder {
         let leasts = self.leasts(alloc, &rows)?;
         let out = Outgoing::new(alloc, self.stations.len(), &self.tracks)?;
         let partners = self.partners(alloc, &rows, &leasts)?;
+        let crossers = self.crossers(alloc, &rows)?;
         Ok(Tables {
             rows,
             leasts,
             out,
             partners,
+            crossers,
         })
     }
 

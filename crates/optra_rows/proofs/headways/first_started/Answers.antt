@@ -23,3 +23,20 @@ returns-clause-place c =
     sym (position_or_len_is (is_started c.args.time) c.args.partners.now c.partition_point.result any_partner c.partition_point.ensures.bound
     (λ k l. lt-leb 120 _ (let early = ltb-true _ _ (point.0 k any_partner (omega arith) l) in omega arith))
     (λ l. le-leb 120 _ (let late = ltb-false _ _ (point.1 c.partition_point.result any_partner (omega arith) l) in omega arith)))
+
+pub returns-then-time-ge120-clause-parts : goal.returns-then-time-ge120-clause-parts
+returns-then-time-ge120-clause-parts c = record {
+  before = λ k d l. absurd (omega arith);
+  after = λ k d l w. le-leb 120 _ (let late = c.if-time-ge120.true in omega arith);
+}
+
+pub returns-clause-parts : goal.returns-clause-parts
+returns-clause-parts c =
+    let minute : Partner → ℕ = λ partner. c.args.time + partner.shift in
+    let point =
+    IsPartitionPoint-from_clause (λ partner. nat_lt (minute partner) 120) c.args.partners.now c.partition_point.result c.partition_point.ensures.partitioned
+    (IsPartitionedBy-ltb minute c.args.partners.now 120 (λ i j d le l. let up = c.requires.order i j d le l in omega arith)) (λ a r q k. search rules) in
+    record {
+      before = λ k d l. lt-leb 120 _ (let early = ltb-true _ _ (point.0 k d (let b = c.partition_point.ensures.bound in omega arith) l) in omega arith);
+      after = λ k d l w. le-leb 120 _ (let late = ltb-false _ _ (point.1 k d l w) in omega arith);
+    }

@@ -33,4 +33,5 @@ returns c =
       leasts = HoldsPairs-from_places (hmin_at c.args.self.now) (length c.args.self.now.tracks) c.in_ok-leasts.leasts.items c.in_ok-leasts.ensures;
       out = subst (λ (n : Net). AreOut n.tracks (length n.stations) c.in_ok-out.out) c.self.view_is out;
       partners = HoldsPairs-from_places (λ t k. partners_of c.args.self.now (track_id t) (type_id k)) (length c.args.self.now.tracks) (map (λ list. list.items) c.in_ok-partners.partners.items) c.in_ok-partners.ensures;
+      crossers = c.in_ok-crossers.ensures;
     }
