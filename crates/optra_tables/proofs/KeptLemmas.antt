@@ -165,7 +165,8 @@ module _ {K : Type 0} (step : K → ℕ → Record → Result K TableFault) (P :
       let more = from_bind (step known row fields) _ after e in
       rows_keep rows more.0 (row + 1) after more.2 (keeps known row fields more.0 more.1 p)
 
-  table_keep : (table : Table) (header : Record) (known : K) (bytes : List ℕ) (after : K) → table_read step table header known bytes ≡ Ok after → P known → P after
+  -- what each record keeps, a table keeps
+  pub table_keep : (table : Table) (header : Record) (known : K) (bytes : List ℕ) (after : K) → table_read step table header known bytes ≡ Ok after → P known → P after
   unfolding table_of
   table_keep table header known bytes after e p =
       let rows = from_bind (under_header table header (table_records bytes)) _ after e in

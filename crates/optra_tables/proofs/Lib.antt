@@ -12,5 +12,6 @@ pub mod CompleteLemmas
 pub mod BidLemmas
 pub mod BidStepLemmas
 pub mod KeptLemmas
+pub mod AloneLemmas
 pub mod ActionLemmas
 pub mod RulesLemmas

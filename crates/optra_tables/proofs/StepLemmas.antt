@@ -1,5 +1,5 @@
 -- What each accepted record of a network's table adds, and that there are never too many.
-use Rattle.std.proofs.Common.{◌≡◌, ◌+◌, ◌-◌, ◌*◌, ◌/◌, ◌%◌, ◌^◌, ◌<◌, ◌≤◌, ◌||◌, ◌++◌, ℕ, bytes_eq, Bool, true, false, List, [], ◌∷◌, length, Option, Some, None, IfSome, is_none, is_some, nat_le, refl, ap, ◌∙◌, arith, subst, unwrap_or, length-append}
+use Rattle.std.proofs.Common.{◌≡◌, ◌+◌, ◌-◌, ◌*◌, ◌/◌, ◌%◌, ◌^◌, ◌<◌, ◌≤◌, ◌||◌, ◌++◌, ℕ, bytes_eq, Bool, true, false, not, List, [], ◌∷◌, length, Option, Some, None, IfSome, is_none, is_some, nat_le, refl, ap, ◌∙◌, arith, subst, unwrap_or, length-append}
 use Rattle.std.proofs.lemmas.Bool.{leb-false}
 use Rattle.std.proofs.lemmas.List.Quantifiers.{position-Some}
 use Rattle.std.proofs.lemmas.Nat.{div-mul-add, mod-mul-add}
@@ -7,21 +7,22 @@ use Rattle.std.specs.Map.{lookup}
 use Rattle.std.specs.Option.{option_and_then, option_map}
 use Rattle.std.specs.Prelude.{Result, Ok, Err, if◌then◌else◌}
 use Rattle.optra_network.specs.Names.{place_of}
-use Rattle.optra_network.specs.Net.{Net, headway_of, same_pair, same_triple, times_of}
-use Rattle.optra_network.specs.Refusals.{headway_refusal, running_refusal, station_refusal, times_from, track_refusal, type_refusal}
+use Rattle.optra_network.specs.Net.{Net, HasAllHeadways, crossing_of, headway_of, same_pair, same_quadruple, same_triple, times_of}
+use Rattle.optra_network.specs.Refusals.{after_limited, crossing_named, crossing_refusal, first_of, headway_refusal, is_from_to, limited_refusal, running_refusal, same_place, station_refusal, times_from, track_named, track_refusal, type_named, type_refusal}
 use Rattle.optra_network.specs.declared.NetRefusal.{NetRefusal}
+use Rattle.optra_network.specs.declared.NetRefusal.TheVariants.{Range, Repeated, SelfLoop, UnknownName}
 use Rattle.optra_network.specs.declared.Times.{Times}
 use Rattle.optra_network.specs.declared.Track.{Track}
 use Rattle.optra_network.specs.declared.TrackId.{TrackId}
 use Rattle.optra_network.specs.declared.TypeId.{TypeId}
-use Rattle.optra_network.proofs.NetLemmas.{pair_self, triple_self}
+use Rattle.optra_network.proofs.NetLemmas.{pair_self, quadruple_self, triple_self}
 use Rattle.optra_records.specs.Reading.{Record}
 use Rattle.optra_tables.specs.Fields.{four_at, name_at, number_at, shaped}
-use Rattle.optra_tables.specs.Networks.{HasFew, headway_row, running_row, station_row, track_row, type_row}
-use Rattle.optra_tables.specs.Room.{headways_room, running_room, stations_room, tracks_room, types_room}
+use Rattle.optra_tables.specs.Networks.{HasFew, IsWhole, crossing_row, headway_row, limited_station_row, running_row, station_row, track_row, type_row}
+use Rattle.optra_tables.specs.Room.{crossings_room, headways_room, quadruple_at, running_room, stations_room, tracks_room, types_room}
 use Rattle.optra_tables.specs.Outcomes.{◌>>=◌, net_outcome}
 use Rattle.optra_tables.specs.declared.Table.{Table}
-use Rattle.optra_tables.specs.declared.Table.TheVariants.{Headways, Running, Stations, Tracks, Types}
+use Rattle.optra_tables.specs.declared.Table.TheVariants.{Crossings, Headways, Running, Stations, Tracks, Types}
 use Rattle.optra_tables.specs.declared.TableFault.{TableFault}
 use Rattle.optra_tables.proofs.FreeLemmas.{free_less, free_within, lookup_added, lookup_stays}
 
@@ -64,7 +65,7 @@ stations_added : (net new : Net) (name : List ℕ) → nat_le 300 (length net.st
     → HasFew new × (300 - length new.stations + 1 ≤ 300 - length net.stations)
 stations_added net new name full same few =
     subst (λ (n : Net). HasFew n × (300 - length n.stations + 1 ≤ 300 - length net.stations)) same
-    (record { tracks = few.tracks; named = few.named; types = few.types; no_crossings = few.no_crossings }, one_less 300 net.stations name full)
+    (record { tracks = few.tracks; named = few.named; types = few.types }, one_less 300 net.stations name full)
 
 -- a station that is accepted takes one of the places
 pub station_step : (net new : Net) (row : ℕ) (fields : Record) → station_row net row fields ≡ Ok new → HasFew net → HasFew new × (stations_room new + 1 ≤ stations_room net)
@@ -76,6 +77,24 @@ station_step net new row fields e few =
     let d = not_first _ _ _ c.0 in
     stations_added net new b.0 d.0 c.1 few
 
+limited_added : (net new : Net) (name : List ℕ) (halt_max : ℕ) → nat_le 300 (length net.stations) ≡ false → after_limited net name halt_max ≡ new → HasFew net
+    → HasFew new × (300 - length new.stations + 1 ≤ 300 - length net.stations)
+limited_added net new name halt_max full same few =
+    subst (λ (n : Net). HasFew n × (300 - length n.stations + 1 ≤ 300 - length net.stations)) same
+    (record { tracks = few.tracks; named = few.named; types = few.types }, one_less 300 net.stations name full)
+
+-- a station with its limit that is accepted takes one of the places
+pub limited_station_step : (net new : Net) (row : ℕ) (fields : Record) → limited_station_row net row fields ≡ Ok new → HasFew net
+    → HasFew new × (stations_room new + 1 ≤ stations_room net)
+unfolding limited_station_row stations_room
+limited_station_step net new row fields e few =
+    let a = from_bind (shaped Stations row 2 fields) _ new e in
+    let name = from_bind (name_at Stations row fields 0) _ new a.2 in
+    let halt_max = from_bind (number_at Stations row fields 1) _ new name.2 in
+    let c = from_outcome Stations row (limited_refusal net name.0 halt_max.0) _ new halt_max.2 in
+    let d = not_first _ _ _ c.0 in
+    limited_added net new name.0 halt_max.0 d.0 c.1 few
+
 -- ---- types
 
 types_added : (net new : Net) (name : List ℕ) → nat_le 16 (length net.types) ≡ false → record net { types = net.types ++ name ∷ [] } ≡ new → HasFew net
@@ -83,7 +102,7 @@ types_added : (net new : Net) (name : List ℕ) → nat_le 16 (length net.types)
 types_added net new name full same few =
     let low = leb-false 16 (length net.types) full in
     subst (λ (n : Net). HasFew n × (16 - length n.types + 1 ≤ 16 - length net.types)) same
-    (record { tracks = few.tracks; named = few.named; types = rw (length-append net.types (name ∷ [])) (omega (arith, low)); no_crossings = few.no_crossings }, one_less 16 net.types name full)
+    (record { tracks = few.tracks; named = few.named; types = rw (length-append net.types (name ∷ [])) (omega (arith, low)) }, one_less 16 net.types name full)
 
 -- a type that is accepted takes one of the places
 pub type_step : (net new : Net) (row : ℕ) (fields : Record) → type_row net row fields ≡ Ok new → HasFew net → HasFew new × (types_room new + 1 ≤ types_room net)
@@ -113,7 +132,6 @@ tracks_added net new name (Some a) (Some b) full there same few =
         tracks = rw (length-append net.tracks (track_at a b ∷ [])) (omega (arith, low));
         named = rw (length-append net.track_names (name ∷ []), length-append net.tracks (track_at a b ∷ []), named) refl;
         types = few.types;
-        no_crossings = few.no_crossings;
       },
       one_less 1000 net.tracks (track_at a b) full,
     )
@@ -161,7 +179,7 @@ running_added net new times (Some t) (Some k) there free same lt lk few =
     let named = few.named in
     let types = few.types in
     subst (λ (n : Net). HasFew n × (running_room n + 1 ≤ running_room net)) same (
-      record { tracks = few.tracks; named = few.named; types = few.types; no_crossings = few.no_crossings },
+      record { tracks = few.tracks; named = few.named; types = few.types },
       running_room_added net t k (times_from times) free (omega (arith, lt, tracks, named)) (omega (arith, lk, types)),
     )
 
@@ -214,7 +232,7 @@ headways_added net new minutes (Some t) (Some a) (Some b) there free same lt la 
     let named = few.named in
     let types = few.types in
     subst (λ (n : Net). HasFew n × (headways_room n + 1 ≤ headways_room net)) same (
-      record { tracks = few.tracks; named = few.named; types = few.types; no_crossings = few.no_crossings },
+      record { tracks = few.tracks; named = few.named; types = few.types },
       headways_room_added net t a b minutes free (omega (arith, lt, tracks, named)) (omega (arith, la, types)) (omega (arith, lb, types)),
     )
 
@@ -233,6 +251,88 @@ headway_step net new row fields e few =
     let free = not_first _ _ _ range.1 in
     headways_added net new minutes.0 (place_of track.0 net.track_names) (place_of first.0 net.types) (place_of second.0 net.types) known.0 free.0 c.1
     (place_within track.0 net.track_names) (place_within first.0 net.types) (place_within second.0 net.types) few
+
+-- ---- crossings
+
+crossings_room_added : (net : Net) (t u a b minutes : ℕ) → is_some (lookup (same_quadruple (t, u, a, b)) net.crossings) ≡ false → t < 1000 → u < 1000 → a < 16 → b < 16
+    → crossings_room (record net { crossings = net.crossings ++ ((t, u, a, b), minutes) ∷ [] }) + 1 ≤ crossings_room net
+unfolding crossings_room
+crossings_room_added net t u a b minutes free lt lu la lb =
+    let pair : a * 16 + b < 256 = omega arith in
+    let inner : u * 256 + (a * 16 + b) < 256000 = omega arith in
+    let at : (t * 256000 + (u * 256 + (a * 16 + b))) / 256000 ≡ t = div-mul-add t 256000 (u * 256 + (a * 16 + b)) inner in
+    let rest : (t * 256000 + (u * 256 + (a * 16 + b))) % 256000 ≡ u * 256 + (a * 16 + b) = mod-mul-add t 256000 (u * 256 + (a * 16 + b)) inner in
+    let across : (u * 256 + (a * 16 + b)) / 256 ≡ u = div-mul-add u 256 (a * 16 + b) pair in
+    let first : (a * 16 + b) / 16 ≡ a = div-mul-add a 16 b lb in
+    let by_pair : t * 256000 + (u * 256 + (a * 16 + b)) ≡ (t * 1000 + u) * 256 + (a * 16 + b) = omega arith in
+    let kinds : (t * 256000 + (u * 256 + (a * 16 + b))) % 256 ≡ a * 16 + b = ap (λ (n : ℕ). n % 256) by_pair ∙ mod-mul-add (t * 1000 + u) 256 (a * 16 + b) pair in
+    let flat : t * 256000 + (u * 256 + (a * 16 + b)) ≡ ((t * 1000 + u) * 16 + a) * 16 + b = omega arith in
+    let second : (t * 256000 + (u * 256 + (a * 16 + b))) % 16 ≡ b = ap (λ (n : ℕ). n % 16) flat ∙ mod-mul-add ((t * 1000 + u) * 16 + a) 16 b lb in
+    free_less
+    (λ n. is_some (lookup (same_quadruple (quadruple_at n)) net.crossings))
+    (λ n. is_some (lookup (same_quadruple (quadruple_at n)) (net.crossings ++ ((t, u, a, b), minutes) ∷ [])))
+    256000000 (t * 256000 + (u * 256 + (a * 16 + b)))
+    (λ n h. lookup_stays (same_quadruple (quadruple_at n)) ((t, u, a, b), minutes) net.crossings h)
+    (omega arith)
+    (rw (at, rest, across, kinds, first, second) free)
+    (rw (at, rest, across, kinds, first, second) (lookup_added (same_quadruple (t, u, a, b)) ((t, u, a, b), minutes) net.crossings (quadruple_self (t, u, a, b))))
+
+-- a crossing changes no running time and no headway
+complete_stays : (net : Net) (t u a b minutes : ℕ) → HasAllHeadways net → HasAllHeadways (record net { crossings = net.crossings ++ ((t, u, a, b), minutes) ∷ [] })
+complete_stays net t u a b minutes complete = complete
+
+crossings_added : (net new : Net) (minutes : ℕ) (o p q r : Option ℕ)
+    → (is_none (option_map track_of o) || is_none (option_map track_of p) || is_none (option_map kind_of q) || is_none (option_map kind_of r)) ≡ false
+    → is_some (option_and_then (λ t. option_and_then (λ u. option_and_then (λ a. option_and_then (λ b. crossing_of net t u a b)
+    (option_map kind_of r)) (option_map kind_of q)) (option_map track_of p)) (option_map track_of o)) ≡ false
+    → unwrap_or (option_and_then (λ t. option_and_then (λ u. option_and_then (λ a. option_map (λ b. record net { crossings = net.crossings ++ ((t, u, a, b), minutes) ∷ [] }) r) q) p) o) net ≡ new
+    → IfSome o (λ t. t < length net.track_names) → IfSome p (λ u. u < length net.track_names) → IfSome q (λ k. k < length net.types) → IfSome r (λ k. k < length net.types)
+    → IsWhole net → IsWhole new × (crossings_room new + 1 ≤ crossings_room net)
+crossings_added net new minutes None p q r there free same lt lu la lb whole = absurd (cc there)
+crossings_added net new minutes (Some t) None q r there free same lt lu la lb whole = absurd (cc there)
+crossings_added net new minutes (Some t) (Some u) None r there free same lt lu la lb whole = absurd (cc there)
+crossings_added net new minutes (Some t) (Some u) (Some a) None there free same lt lu la lb whole = absurd (cc there)
+crossings_added net new minutes (Some t) (Some u) (Some a) (Some b) there free same lt lu la lb whole =
+    let tracks = whole.few.tracks in
+    let named = whole.few.named in
+    let types = whole.few.types in
+    subst (λ (n : Net). IsWhole n × (crossings_room n + 1 ≤ crossings_room net)) same (
+      record { few = record { tracks = tracks; named = named; types = types }; complete = complete_stays net t u a b minutes whole.complete },
+      crossings_room_added net t u a b minutes free (omega (arith, lt, tracks, named)) (omega (arith, lu, tracks, named)) (omega (arith, la, types)) (omega (arith, lb, types)),
+    )
+
+-- a crossing that isn't refused names what is there, and isn't there
+crossing_tests : (net : Net) (first_track second_track first second : List ℕ) (minutes : ℕ) → crossing_refusal net first_track second_track first second minutes ≡ None
+    → ((is_none (track_named net first_track) || is_none (track_named net second_track) || is_none (type_named net first) || is_none (type_named net second)) ≡ false)
+    × (is_some (crossing_named net first_track second_track first second) ≡ false)
+crossing_tests net first_track second_track first second minutes e =
+    let known = is_none (track_named net first_track) || is_none (track_named net second_track) || is_none (type_named net first) || is_none (type_named net second) in
+    let same = same_place (place_of first_track net.track_names) (place_of second_track net.track_names) in
+    let there = is_some (crossing_named net first_track second_track first second) in
+    four_tests known same (not (is_from_to 1 120 minutes)) there e
+  where
+    four_tests : (known same range there : Bool) → first_of ((known, UnknownName) ∷ (same, SelfLoop) ∷ (range, Range) ∷ (there, Repeated) ∷ []) ≡ None → (known ≡ false) × (there ≡ false)
+    four_tests known same range there e =
+        let a = not_first known UnknownName (first_of ((same, SelfLoop) ∷ (range, Range) ∷ (there, Repeated) ∷ [])) e in
+        let b = not_first same SelfLoop (first_of ((range, Range) ∷ (there, Repeated) ∷ [])) a.1 in
+        let c = not_first range Range (first_of ((there, Repeated) ∷ [])) b.1 in
+        let d = not_first there Repeated None c.1 in
+        (a.0, d.0)
+
+-- a crossing that is accepted takes a free quadruple
+pub crossing_step : (net new : Net) (row : ℕ) (fields : Record) → crossing_row net row fields ≡ Ok new → IsWhole net → IsWhole new × (crossings_room new + 1 ≤ crossings_room net)
+unfolding crossing_row
+crossing_step net new row fields e whole =
+    let form = from_bind (shaped Crossings row 5 fields) _ new e in
+    let first_track = from_bind (name_at Crossings row fields 0) _ new form.2 in
+    let second_track = from_bind (name_at Crossings row fields 1) _ new first_track.2 in
+    let first = from_bind (name_at Crossings row fields 2) _ new second_track.2 in
+    let second = from_bind (name_at Crossings row fields 3) _ new first.2 in
+    let minutes = from_bind (number_at Crossings row fields 4) _ new second.2 in
+    let c = from_outcome Crossings row (crossing_refusal net first_track.0 second_track.0 first.0 second.0 minutes.0) _ new minutes.2 in
+    let tests = crossing_tests net first_track.0 second_track.0 first.0 second.0 minutes.0 c.0 in
+    crossings_added net new minutes.0 (place_of first_track.0 net.track_names) (place_of second_track.0 net.track_names) (place_of first.0 net.types) (place_of second.0 net.types)
+    tests.0 tests.1 c.1 (place_within first_track.0 net.track_names) (place_within second_track.0 net.track_names) (place_within first.0 net.types) (place_within second.0 net.types) whole
 
 -- ---- how many rows there can be
 
@@ -256,3 +356,8 @@ pub headway_rows_few : (net : Net) → headways_room net < 2 ^ 31
 unfolding headways_room
 headway_rows_few net =
     let within = free_within (λ n. is_some (lookup (same_triple (n / 256, n % 256 / 16, n % 16)) net.headways)) 256000 in omega (arith, within)
+
+pub crossing_rows_few : (net : Net) → crossings_room net < 2 ^ 31
+unfolding crossings_room
+crossing_rows_few net =
+    let within = free_within (λ n. is_some (lookup (same_quadruple (quadruple_at n)) net.crossings)) 256000000 in omega (arith, within)

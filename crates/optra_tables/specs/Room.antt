@@ -1,7 +1,7 @@
 -- How many records a table may still have, after those that were accepted.
 use Rattle.std.specs.Prelude.{ℕ, ◌+◌, ◌-◌, ◌/◌, ◌%◌, zero, suc, Bool, List, [], ◌∷◌, length, is_some, if◌then◌else◌}
 use Rattle.std.specs.Map.{lookup}
-use Rattle.optra_network.specs.Net.{Net, same_pair, same_triple}
+use Rattle.optra_network.specs.Net.{Net, CrossingKey, same_pair, same_quadruple, same_triple}
 use Rattle.optra_tables.specs.Bids.{Parts}
 use Rattle.optra_tables.specs.declared.TimedAct.{TimedAct}
 
@@ -26,6 +26,14 @@ running_room net = free_below (λ n. is_some (lookup (same_pair (n / 16, n % 16)
 -- how many triples of a track and two types have no headway yet
 unfoldable pub headways_room : Net → ℕ
 headways_room net = free_below (λ n. is_some (lookup (same_triple (n / 256, n % 256 / 16, n % 16)) net.headways)) 256000
+
+-- the key of crossings of a number: two tracks and two types
+abbrev pub quadruple_at : ℕ → CrossingKey
+quadruple_at n = (n / 256000, n % 256000 / 256, n % 256 / 16, n % 16)
+
+-- how many pairs of tracks with pairs of types have no crossing yet
+unfoldable pub crossings_room : Net → ℕ
+crossings_room net = free_below (λ n. is_some (lookup (same_quadruple (quadruple_at n)) net.crossings)) 256000000
 
 abbrev pub bids_room : List Parts → ℕ
 bids_room bids = 1000 - length bids

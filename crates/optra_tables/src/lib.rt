@@ -1,6 +1,9 @@
 //! The tables of a network, of its bids and of an auction: what they mean, or exactly their first fault, and how bids
 //! are written so that they are read again.
 //!
+//! Tables are of version 1 or 2, which the header of the stations tells. In version 2 a station may have a limit of trains, and
+//! crossings between tracks are one more table of the network.
+//!
 //! Each table is read once, one record at a time, so that a fault in an early row is found without holding the later
 //! ones. A record that is read is tested in this order: its form, its fields from left to right, and then what the
 //! network or the bid refuses.
@@ -10,8 +13,10 @@ mod action_list;
 mod actions;
 mod bid_list;
 mod bids;
+mod crossings;
 mod fields;
 mod headways;
+mod limited_stations;
 mod networks;
 mod outcomes;
 mod rows;
@@ -21,6 +26,7 @@ mod stations;
 mod stops;
 mod tracks;
 mod types;
+mod versions;
 mod writing;
 
 pub use actions::read_actions;
@@ -33,6 +39,7 @@ pub use rules::read_rules;
 use std::alloc::{AllocError, AllocFailed};
 pub use stops::read_bids;
 use thiserror::Error;
+pub use versions::version;
 pub use writing::{bids_text, stops_text};
 
 /// The tables, in the order in which they are read.
@@ -43,6 +50,7 @@ pub enum Table {
     Types,
     Running,
     Headways,
+    Crossings,
     Bids,
     Stops,
     Rules,
@@ -94,7 +102,7 @@ pub enum ReadError {
     NoMemory,
 }
 
-/// The bytes of the five tables of a network.
+/// The bytes of the tables of a network.
 #[derive(Clone, Copy)]
 pub struct NetFiles<'a> {
     pub stations: &'a [u8],
@@ -102,6 +110,8 @@ pub struct NetFiles<'a> {
     pub types: &'a [u8],
     pub running: &'a [u8],
     pub headways: &'a [u8],
+    /// The bytes of the crossings, exactly in tables of version 2.
+    pub crossings: Option<&'a [u8]>,
 }
 
 /// An action of an auction, with the row of its record and the round in which it is taken.

@@ -8,7 +8,7 @@ use Rattle.optra_bid.specs.declared.BidRefusal.TheVariants as bid
 use Rattle.optra_tables.specs.declared.Kind.{Kind}
 use Rattle.optra_tables.specs.declared.Kind.TheVariants.{Csv, Header, Name, Number, Net, Bid}
 use Rattle.optra_tables.specs.declared.Table.{Table}
-use Rattle.optra_tables.specs.declared.Table.TheVariants.{Stations, Tracks, Types, Running, Headways, Bids, Stops, Rules, Actions}
+use Rattle.optra_tables.specs.declared.Table.TheVariants.{Stations, Tracks, Types, Running, Headways, Crossings, Bids, Stops, Rules, Actions}
 use Rattle.optra_tables.specs.declared.TableFault.{TableFault}
 use Rattle.optra_text.specs.declared.faults.FaultView.{FaultView}
 use Rattle.optra_text.specs.declared.faults.FaultView.TheVariants as view
@@ -24,6 +24,7 @@ table_word Tracks = codes "tracks"
 table_word Types = codes "types"
 table_word Running = codes "running"
 table_word Headways = codes "headways"
+table_word Crossings = codes "crossings"
 table_word Bids = codes "bids"
 table_word Stops = codes "stops"
 table_word Rules = codes "rules"

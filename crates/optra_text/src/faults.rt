@@ -87,6 +87,7 @@ fn table_word(table: Table) -> &'static str
         Table::Types => "types",
         Table::Running => "running",
         Table::Headways => "headways",
+        Table::Crossings => "crossings",
         Table::Bids => "bids",
         Table::Stops => "stops",
         Table::Rules => "rules",

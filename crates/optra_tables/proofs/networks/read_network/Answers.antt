@@ -1,8 +1,0 @@
--- A fault of the tables is that of the network.
-use Rattle.std.proofs.lemmas.Result.{err_from_is_err_and}
-use Rattle.optra_tables.proofs.networks.read_network.Goals as goal
-
-pub returns-in_err-read_tables : goal.returns-in_err-read_tables
-returns-in_err-read_tables c =
-    let p = err_from_is_err_and c.from_residual-in_err-read_tables.result c.from_residual-in_err-read_tables.ensures.1 in
-    rw (p.1, p.2) c.in_err-read_tables.ensures.err
