@@ -1,2 +1,5 @@
--- The lemmas of the search.
+-- The lemmas of the searches.
 pub mod Ways
+pub mod NarrowLoops
+pub mod NarrowWays
+pub mod SkipLemmas

@@ -479,21 +479,21 @@ module _ (arcs : List Arc) (ends : List Bool) (allows : ℕ → Bool) (weight : 
       by (x ∷ xs) e = cc
   ends_plain (suc n) h = let apart : suc n ≢ 0 = omega arith in sym (get_or-set_other ends 0 (suc n) false false apart) ∙ h
 
-  leads_plain : (n : ℕ) (p : List ℕ) → LeadsToEnd (open_graph arcs ends) allows n p → LeadsToEnd (plain_graph arcs ends) allows n p
+  pub leads_plain : (n : ℕ) (p : List ℕ) → LeadsToEnd (open_graph arcs ends) allows n p → LeadsToEnd (plain_graph arcs ends) allows n p
   leads_plain n [] h = ends_plain n h
   leads_plain n (a ∷ p) h = (h.0, h.1, h.2, leads_plain (to_of (open_graph arcs ends) a) p h.3)
 
-  leads_on : (n : ℕ) (p : List ℕ) → 0 < n → LeadsToEnd (plain_graph arcs ends) allows n p → LeadsToEnd (open_graph arcs ends) allows n p
+  pub leads_on : (n : ℕ) (p : List ℕ) → 0 < n → LeadsToEnd (plain_graph arcs ends) allows n p → LeadsToEnd (open_graph arcs ends) allows n p
   leads_on n [] l h = get_or-set_other ends 0 n false false (λ e. omega (arith, e)) ∙ h
   leads_on n (a ∷ p) l h = let u = fwd.forward a h.0 in (h.0, h.1, h.2, leads_on (to_of (open_graph arcs ends) a) p (omega arith) h.3)
 
-  way_of_path : (p : List ℕ) → IsPath (plain_graph arcs ends) allows p → IsWay (open_graph arcs ends) allows 0 0 p
+  pub way_of_path : (p : List ℕ) → IsPath (plain_graph arcs ends) allows p → IsWay (open_graph arcs ends) allows 0 0 p
   way_of_path [] h = absurd (h.some refl)
   way_of_path (a ∷ p) h =
       let u = fwd.forward a h.leads.0 in
       record { leads = (h.leads.0, h.leads.1, h.leads.2, leads_on (to_of (open_graph arcs ends) a) p (omega arith) h.leads.3); late = omega arith }
 
-  path_of_way : (p : List ℕ) → IsWay (open_graph arcs ends) allows 0 0 p → IsPath (plain_graph arcs ends) allows p
+  pub path_of_way : (p : List ℕ) → IsWay (open_graph arcs ends) allows 0 0 p → IsPath (plain_graph arcs ends) allows p
   path_of_way p h = record { some = λ e. none p e h.leads; leads = leads_plain 0 p h.leads }
     where
       none : (p : List ℕ) → p ≡ [] → LeadsToEnd (open_graph arcs ends) allows 0 p → ⊥

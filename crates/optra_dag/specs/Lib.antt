@@ -1,4 +1,7 @@
--- What graphs, their paths and the search mean.
+-- What graphs, their paths and the searches mean.
 pub mod Paths
+pub mod Spans
 pub mod GraphParts
 pub mod WaySums
+pub mod NarrowSums
+pub mod Skips

@@ -2,6 +2,7 @@
 ghost use Rattle.std.specs.Prelude.{◌≡◌, ℕ, ◌+◌, ◌-◌, ◌<◌, ◌≤◌, [], ◌∷◌, ◌++◌, length, replicate, All, slice_set, IfOk, OnErr, OnOk, IfSome, true, false};
 ghost use Rattle.optra_dag.specs.Paths.{IsForward};
 
+use crate::spans::Span;
 use crate::{Arc, NoMemory};
 use std::alloc::Global;
 use std::marker::Model;
@@ -13,6 +14,8 @@ use std::marker::Model;
 pub struct Dag {
     pub(crate) arcs: Vec<Arc>,
     pub(crate) ends: Vec<bool>,
+    /// For each node its arcs.
+    pub(crate) spans: Vec<Span>,
 }
 
 impl Model for Dag {
@@ -20,12 +23,11 @@ impl Model for Dag {
 
     ghost Value = { Graph };
 
-    ghost use Rattle.optra_dag.specs.Paths.{IsForward};
-    ghost use Rattle.optra_dag.specs.GraphParts.{graph_of};
+    ghost use Rattle.optra_dag.specs.GraphParts.{graph_of, IsWhole};
 
     ghost view = { graph_of };
 
-    ghost invariant = { λ a. IsForward (graph_of a) };
+    ghost invariant = { IsWhole };
 }
 
 impl Dag {
@@ -37,6 +39,7 @@ impl Dag {
         Ok(Dag {
             arcs: Vec::new(alloc),
             ends: vec![in alloc; false; nodes as usize]?,
+            spans: vec![in alloc; Span::empty(); nodes as usize]?,
         })
     }
 
@@ -61,6 +64,8 @@ impl Dag {
     {
         let number = self.arcs.len();
         self.arcs.push(Arc { from, to })?;
+        let span = self.spans[from as usize];
+        self.spans[from as usize] = span.with_last(number as u32);
         Ok(number as u32)
     }
 

@@ -3,11 +3,18 @@
 
 use std::alloc::AllocError;
 
+mod buffers;
 mod graphs;
+mod narrow;
 mod searching;
+mod skipping;
+mod spans;
 
+pub use buffers::Buffers;
 pub use graphs::Dag;
-pub use searching::{Buffers, Weight, first_best, first_best_in};
+pub use narrow::{FAR, NARROW_ROOM, NarrowWeight, is_narrow, narrow_best_in};
+pub use searching::{Weight, first_best, first_best_in};
+pub use skipping::skip_laws;
 
 /// Memory was refused.
 pub type NoMemory = AllocError;

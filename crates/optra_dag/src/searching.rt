@@ -3,10 +3,10 @@ ghost use Rattle.std.specs.Prelude.{◌≡◌, ℕ, Bool, true, [], ◌+◌, ◌
 ghost use Rattle.optra_dag.specs.Paths.{IsPath, IsFirstBest, IsForward, IsWeight};
 ghost use Rattle.optra_dag.specs.WaySums.{open_graph, plain_graph, first_sum, first_sums, AreDone, Traces, LeadForward};
 
+use crate::buffers::Buffers;
 use crate::graphs::Dag;
 use crate::{Arc, NoMemory};
 use std::alloc::Global;
-use std::marker::Model;
 
 /// Which arcs a path may take, and what each adds. The answers depend on the arc alone while the value is lent.
 pub trait Weight {
@@ -33,44 +33,6 @@ const NO_WAY: i128 = i128::MIN;
 
 /// The next arc at a node where the path ends.
 const STOP: u32 = u32::MAX;
-
-/// The arrays of a search, to be lent to one search after another. They are seen as the path found last.
-#[derive(Drop)]
-pub struct Buffers {
-    /// For each node the sum of the first best way on from there to an end.
-    sums: Vec<i128>,
-    /// For each node the first arc of that way.
-    next: Vec<u32>,
-    path: Vec<u32>,
-}
-
-impl Model for Buffers {
-    ghost use Rattle.std.specs.Prelude.{List, ℕ};
-
-    ghost Value = { List ℕ };
-
-    ghost view = { λ a. a.path.items };
-}
-
-impl Buffers {
-    /// Empty buffers, which take no memory.
-    pub fn new(alloc: Global) -> Buffers
-        ensures { result ≡ [] }
-    {
-        Buffers {
-            sums: Vec::new(alloc),
-            next: Vec::new(alloc),
-            path: Vec::new(alloc),
-        }
-    }
-
-    /// The arcs of the path found last.
-    pub fn path(&self) -> &[u32]
-        ensures { result.now ≡ self.now }
-    {
-        &self.path
-    }
-}
 
 /// Of the nonempty paths of allowed arcs from node 0 to an end, the first one in the lexicographic order of arc
 /// numbers among those of greatest weight, with its weight. `None` comes exactly where there is no such path.

@@ -1,6 +1,6 @@
 -- Tables of arcs that are brought to a node, arc by arc and bid by bid.
-use Rattle.std.proofs.Common.{◌≡◌, ◌≢◌, ℕ, ◌+◌, ◌≤◌, ◌<◌, Bool, true, false, cond, List, [], ◌∷◌, ◌++◌, length, take, drop, set, get_or, Option, Some, slice_get, refl, sym, ap, ◌∙◌, subst, arith, inl, inr}
-use Rattle.std.specs.Prelude.{◌↔◌, ◌||◌, All}
+use Rattle.std.proofs.Common.{◌≡◌, ◌≢◌, ℕ, ◌+◌, ◌≤◌, ◌<◌, Bool, true, false, cond, List, [], ◌∷◌, ◌++◌, length, take, drop, set, get_or, Option, Some, Vec, Global, slice_get, refl, sym, ap, ◌∙◌, subst, arith, inl, inr, ℤ}
+use Rattle.std.specs.Prelude.{◌↔◌, ◌||◌, All, Contains, neg_ℤ}
 use Rattle.std.specs.Option.{option_map_or}
 use Rattle.std.specs.declared.cmp.Ordering.{Ordering}
 use Rattle.std.proofs.lemmas.Bool.{cases_eq}
@@ -9,6 +9,7 @@ use Rattle.std.proofs.lemmas.List.Elements.{All-nil, All-weaker}
 use Rattle.std.proofs.lemmas.Option.{same_Some, none-some, slice_get_within, slice_get-get_or}
 use Rattle.optra_network.specs.Net.{Net, IsProper}
 use Rattle.optra_network.specs.declared.TypeId.{TypeId}
+use Rattle.optra_bid.specs.Specs.{IsBetween}
 use Rattle.optra_bid.specs.declared.bids.Bid.{Bid}
 use Rattle.optra_walk.specs.declared.Leg.{Leg}
 use Rattle.optra_walk.specs.Families.{Rows, IsUsable, ListsRows}
@@ -23,9 +24,9 @@ use Rattle.optra_prices.specs.Arcs.{IsArcValue}
 use Rattle.optra_prices.specs.Keepings.{IsBrought, AreBrought}
 use Rattle.optra_prices.specs.Marks.{IsMark}
 use Rattle.optra_prices.specs.Rooms.{IsTold, IsRoom, HasRoomFor, HasRoomForAll}
-use Rattle.optra_prices.specs.Tables.{Extends, AreTouches, AreGroups, group_at}
+use Rattle.optra_prices.specs.Tables.{Extends, AreTouches, group_at}
 use Rattle.optra_prices.specs.Terms.{Setting, setting, AreTerms, AreMarked}
-use Rattle.optra_prices.specs.Standings.{IsArcTable, HoldArcs, AreTables}
+use Rattle.optra_prices.specs.Standings.{Covers, IsArcTable, HoldArcs, IsBidTable, AreTables}
 use Rattle.optra_prices.specs.declared.rooms.Told.{Told}
 use Rattle.optra_prices.specs.declared.numbering.ArcTerm.{ArcTerm}
 use Rattle.optra_prices.specs.declared.numbering.BidTable.{BidTable}
@@ -35,7 +36,8 @@ use Rattle.optra_prices.specs.declared.rooms.Room.{Room}
 use Rattle.optra_prices.proofs.ListLemmas.{some_at, all_at}
 use Rattle.optra_prices.proofs.NumberLemmas.{push_cases}
 use Rattle.optra_prices.proofs.RoomLemmas.{same_room, room_free}
-use Rattle.optra_prices.proofs.TableLemmas.{IsTableOf, table_kept, set_same, set_other, set_length}
+use Rattle.optra_prices.proofs.StandLemmas.{set_same, set_other, set_length}
+use Rattle.optra_prices.proofs.TableLemmas.{table_kept}
 use Rattle.optra_prices.proofs.TermLemmas.{arc_usable, kind_is, no_start}
 
 -- ---- what decided legs use
@@ -87,20 +89,20 @@ module _ {R : Type 0} (rows : Rows R) (bids : List Bid) (numbered : List R) wher
 -- ---- what the room tells of a table's arcs
 module _ {R : Type 0} (cmp : R → R → Ordering) (net : Net) (proper : IsProper net) (rows : Rows R) (used : TypeId → Leg → List R)
     (lists : (kind : TypeId) (leg : Leg) → IsUsable net kind leg → ListsRows cmp rows.is_row (rows.uses kind leg) (used kind leg)) (bids : List Bid) (node : List Decision) (number : ℕ) (numbered : List R) (room : Room)
-    (is : IsRoom rows numbered (others_load rows bids node number) room) (table : BidTable) where
-  pub table_tells : IsTableFor net rows used bids numbered number table → RoomTells rows bids node number room table.graph.now table.groups table.arcs.items
+    (is : IsRoom rows numbered (others_load rows bids node number) room) (groups : Groups) (table : BidTable) where
+  pub table_tells : IsTableFor net rows used bids numbered groups number table → RoomTells rows bids node number room table.graph.now groups table.arcs.items
   table_tells (bid, here, at) = record {
-    count = at.count;
-    groups_are = at.groups;
-    within = at.terms.within;
-    starts_are = λ k minute arc arc_at start. (at.terms.starts_are k minute arc arc_at start).group_is;
+    count = at.arcs_are.count;
+    groups_are = at.arcs_are.groups;
+    within = at.arcs_are.terms.within;
+    starts_are = λ k minute arc arc_at start. (at.arcs_are.terms.starts_are k minute arc arc_at start).group_is;
     legs_are = λ k leg arc arc_at there.
         let within = slice_get_within table.arcs.items k arc arc_at in
-        let count = at.count in
-        let usable = arc_usable net proper bid table.graph.now at.graph k leg (omega (arith, within, count)) there in
-        let group = group_at table.groups.starts.items table.groups.touches.items arc.group in
+        let count = at.arcs_are.count in
+        let usable = arc_usable net proper bid table.graph.now at.arcs_are.graph k leg (omega (arith, within, count)) there in
+        let group = group_at groups.starts.items groups.touches.items arc.group in
         subst (λ (kind : TypeId). HasRoomForAll room group ↔ (IsBlocked rows bids node number kind leg → ⊥)) (sym (kind_is bids number bid here))
-        (room_free cmp rows bids node number numbered room is group bid.path.kind leg (used bid.path.kind leg) (at.terms.legs_are k leg arc arc_at there).group_is (lists bid.path.kind leg usable));
+        (room_free cmp rows bids node number numbered room is group bid.path.kind leg (used bid.path.kind leg) (at.arcs_are.terms.legs_are k leg arc arc_at there).group_is (lists bid.path.kind leg usable));
   }
 
 module _ (net : Net) (bids : List Bid) (node : List Decision) (number : ℕ) (t : Timed) where
@@ -172,13 +174,13 @@ module _ {R : Type 0} (net : Net) (rows : Rows R) (bids : List Bid) (node : List
   }
 
 -- tables serve while rows get numbers
-pub tables_kept : {R : Type 0} (s : Setting R) (count : ℕ) (numbered after : List R) (tables : List BidTable) → Extends numbered after → AreTables s count numbered tables → AreTables s count after tables
-tables_kept s count numbered after tables extends are = record {
+pub tables_kept : {R : Type 0} (s : Setting R) (count : ℕ) (numbered after : List R) (groups : Groups) (tables : List BidTable) → Extends numbered after → AreTables s count numbered groups tables → AreTables s count after groups tables
+tables_kept s count numbered after groups tables extends are = record {
   count_is = are.count_is;
-  each = λ number bid table bid_at table_at. table_kept s numbered after extends number bid table (are.each number bid table bid_at table_at);
+  each = λ number bid table bid_at table_at. table_kept s numbered after groups extends number bid table (are.each number bid table bid_at table_at);
 }
 
-module _ {R : Type 0} (net : Net) (rows : Rows R) (used : TypeId → Leg → List R) (bids : List Bid) (node : List Decision) (numbered : List R) where
+module _ {R : Type 0} (net : Net) (rows : Rows R) (used : TypeId → Leg → List R) (bids : List Bid) (node : List Decision) (numbered : List R) (groups : Groups) where
   abbrev now : Setting R
   now = setting net rows used bids node
 
@@ -214,6 +216,16 @@ module _ {R : Type 0} (net : Net) (rows : Rows R) (used : TypeId → Leg → Lis
           subst IsArcValue (sym is.value_is) (all_at (λ (a : ArcTerm). IsArcValue a.value) old k b.0 are.values b.1);
     }
 
+    -- their values are those that they had
+    covers_anew : (most : ℤ) → Covers most old → Covers most new
+    covers_anew most are = record {
+      range = are.range;
+      values = λ k d l.
+          let at = slice_get-get_or new k d l in
+          let b = was k (get_or new k d) at in
+          subst (IsBetween (neg_ℤ most) most) (sym (told.each k b.0 (get_or new k d) b.1 at).value_is) (all_at (λ (a : ArcTerm). IsBetween (neg_ℤ most) most a.value) old k b.0 are.values b.1);
+    }
+
     -- and their marks are those of the node
     marks_anew : (bid : Bid) → slice_get bids number ≡ Some bid → AreMarked now number bid.path.kind t new
     marks_anew bid here = record {
@@ -224,43 +236,47 @@ module _ {R : Type 0} (net : Net) (rows : Rows R) (used : TypeId → Leg → Lis
     }
 
   -- a table that is told anew is that of the bid at the node
-  pub table_anew : (number : ℕ) (bid : Bid) → slice_get bids number ≡ Some bid → (old new : BidTable) → IsTableAnew net rows bids node number old new → IsArcTable net rows used numbered bid old → IsTableOf now numbered number bid new
+  pub table_anew : (number : ℕ) (bid : Bid) → slice_get bids number ≡ Some bid → (old new : BidTable) → IsTableAnew net rows bids node number old new → IsArcTable net rows used numbered groups bid old → IsBidTable now number numbered groups bid new
   table_anew number bid here old new anew is =
-      let terms = terms_anew number old.graph.now old.arcs.items new.arcs.items anew.arcs bid old.groups.starts.items old.groups.touches.items is.terms in
+      let starts = groups.starts.items in
+      let touches = groups.touches.items in
+      let terms = terms_anew number old.graph.now old.arcs.items new.arcs.items anew.arcs bid starts touches is.arcs_are.terms in
       let marks = marks_anew number old.graph.now old.arcs.items new.arcs.items anew.arcs bid here in
       record {
-        graph = subst (IsGraphOf net bid.path) (sym anew.graph) is.graph;
-        count = anew.arcs.count_is ∙ is.count ∙ ap (λ (t : Timed). length t.dag.arcs) (sym anew.graph);
-        groups = subst (λ (x : Groups). AreGroups x.starts.items x.touches.items) (sym anew.groups) is.groups;
-        terms = subst (λ (t : Timed). AreTerms net rows used bid t numbered new.groups.starts.items new.groups.touches.items new.arcs.items) (sym anew.graph)
-            (subst (λ (x : Groups). AreTerms net rows used bid old.graph.now numbered x.starts.items x.touches.items new.arcs.items) (sym anew.groups) terms);
-        marks = subst (λ (t : Timed). AreMarked now number bid.path.kind t new.arcs.items) (sym anew.graph) marks;
-        forced_is = anew.forced_is;
+        arcs_are = record {
+          graph = subst (IsGraphOf net bid.path) (sym anew.graph) is.arcs_are.graph;
+          count = anew.arcs.count_is ∙ is.arcs_are.count ∙ ap (λ (t : Timed). length t.dag.arcs) (sym anew.graph);
+          groups = is.arcs_are.groups;
+          terms = subst (λ (t : Timed). AreTerms net rows used bid t numbered starts touches new.arcs.items) (sym anew.graph) terms;
+          marks = subst (λ (t : Timed). AreMarked now number bid.path.kind t new.arcs.items) (sym anew.graph) marks;
+          forced_is = anew.forced_is;
+        };
+        covers = subst (λ (most : ℤ). Covers most new.arcs.items) (sym anew.most) (covers_anew number old.graph.now old.arcs.items new.arcs.items anew.arcs old.most is.covers);
       }
 
 -- the first tables are at the node, and the others as they were made
-pub record AreTablesUpTo {R : Type 0} (net : Net) (rows : Rows R) (used : TypeId → Leg → List R) (bids : List Bid) (node : List Decision) (numbered : List R) (n : ℕ) (tables : List BidTable) : Type 0 where
+pub record AreTablesUpTo {R : Type 0} (net : Net) (rows : Rows R) (used : TypeId → Leg → List R) (bids : List Bid) (node : List Decision) (numbered : List R) (groups : Groups) (n : ℕ) (tables : List BidTable) : Type 0 where
   pub count_is : length tables ≡ length bids
-  pub done : (number : ℕ) (bid : Bid) (table : BidTable) → number < n → slice_get bids number ≡ Some bid → slice_get tables number ≡ Some table → IsTableOf (setting net rows used bids node) numbered number bid table
-  pub left : (number : ℕ) (bid : Bid) (table : BidTable) → n ≤ number → slice_get bids number ≡ Some bid → slice_get tables number ≡ Some table → IsArcTable net rows used numbered bid table
+  pub done : (number : ℕ) (bid : Bid) (table : BidTable) → number < n → slice_get bids number ≡ Some bid → slice_get tables number ≡ Some table → IsBidTable (setting net rows used bids node) number numbered groups bid table
+  pub left : (number : ℕ) (bid : Bid) (table : BidTable) → n ≤ number → slice_get bids number ≡ Some bid → slice_get tables number ≡ Some table → IsArcTable net rows used numbered groups bid table
 
-module _ {R : Type 0} (net : Net) (rows : Rows R) (used : TypeId → Leg → List R) (bids : List Bid) (node : List Decision) (numbered : List R) where
-  pub tables_first : (tables : List BidTable) → HoldArcs net rows used bids (length bids) numbered tables → AreTablesUpTo net rows used bids node numbered 0 tables
+module _ {R : Type 0} (net : Net) (rows : Rows R) (used : TypeId → Leg → List R) (bids : List Bid) (node : List Decision) (numbered : List R) (groups : Groups) where
+  pub tables_first : (tables : List BidTable) → HoldArcs net rows used bids (length bids) numbered groups tables → AreTablesUpTo net rows used bids node numbered groups 0 tables
   tables_first tables are = record { count_is = are.count_is; done = λ number bid table l b t. absurd (omega arith); left = λ number bid table l b t. are.each number bid table b t }
 
   -- one more table
-  pub tables_more : (n : ℕ) (tables : List BidTable) (bid : Bid) (old new : BidTable) → AreTablesUpTo net rows used bids node numbered n tables → slice_get bids n ≡ Some bid → slice_get tables n ≡ Some old
-      → IsTableAnew net rows bids node n old new → AreTablesUpTo net rows used bids node numbered (n + 1) (set tables n new)
+  pub tables_more : (n : ℕ) (tables : List BidTable) (bid : Bid) (old new : BidTable) → AreTablesUpTo net rows used bids node numbered groups n tables → slice_get bids n ≡ Some bid → slice_get tables n ≡ Some old
+      → IsTableAnew net rows bids node n old new → AreTablesUpTo net rows used bids node numbered groups (n + 1) (set tables n new)
   tables_more n tables bid old new so_far at old_at anew = record {
     count_is = set_length tables n new ∙ so_far.count_is;
-    done = λ number b x l b_at x_at. elim (cases_eq number n) as (λ _. IsTableOf (setting net rows used bids node) numbered number b x) [
+    done = λ number b x l b_at x_at. elim (cases_eq number n) as (λ _. IsBidTable (setting net rows used bids node) number numbered groups b x) [
       | inl e ↦
           let here : slice_get (set tables n new) n ≡ Some x = ap (slice_get (set tables n new)) (sym e) ∙ x_at in
           let bid_here : slice_get bids n ≡ Some b = ap (slice_get bids) (sym e) ∙ b_at in
           let w = slice_get_within tables n old old_at in
           let same : new ≡ x = set_same tables n new x w here in
-          let is = table_anew net rows used bids node numbered n b bid_here old new anew (so_far.left n b old (omega arith) bid_here old_at) in
-          subst (λ (j : ℕ). IsTableOf (setting net rows used bids node) numbered j b x) (sym e) (subst (λ (z : BidTable). IsTableOf (setting net rows used bids node) numbered n b z) same is)
+          let is = table_anew net rows used bids node numbered groups n b bid_here old new anew (so_far.left n b old (omega arith) bid_here old_at) in
+          subst (λ (j : ℕ). IsBidTable (setting net rows used bids node) j numbered groups b x) (sym e) (subst (λ (z : BidTable). IsBidTable (setting net rows used bids node) n numbered groups b z) same is)
       | inr apart ↦ so_far.done number b x (omega arith) b_at (sym (set_other tables n number new apart) ∙ x_at)
     ];
     left = λ number b x l b_at x_at.
@@ -268,7 +284,7 @@ module _ {R : Type 0} (net : Net) (rows : Rows R) (used : TypeId → Leg → Lis
         so_far.left number b x (omega arith) b_at (sym (set_other tables n number new apart) ∙ x_at);
   }
 
-  pub tables_all : (n : ℕ) (tables : List BidTable) → AreTablesUpTo net rows used bids node numbered n tables → length bids ≤ n → AreTables (setting net rows used bids node) (length bids) numbered tables
+  pub tables_all : (n : ℕ) (tables : List BidTable) → AreTablesUpTo net rows used bids node numbered groups n tables → length bids ≤ n → AreTables (setting net rows used bids node) (length bids) numbered groups tables
   tables_all n tables so_far l = record {
     count_is = so_far.count_is;
     each = λ number bid table b t. so_far.done number bid table (let w = slice_get_within bids number bid b in omega arith) b t;

@@ -10,7 +10,7 @@ use Rattle.optra_walk.specs.Walks.{IsWalk}
 use Rattle.optra_node.specs.declared.Decision.{Decision}
 use Rattle.optra_node.specs.Duals.{PriceList}
 use Rattle.optra_prices.specs.Replies.{IsReply, AreReplies}
-use Rattle.optra_prices.proofs.TouchLemmas.{zip_each}
+use Rattle.optra_prices.proofs.ListLemmas.{zip_each}
 
 pub replies_are_choice : {R : Type 0} (net : Net) (rows : Rows R) (bids : List Bid) (node : List Decision) (prices : PriceList R) (replies : List (Option (List Leg))) → AreReplies net rows bids node prices replies → IsChoice net bids replies
 replies_are_choice net rows bids node prices replies are =

@@ -175,25 +175,26 @@ module _ {R : Type 0} (cmp : R → R → Ordering) (total : IsTotalOrder cmp) (a
           omega (arith, ints)
       by false tie false q i = i
 
-  minus : (n room : ℕ) → (pos n *ℤ (pos 0 -ℤ pos room)) ≤ℤ pos 0
-  minus n zero = let z = *ℤ-zero (pos n) in omega (arith, ints)
-  minus n (suc room) =
-      let e : pos 0 -ℤ pos (suc room) ≡ negsuc room = omega (arith, ints) in
-      let q : (pos n *ℤ negsuc room) ≤ℤ pos 0 = omega (arith, ints) in
-      subst (λ (z : ℤ). (pos n *ℤ z) ≤ℤ pos 0) (sym e) q
+-- a row with neither a price nor a use keeps price 0, and prices stay within their bounds
+minus : (n room : ℕ) → (pos n *ℤ (pos 0 -ℤ pos room)) ≤ℤ pos 0
+minus n zero = let z = *ℤ-zero (pos n) in omega (arith, ints)
+minus n (suc room) =
+    let e : pos 0 -ℤ pos (suc room) ≡ negsuc room = omega (arith, ints) in
+    let q : (pos n *ℤ negsuc room) ≤ℤ pos 0 = omega (arith, ints) in
+    subst (λ (z : ℤ). (pos n *ℤ z) ≤ℤ pos 0) (sym e) q
 
-  low_within : (z : ℤ) → z ≤ℤ pos 0 → price_within z ≡ pos 0
-  low_within z l = omega (arith, ints, clamps)
+low_within : (z : ℤ) → z ≤ℤ pos 0 → price_within z ≡ pos 0
+low_within z l = omega (arith, ints, clamps)
 
-  pub next_none : (by : ℤ) (room : ℕ) → pos 1 ≤ℤ by → next_price by (pos 0) 0 room ≡ pos 0
-  next_none (negsuc n) room l = absurd (omega (arith, ints))
-  next_none (pos n) room l = low_within (pos 0 +ℤ pos n *ℤ (pos 0 -ℤ pos room)) (let m = minus n room in omega (arith, ints))
+pub next_none : (by : ℤ) (room : ℕ) → pos 1 ≤ℤ by → next_price by (pos 0) 0 room ≡ pos 0
+next_none (negsuc n) room l = absurd (omega (arith, ints))
+next_none (pos n) room l = low_within (pos 0 +ℤ pos n *ℤ (pos 0 -ℤ pos room)) (let m = minus n room in omega (arith, ints))
 
-  pub next_low : (z : ℤ) → pos 0 ≤ℤ price_within z
-  next_low z = omega (arith, ints, clamps)
+pub next_low : (z : ℤ) → pos 0 ≤ℤ price_within z
+next_low z = omega (arith, ints, clamps)
 
-  pub next_high : (z : ℤ) → price_within z ≤ℤ pos 2000000000000
-  next_high z = omega (arith, ints, clamps)
+pub next_high : (z : ℤ) → price_within z ≤ℤ pos 2000000000000
+next_high z = omega (arith, ints, clamps)
 
 -- one more leg
 pub legs_push : {R : Type 0} (rows : Rows R) (kind : TypeId) (legs : List Leg) (n : ℕ) (d : Leg) (row : R) → n < length legs

@@ -1,6 +1,7 @@
 -- Lists by their elements.
 use Rattle.std.proofs.Common.{◌≡◌, ℕ, zero, suc, ◌<◌, List, [], ◌∷◌, map, length, Some, slice_get, refl, ap, subst, arith}
 use Rattle.std.specs.Prelude.{All}
+use Rattle.std.specs.List.{AllZip}
 use Rattle.std.proofs.lemmas.Option.{none-some, same_Some}
 
 -- two lists of one length that agree wherever both have an element are one list
@@ -33,3 +34,10 @@ pub map_at : {X Y : Type 0} (f : X → Y) (xs : List X) (k : ℕ) (x : X) → sl
 map_at f [] k x e = absurd (none-some x e)
 map_at f (y ∷ xs) zero x e = ap (λ z. Some (f z)) (same_Some y x e)
 map_at f (y ∷ xs) (suc k) x e = map_at f xs k x e
+
+-- two lists of one length that are related at each place
+pub zip_each : {A B : Type 0} (P : A → B → Type 0) (xs : List A) (ys : List B) → length xs ≡ length ys → ((k : ℕ) (x : A) (y : B) → slice_get xs k ≡ Some x → slice_get ys k ≡ Some y → P x y) → AllZip P xs ys
+zip_each P [] [] l h = tt
+zip_each P [] (y ∷ ys) l h = absurd (omega arith)
+zip_each P (x ∷ xs) [] l h = absurd (omega arith)
+zip_each P (x ∷ xs) (y ∷ ys) l h = (h zero x y refl refl, zip_each P xs ys (omega arith) (λ k. h (suc k)))

@@ -1,5 +1,5 @@
 -- Price lists by the numbers of rows.
-use Rattle.std.proofs.Common.{◌≡◌, ℕ, zero, suc, Bool, true, false, cond, List, [], ◌∷◌, get_or, Option, Some, None, slice_get, refl, sym, ap, ◌∙◌, subst, arith, inl, inr}
+use Rattle.std.proofs.Common.{◌≡◌, ℕ, zero, suc, ◌+◌, Bool, true, false, cond, List, [], ◌∷◌, ◌++◌, length, replicate, append_assoc, get_or, Option, Some, None, slice_get, refl, sym, ap, ◌∙◌, subst, arith, inl, inr}
 use Rattle.std.specs.Prelude.{All, Contains, ℤ, pos, ◌+ℤ◌, ◌*ℤ◌, ◌≤ℤ◌, slice_index, slice_index_or}
 use Rattle.std.specs.Int.{is_positive}
 use Rattle.std.specs.BTreeMap.{BTreeMap, get, IsOrdered}
@@ -8,6 +8,7 @@ use Rattle.std.specs.Ordering.{eq_by_cmp}
 use Rattle.std.specs.Cmp.{IsTotalOrder}
 use Rattle.std.proofs.lemmas.Bool.{cases_Bool}
 use Rattle.std.proofs.lemmas.Int.{ints}
+use Rattle.std.proofs.lemmas.List.{append-nil}
 use Rattle.std.proofs.lemmas.Map.Entries.{btree_map_get_place}
 use Rattle.std.proofs.lemmas.Option.{none-some, slice_get-get_or}
 use Rattle.std.proofs.Math.IntN.{zero-*ℤ}
@@ -20,10 +21,11 @@ use Rattle.optra_prices.specs.Steps.{AreProper}
 use Rattle.optra_prices.specs.Holdings.{stepped}
 use Rattle.optra_prices.specs.Tables.{IsNumbering, IsRowPrice}
 use Rattle.optra_prices.specs.Standings.{Agrees}
-use Rattle.optra_prices.specs.Courses.{listed}
-use Rattle.optra_prices.specs.Listings.{price_at, capacity_sum}
+use Rattle.optra_prices.specs.Courses.{listed, HaveCapacities}
+use Rattle.optra_prices.specs.Listings.{price_at, capacity_sum, AddsZeros}
 use Rattle.optra_prices.proofs.HoldLemmas.{next_of, stepped_price}
 use Rattle.optra_prices.proofs.ListLemmas.{all_at}
+use Rattle.optra_prices.proofs.NumberLemmas.{push_at, push_kept, push_cases}
 use Rattle.optra_prices.proofs.PriceListLemmas.{one_price_list, price_none}
 use Rattle.optra_prices.proofs.StepLemmas.{stepped_ascends, stepped_prices}
 
@@ -122,3 +124,23 @@ module _ {R : Type 0} (cmp : R → R → Ordering) (total : IsTotalOrder cmp) (a
         by : (row : R) (o : Option ℕ) → get cmp numbers row ≡ o → price_of (eq_by_cmp cmp) (listed numbers.entries prices) row ≡ price_of (eq_by_cmp cmp) start row
         by row None e = price_unnumbered row e ∙ sym (price_none cmp start row (differ row e))
         by row (Some n) e = price_numbered n row (is.found row n e) ∙ sym (agrees n row (is.found row n e))
+
+-- ---- rows that are added one after the other
+-- one more row has its capacity
+pub capacities_push : {R : Type 0} (rows : Rows R) (numbered : List R) (capacities : List ℕ) (row : R) (capacity : ℕ) → length capacities ≡ length numbered → HaveCapacities rows numbered capacities → capacity ≡ rows.capacity row
+    → HaveCapacities rows (numbered ++ row ∷ []) (capacities ++ capacity ∷ [])
+capacities_push rows numbered capacities row capacity count have is n other at = elim (push_cases numbered row n other at) as (λ _. slice_get (capacities ++ capacity ∷ []) n ≡ Some (rows.capacity other)) [
+  | inl before ↦ push_kept capacities capacity n (rows.capacity other) (have n other before)
+  | inr (last, same) ↦ ap (slice_get (capacities ++ capacity ∷ [])) (last ∙ sym count) ∙ push_at capacities capacity ∙ ap Some (is ∙ ap rows.capacity same)
+]
+
+-- one more zero
+zeros_push : (n : ℕ) → replicate n (pos 0) ++ pos 0 ∷ [] ≡ replicate (n + 1) (pos 0)
+zeros_push zero = refl
+zeros_push (suc n) = let one : suc (n + 1) ≡ suc n + 1 = omega arith in ap (λ (zs : List ℤ). pos 0 ∷ zs) (zeros_push n) ∙ ap (λ (k : ℕ). replicate k (pos 0)) one
+
+pub adds_zero : (old mid new : List ℤ) → AddsZeros old mid → new ≡ mid ++ pos 0 ∷ [] → AddsZeros old new
+adds_zero old mid new zeros is = (zeros.0 + 1, is ∙ ap (λ (xs : List ℤ). xs ++ pos 0 ∷ []) zeros.1 ∙ append_assoc old (replicate zeros.0 (pos 0)) (pos 0 ∷ []) ∙ ap (λ (xs : List ℤ). old ++ xs) (zeros_push zeros.0))
+
+pub no_zeros : (old : List ℤ) → AddsZeros old old
+no_zeros old = (0, sym (append-nil old))

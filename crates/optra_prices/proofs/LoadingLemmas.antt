@@ -25,6 +25,7 @@ use Rattle.optra_prices.specs.Terms.{Setting, AreBidArcs}
 use Rattle.optra_prices.specs.Standings.{Stands, AreTables, AllStand, IsSound, replies_of}
 use Rattle.optra_prices.specs.Uses.{touch_use, touch_uses, arc_touches, path_uses, all_uses, HasGroups}
 use Rattle.optra_prices.specs.declared.numbering.BidTable.{BidTable}
+use Rattle.optra_prices.specs.declared.numbering.Groups.{Groups}
 use Rattle.optra_prices.specs.declared.numbering.Standing.{Standing}
 use Rattle.optra_prices.specs.declared.numbering.Touch.{Touch}
 use Rattle.optra_prices.proofs.ArcLemmas.{leg_there}
@@ -96,13 +97,13 @@ first_load rows row bid None bids walks = omega arith
 first_load rows row bid (Some legs) bids walks = sum_by-append (λ (e : Entry). rows.uses e.0 e.1 row) (map (λ leg. (bid.path.kind, leg)) legs) (entries_of bids walks)
 
 module _ {R : Type 0} (cmp : R → R → Ordering) (total : IsTotalOrder cmp) (apart : TellsApart cmp) (s : Setting R) (proper : IsProper s.net)
-    (lists : (kind : TypeId) (leg : Leg) → IsUsable s.net kind leg → ListsRows cmp s.rows.is_row (s.rows.uses kind leg) (s.used kind leg)) (numbered : List R) where
+    (lists : (kind : TypeId) (leg : Leg) → IsUsable s.net kind leg → ListsRows cmp s.rows.is_row (s.rows.uses kind leg) (s.used kind leg)) (numbered : List R) (groups : Groups) where
   module _ (number : ℕ) (bid : Bid) (table : BidTable) (prices : List ℤ) (standing : Standing)
-      (are : AreBidArcs s number bid table.graph.now numbered table.arcs.items table.groups.starts.items table.groups.touches.items table.forced) (sound : IsSound table) (stands : Stands table prices standing) where
+      (are : AreBidArcs s number bid table.graph.now numbered table.arcs.items groups.starts.items groups.touches.items table.forced) (sound : IsSound table) (stands : Stands table prices standing) where
     arc_there : (k : ℕ) → k < length table.arcs.items → slice_get table.arcs.items k ≡ Some (get_or table.arcs.items k no_arc)
     arc_there k l = slice_get-get_or table.arcs.items k no_arc l
 
-    leg_touches : (k : ℕ) (leg : Leg) → k < length table.arcs.items → leg_of table.graph.now k ≡ Some leg → AreTouches numbered (s.rows.uses bid.path.kind leg) (arc_touches table k) (s.used bid.path.kind leg)
+    leg_touches : (k : ℕ) (leg : Leg) → k < length table.arcs.items → leg_of table.graph.now k ≡ Some leg → AreTouches numbered (s.rows.uses bid.path.kind leg) (arc_touches groups table k) (s.used bid.path.kind leg)
     leg_touches k leg l at = (are.terms.legs_are k leg (get_or table.arcs.items k no_arc) (arc_there k l) at).group_is
 
     usable : (k : ℕ) (leg : Leg) → k < length table.arcs.items → leg_of table.graph.now k ≡ Some leg → IsUsable s.net bid.path.kind leg
@@ -127,12 +128,12 @@ module _ {R : Type 0} (cmp : R → R → Ordering) (total : IsTotalOrder cmp) (a
             omega arith
 
     pub numbered_load : (once : (i j : ℕ) (row : R) → slice_get numbered i ≡ Some row → slice_get numbered j ≡ Some row → i ≡ j) (n : ℕ) (row : R) → slice_get numbered n ≡ Some row
-        → path_uses table standing.path.items n ≡ load_of s.rows row (entries_one bid (path_reply table.graph.now standing.path.items))
-    numbered_load once n row at = path_load row (λ k. touch_uses (arc_touches table k) n)
+        → path_uses groups table standing.path.items n ≡ load_of s.rows row (entries_one bid (path_reply table.graph.now standing.path.items))
+    numbered_load once n row at = path_load row (λ k. touch_uses (arc_touches groups table k) n)
         (λ k minute l start. ap (λ (touches : List Touch). touch_uses touches n) (are.terms.starts_are k minute (get_or table.arcs.items k no_arc) (arc_there k l) start).group_is)
         (λ k leg l is.
         let listed = lists bid.path.kind leg (usable k leg l is) in
-        touch_part cmp total apart numbered once (s.rows.uses bid.path.kind leg) n row at (arc_touches table k) (s.used bid.path.kind leg) (leg_touches k leg l is)
+        touch_part cmp total apart numbered once (s.rows.uses bid.path.kind leg) n row at (arc_touches groups table k) (s.used bid.path.kind leg) (leg_touches k leg l is)
         ∙ part_all cmp total apart s.rows.is_row (s.rows.uses bid.path.kind leg) (s.used bid.path.kind leg) listed.ascending listed.used row)
 
     pub unnumbered_load : (row : R) → ((n : ℕ) → slice_get numbered n ≡ Some row → ⊥) → load_of s.rows row (entries_one bid (path_reply table.graph.now standing.path.items)) ≡ 0
@@ -140,7 +141,7 @@ module _ {R : Type 0} (cmp : R → R → Ordering) (total : IsTotalOrder cmp) (a
         elim (cases_lt 0 (s.rows.uses bid.path.kind leg row)) as (λ _. 0 ≡ s.rows.uses bid.path.kind leg row) [
           | inl some ↦
               let listed = lists bid.path.kind leg (usable k leg l is) in
-              let place = touch_number numbered (s.rows.uses bid.path.kind leg) row (arc_touches table k) (s.used bid.path.kind leg) (leg_touches k leg l is) ((listed.used row).0 some) in
+              let place = touch_number numbered (s.rows.uses bid.path.kind leg) row (arc_touches groups table k) (s.used bid.path.kind leg) (leg_touches k leg l is) ((listed.used row).0 some) in
               absurd (none place.0 place.1)
           | inr little ↦ omega arith
         ])) ∙ no_uses standing.path.items
@@ -163,22 +164,23 @@ module _ {R : Type 0} (cmp : R → R → Ordering) (total : IsTotalOrder cmp) (a
       let i = by_bids row spent sum none more bids tables standings (omega arith) (omega arith) (λ number b t x b_at t_at x_at. each (suc number) b t x b_at t_at x_at) in
       omega arith
 
-  module _ (tables : List BidTable) (prices : List ℤ) (standings : List Standing) (are : AreTables s (length s.bids) numbered tables) (sound : All IsSound tables) (stand : AllStand tables prices standings) where
+  module _ (tables : List BidTable) (prices : List ℤ) (standings : List Standing) (are : AreTables s (length s.bids) numbered groups tables) (sound : All IsSound tables) (stand : AllStand tables prices standings) where
     -- the uses by number of a row are what the replies use of it
     pub uses_load : (once : (i j : ℕ) (row : R) → slice_get numbered i ≡ Some row → slice_get numbered j ≡ Some row → i ≡ j) (n : ℕ) (row : R) → slice_get numbered n ≡ Some row
-        → all_uses tables standings n ≡ load_of s.rows row (entries_of s.bids (replies_of tables standings))
-    uses_load once n row at = by_bids row (λ table path. path_uses table path n) (λ ts ss. all_uses ts ss n) (λ ss. refl) (λ t ts x ss. refl) s.bids tables standings are.count_is stand.count_is
-        (λ number bid table standing b_at t_at x_at. numbered_load number bid table prices standing (are.each number bid table b_at t_at) (all_at IsSound tables number table sound t_at) (stand.each number table standing t_at x_at) once n row at)
+        → all_uses groups tables standings n ≡ load_of s.rows row (entries_of s.bids (replies_of tables standings))
+    uses_load once n row at = by_bids row (λ table path. path_uses groups table path n) (λ ts ss. all_uses groups ts ss n) (λ ss. refl) (λ t ts x ss. refl) s.bids tables standings are.count_is stand.count_is
+        (λ number bid table standing b_at t_at x_at. numbered_load number bid table prices standing (are.each number bid table b_at t_at).arcs_are (all_at IsSound tables number table sound t_at) (stand.each number table standing t_at x_at) once n row at)
 
     -- a row without a number is not used by the replies
     pub no_load : (row : R) → ((n : ℕ) → slice_get numbered n ≡ Some row → ⊥) → load_of s.rows row (entries_of s.bids (replies_of tables standings)) ≡ 0
     no_load row none = sym (by_bids row (λ table path. 0) (λ ts ss. 0) (λ ss. refl) (λ t ts x ss. omega arith) s.bids tables standings are.count_is stand.count_is
-        (λ number bid table standing b_at t_at x_at. sym (unnumbered_load number bid table prices standing (are.each number bid table b_at t_at) (all_at IsSound tables number table sound t_at) (stand.each number table standing t_at x_at) row none)))
+        (λ number bid table standing b_at t_at x_at. sym (unnumbered_load number bid table prices standing (are.each number bid table b_at t_at).arcs_are (all_at IsSound tables number table sound t_at) (stand.each number table standing t_at x_at) row none)))
 
     -- each arc has a group
-    pub tables_grouped : All HasGroups tables
+    pub tables_grouped : All (HasGroups groups) tables
     tables_grouped k d l =
         let c = are.count_is in
         let b = some_at s.bids k (omega arith) in
         let at : slice_get tables k ≡ Some (get_or tables k d) = slice_get-get_or tables k d l in
-        record { sound = sound k d l; within = (are.each k b.0 (get_or tables k d) b.1 at).terms.within }
+        let arcs = (are.each k b.0 (get_or tables k d) b.1 at).arcs_are in
+        record { are = arcs.groups; sound = sound k d l; within = arcs.terms.within }

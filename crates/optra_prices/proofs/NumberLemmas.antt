@@ -2,7 +2,7 @@
 use Rattle.std.proofs.Common.{◌≡◌, ℕ, zero, suc, Bool, true, false, cond, ◌+◌, ◌≤◌, List, [], ◌∷◌, ◌++◌, length, take, append_assoc, Some, None, slice_get, refl, sym, ap, ◌∙◌, subst, arith, inl, inr}
 use Rattle.std.specs.Prelude.{◌⊎◌, All}
 use Rattle.std.proofs.lemmas.List.Elements.{All-push}
-use Rattle.std.proofs.lemmas.List.{take_all}
+use Rattle.std.proofs.lemmas.List.{take_all, length-append}
 use Rattle.std.specs.List.{AllZip}
 use Rattle.std.specs.BTreeMap.{BTreeMap, get, is_at}
 use Rattle.std.specs.declared.cmp.Ordering.{Ordering}
@@ -69,6 +69,10 @@ numbers_more {R} cmp total apart numbers after rows row n is none next updates =
 pub grows_extends : {R : Type 0} (old new : List R) (row : R) → (new ≡ old) ⊎ (new ≡ old ++ row ∷ []) → Extends old new
 grows_extends old new row (inl e) n q at = ap (λ (xs : List _). slice_get xs n) e ∙ at
 grows_extends old new row (inr e) n q at = ap (λ (xs : List _). slice_get xs n) e ∙ push_kept old row n q at
+
+pub grows_longer : {R : Type 0} (old new : List R) (row : R) → (new ≡ old) ⊎ (new ≡ old ++ row ∷ []) → length old ≤ length new
+grows_longer old new row (inl e) = omega (arith, ap length e)
+grows_longer old new row (inr e) = omega (arith, ap length e, length-append old (row ∷ []))
 
 pub extends_more : {R : Type 0} (a b c : List R) → Extends a b → Extends b c → Extends a c
 extends_more a b c h k n q at = k n q (h n q at)

@@ -1,6 +1,6 @@
 -- A price path from its first candidate, by one more candidate at a time, to its end.
-use Rattle.std.proofs.Common.{◌≡◌, ℕ, zero, suc, ◌+◌, ◌-◌, ◌≤◌, ◌<◌, Bool, true, false, List, [], ◌∷◌, ◌++◌, length, Option, None, Some, slice_get, length-append, refl, sym, ap, ◌∙◌, subst, arith, inl, inr}
-use Rattle.std.specs.Prelude.{◌⊎◌, All, IfSome, IfOk, IsTrue, Result, Ok, Err, ℤ, ◌≤ℤ◌, ◌<ℤ◌}
+use Rattle.std.proofs.Common.{◌≡◌, ℕ, zero, suc, ◌+◌, ◌-◌, ◌≤◌, ◌<◌, List, [], ◌∷◌, ◌++◌, length, replicate, Option, None, Some, slice_get, length-append, refl, sym, ap, ◌∙◌, subst, arith, inl, inr}
+use Rattle.std.specs.Prelude.{◌⊎◌, All, IfSome, IfOk, OnOk, Result, Ok, Err, ℤ, pos, ◌≤ℤ◌, ◌<ℤ◌}
 use Rattle.std.specs.declared.cmp.Ordering.{Ordering}
 use Rattle.std.proofs.lemmas.Int.{ints}
 use Rattle.std.proofs.lemmas.Bool.{cases_order}
@@ -13,14 +13,18 @@ use Rattle.optra_node.specs.declared.Decision.{Decision}
 use Rattle.optra_node.specs.Duals.{PriceList, whole_cents}
 use Rattle.optra_prices.specs.Replies.{IsValuation}
 use Rattle.optra_prices.specs.Steps.{IsStep}
-use Rattle.optra_prices.specs.Tables.{IsRowPrice}
+use Rattle.optra_prices.specs.Levels.{IsMove, HoldsPrices}
+use Rattle.optra_prices.specs.Standings.{valuation_of}
 use Rattle.optra_prices.specs.Terms.{Setting}
 use Rattle.optra_prices.specs.Paths.{IsLow, IsPathSoFar, IsFirstLeast, IsPathResult, IsNextPrices}
-use Rattle.optra_prices.specs.Courses.{listed, prices_at, valuation_at, IsPriced, KeepsRows, AreNumbered}
-use Rattle.optra_prices.specs.Following.{candidate_at, KeepsLess, IsKept, IsFollowing, IsFollowed}
+use Rattle.optra_prices.specs.Courses.{listed, prices_by, listed_by, prices_at, valuation_at, zero_valuation, candidate_at, zero_candidate, AreSetUp, IsCourse, IsPriced, KeepsRows}
+use Rattle.optra_prices.specs.Following.{KeepsLess, IsKept, IsFollowing, IsFollowed}
 use Rattle.optra_prices.specs.declared.Priced.{Priced}
-use Rattle.optra_prices.specs.declared.courses.Course.{Course}
+use Rattle.optra_prices.specs.declared.arc_tables.ArcTables.{ArcTables}
 use Rattle.optra_prices.specs.declared.following.Best.{Best}
+use Rattle.optra_prices.proofs.LevelLemmas.{copied}
+use Rattle.optra_prices.proofs.ListingLemmas.{listed_none}
+use Rattle.optra_prices.proofs.ValueOfLemmas.{zeros_at}
 use Rattle.optra_prices.proofs.ListLemmas.{all_at}
 use Rattle.optra_prices.proofs.NumberLemmas.{push_at, push_kept, push_cases}
 use Rattle.optra_prices.proofs.OneLemmas.{valuation_unique}
@@ -39,6 +43,11 @@ one_at x y (suc n) at = cc
 pub ok_by : {X E : Type 0} (P Q S : X → Type 0) (r : Result X E) → ((x : X) → P x → Q x → S x) → IfOk r P → IfOk r Q → IfOk r S
 ok_by P Q S (Ok x) f p q = f x p q
 ok_by P Q S (Err e) f p q = tt
+
+-- what holds anyway holds where there is a result
+pub ok_anyway : {X E P : Type 0} (r : Result X E) → P → OnOk r P
+ok_anyway (Ok x) p = p
+ok_anyway (Err e) p = tt
 
 -- the prices after a place above zero
 pub next_by_step : {R : Type 0} (cmp : R → R → Ordering) (rows : Rows R) (bids : List Bid) (start : PriceList R) (last : Priced R) (place : ℕ) (prices : PriceList R) → 0 < place
@@ -161,122 +170,146 @@ module _ {R : Type 0} (cmp : R → R → Ordering) (net : Net) (rows : Rows R) (
         goes i c l low (inl at) = within i c l low at (cases_order (i + 1) (length path))
         goes i c l low (inr (e, is)) = omega arith
 
+-- the prices that were copied are those of the rows
+copied_prices : {R : Type 0} (cmp : R → R → Ordering) (s : Setting R) (c : ArcTables R) (moves : List (ℕ × ℤ)) → AreSetUp cmp s c → HoldsPrices c.levels moves → prices_at c ≡ listed_by c moves
+copied_prices cmp s c moves is copies =
+    ap (λ (n : List ℤ). listed c.order.items n) (sym (copied c.levels moves copies)) ∙ ap (λ (n : ℕ). listed c.order.items (prices_by n moves)) is.price_count
+
+copied_moves : {R : Type 0} (cmp : R → R → Ordering) (s : Setting R) (c : ArcTables R) (moves : List (ℕ × ℤ)) → AreSetUp cmp s c → HoldsPrices c.levels moves → All (IsMove (length c.numbering.rows.items)) moves
+copied_moves cmp s c moves is copies = subst (λ (n : ℕ). All (IsMove n) moves) is.price_count copies.are
+
+-- without a price nothing is listed
+listed_nothing : {R : Type 0} (c : ArcTables R) → listed_by c [] ≡ []
+listed_nothing c = listed_none c.order.items (replicate (length c.numbering.rows.items) (pos 0)) (zeros_at (length c.numbering.rows.items))
+
 module _ {R : Type 0} (cmp : R → R → Ordering) (s : Setting R) (start : PriceList R) (steps : ℕ) (incumbent : ℤ) where
-  -- the path starts at the zero prices, which are the best so far
-  pub following_first : (c : Course R) (best : Best) → IsPriced cmp s c → prices_at c ≡ [] → AreNumbered c start → best.prices.items ≡ c.prices.items → best.value ≡ c.value
-      → IsFollowing cmp s start steps incumbent c best (candidate_at s.rows c ∷ [])
-  following_first c best priced zero_prices numbered prices value = record {
-    priced = priced;
-    numbered = numbered;
-    so_far = path_first cmp s.net s.rows s.bids s.node start steps incumbent (candidate_at s.rows c) priced.valuation zero_prices;
-    last = last;
-    range = subst (All IsRowPrice) (sym prices) priced.course.prices;
-    count = ap length prices ∙ priced.course.price_count;
-    kept = record {
-      candidate = candidate_at s.rows c;
-      prices = ap (listed c.order.items) (sym prices);
-      value_is = sym (value ∙ priced.value_is);
+  -- the zero prices alone are the path so far, and the best of it
+  module _ (c : ArcTables R) (best : Best) (valued : IsValuation s.net s.rows s.bids s.node [] (zero_valuation c)) (none : best.prices.items ≡ []) (value : best.value ≡ (zero_valuation c).value) where
+    pub zero_path : IsPathSoFar cmp s.net s.rows s.bids s.node start steps incumbent (zero_candidate c ∷ [])
+    zero_path = path_first cmp s.net s.rows s.bids s.node start steps incumbent (zero_candidate c) valued refl
+
+    zero_kept : IsKept c best (zero_candidate c ∷ [])
+    zero_kept = record {
+      moves = subst (All (IsMove (length c.numbering.rows.items))) (sym none) (λ k d l. absurd (omega arith));
+      candidate = zero_candidate c;
+      prices = sym (ap (listed_by c) none ∙ listed_nothing c);
+      value_is = sym value;
       least = record {
         place = 0;
         is = refl;
-        least = λ i d at. least d (one_at (candidate_at s.rows c) d i at).1;
+        least = λ i d at. least d (one_at (zero_candidate c) d i at).1;
         first = λ i d l at. absurd (omega arith);
       };
-    };
-  }
-    where
-      last : (n : ℕ) → n + 1 ≡ 1 → slice_get (candidate_at s.rows c ∷ []) n ≡ Some (candidate_at s.rows c)
-      last zero e = refl
-      last (suc n) e = absurd (omega arith)
-
-      least : (d : Priced R) → candidate_at s.rows c ≡ d → (valuation_at s.rows c).value ≤ℤ d.dual.value
-      least d is = let same : (valuation_at s.rows c).value ≡ d.dual.value = ap (λ (x : Priced R). x.dual.value) is in omega (arith, ints)
-
-  module _ (c c' : Course R) (best best' : Best) (path : List (Priced R)) (h : IsFollowing cmp s start steps incumbent c best path) (priced : IsPriced cmp s c') (keeps : KeepsRows c c') (less : KeepsLess c'.prices.items c'.value best best') where
-    numbered_more : AreNumbered c' start
-    numbered_more = subst (λ numbering. AreNumbered (record c { numbering = numbering }) start) (sym keeps.numbering) h.numbered
-
-    kept_more : IsKept c' best' (path ++ candidate_at s.rows c' ∷ [])
-    kept_more = by less
+    }
       where
-        by : KeepsLess c'.prices.items c'.value best best' → IsKept c' best' (path ++ candidate_at s.rows c' ∷ [])
-        by (inl (l, prices, value)) =
-            let a = h.kept.value_is in
+        least : (d : Priced R) → zero_candidate c ≡ d → (zero_valuation c).value ≤ℤ d.dual.value
+        least d is = let same : (zero_valuation c).value ≡ d.dual.value = ap (λ (x : Priced R). x.dual.value) is in omega (arith, ints)
+
+    -- where they are low, the path ends there
+    pub zero_followed : IsCourse cmp s c → whole_cents best.value ≤ℤ incumbent → IsFollowed cmp s start steps incumbent c best
+    zero_followed course low = record {
+      course = course;
+      path = zero_candidate c ∷ [];
+      is_path = record { so_far = zero_path; ends = inr (0, zero_candidate c, refl, refl, subst (λ v. whole_cents v ≤ℤ incumbent) value low) };
+      kept = zero_kept;
+    }
+
+  -- what is kept stays where rows, tables and what is known at zero prices do
+  module _ (c c' : ArcTables R) (keeps : KeepsRows c c') where
+    listed_same : (moves : List (ℕ × ℤ)) → listed_by c' moves ≡ listed_by c moves
+    listed_same moves =
+        ap (λ order. listed order.items (prices_by (length c'.numbering.rows.items) moves)) keeps.order
+        ∙ ap (λ numbering. listed c.order.items (prices_by (length numbering.rows.items) moves)) keeps.numbering
+
+    zero_same : zero_candidate c' ≡ zero_candidate c
+    zero_same = ap (λ tables. record { prices = []; dual = valuation_of (pos 0) tables.items c'.zero.items }) keeps.tables ∙ ap (λ zero. record { prices = []; dual = valuation_of (pos 0) c.tables.items zero.items }) keeps.zero
+
+    moves_same : (moves : List (ℕ × ℤ)) → All (IsMove (length c.numbering.rows.items)) moves → All (IsMove (length c'.numbering.rows.items)) moves
+    moves_same moves = subst (λ numbering. All (IsMove (length numbering.rows.items)) moves) (sym keeps.numbering)
+
+    -- one more candidate is kept where it is less than those before it
+    pub kept_more : (best best' : Best) (path : List (Priced R)) → IsKept c best path → IsPriced cmp s c' → KeepsLess c' best best' → IsKept c' best' (path ++ candidate_at s.rows c' ∷ [])
+    kept_more best best' path kept priced less = by less
+      where
+        by : KeepsLess c' best best' → IsKept c' best' (path ++ candidate_at s.rows c' ∷ [])
+        by (inl (l, copies, value)) =
+            let a = kept.value_is in
             let b = priced.value_is in
             record {
+              moves = copied_moves cmp s c' best'.prices.items priced.course.is copies;
               candidate = candidate_at s.rows c';
-              prices = ap (listed c'.order.items) (sym prices);
+              prices = copied_prices cmp s c' best'.prices.items priced.course.is copies;
               value_is = sym (value ∙ priced.value_is);
-              least = least_moves path h.kept.candidate (candidate_at s.rows c') h.kept.least (omega (arith, ints));
+              least = least_moves path kept.candidate (candidate_at s.rows c') kept.least (omega (arith, ints));
             }
         by (inr (l, prices, value)) =
-            let a = h.kept.value_is in
+            let a = kept.value_is in
             let b = priced.value_is in
             record {
-              candidate = h.kept.candidate;
-              prices = h.kept.prices ∙ ap (λ order. listed order.items best.prices.items) (sym keeps.order) ∙ ap (listed c'.order.items) (sym prices);
-              value_is = h.kept.value_is ∙ sym value;
-              least = least_stays path h.kept.candidate (candidate_at s.rows c') h.kept.least (omega (arith, ints));
+              moves = subst (All (IsMove (length c'.numbering.rows.items))) (sym prices) (moves_same best.prices.items kept.moves);
+              candidate = kept.candidate;
+              prices = kept.prices ∙ sym (listed_same best.prices.items) ∙ ap (listed_by c') (sym prices);
+              value_is = kept.value_is ∙ sym value;
+              least = least_stays path kept.candidate (candidate_at s.rows c') kept.least (omega (arith, ints));
             }
 
-    range_more : All IsRowPrice best'.prices.items
-    range_more = by less
-      where
-        by : KeepsLess c'.prices.items c'.value best best' → All IsRowPrice best'.prices.items
-        by (inl (l, prices, value)) = subst (All IsRowPrice) (sym prices) priced.course.prices
-        by (inr (l, prices, value)) = subst (All IsRowPrice) (sym prices) h.range
+  -- the start prices follow the zero prices
+  pub following_start : (c c' : ArcTables R) (best best' : Best) → IsValuation s.net s.rows s.bids s.node [] (zero_valuation c) → best.prices.items ≡ [] → best.value ≡ (zero_valuation c).value → KeepsRows c c' → IsPriced cmp s c' → KeepsLess c' best best'
+      → prices_at c' ≡ start → (whole_cents best.value ≤ℤ incumbent → ⊥) → IsFollowing cmp s start steps incumbent c' best' (zero_candidate c' ∷ candidate_at s.rows c' ∷ [])
+  following_start c c' best best' valued none value keeps priced less at_start high =
+      subst (λ (zero : Priced R). IsFollowing cmp s start steps incumbent c' best' (zero ∷ candidate_at s.rows c' ∷ [])) (sym (zero_same c c' keeps)) (record {
+        priced = priced;
+        so_far = path_more cmp s.net s.rows s.bids s.node start steps incumbent (zero_candidate c ∷ []) (zero_candidate c) (candidate_at s.rows c') 0 (zero_path c best valued none value) refl refl at_start (omega arith)
+            (λ low. high (subst (λ v. whole_cents v ≤ℤ incumbent) (sym value) low)) priced.valuation;
+        last = last;
+        kept = kept_more c c' keeps best best' (zero_candidate c ∷ []) (zero_kept c best valued none value) priced less;
+      })
+    where
+      last : (n : ℕ) → n + 1 ≡ 2 → slice_get (zero_candidate c ∷ candidate_at s.rows c' ∷ []) n ≡ Some (candidate_at s.rows c')
+      last zero e = absurd (omega arith)
+      last (suc zero) e = refl
+      last (suc (suc n)) e = absurd (omega arith)
 
-    count_more : length best'.prices.items ≡ length c'.numbering.rows.items
-    count_more = by less
-      where
-        by : KeepsLess c'.prices.items c'.value best best' → length best'.prices.items ≡ length c'.numbering.rows.items
-        by (inl (l, prices, value)) = ap length prices ∙ priced.course.price_count
-        by (inr (l, prices, value)) = ap length prices ∙ h.count ∙ ap (λ numbering. length numbering.rows.items) (sym keeps.numbering)
-
-    -- one more candidate, after one that is not low
-    pub following_more : (place : ℕ) → place + 1 ≡ length path → place ≤ steps → (IsLow incumbent (candidate_at s.rows c) → ⊥) → IsNextPrices cmp s.rows s.bids start (candidate_at s.rows c) place (prices_at c')
-        → IsFollowing cmp s start steps incumbent c' best' (path ++ candidate_at s.rows c' ∷ [])
-    following_more place count few high next =
+  -- one more candidate, after one that is not low
+  pub following_more : (c c' : ArcTables R) (best best' : Best) (path : List (Priced R)) (k : ℕ) → IsFollowing cmp s start steps incumbent c best path → IsPriced cmp s c' → KeepsRows c c' → KeepsLess c' best best' → k + 2 ≡ length path → k < steps
+      → (IsLow incumbent (candidate_at s.rows c) → ⊥) → IsStep cmp s.rows s.bids (valuation_at s.rows c).replies k (prices_at c) (prices_at c') → IsFollowing cmp s start steps incumbent c' best' (path ++ candidate_at s.rows c' ∷ [])
+  following_more c c' best best' path k h priced keeps less count few high step = record {
+    priced = priced;
+    so_far = path_more cmp s.net s.rows s.bids s.node start steps incumbent path (candidate_at s.rows c) (candidate_at s.rows c') (suc k) h.so_far (omega arith) (h.last (suc k) (omega arith)) step (omega arith) high priced.valuation;
+    last = λ n e.
         let more : length (path ++ candidate_at s.rows c' ∷ []) ≡ length path + 1 = length-append path (candidate_at s.rows c' ∷ []) in
-        record {
-          priced = priced;
-          numbered = numbered_more;
-          so_far = path_more cmp s.net s.rows s.bids s.node start steps incumbent path (candidate_at s.rows c) (candidate_at s.rows c') place h.so_far count (h.last place count) next few high priced.valuation;
-          last = λ n e. let same : length path ≡ n = omega arith in subst (λ j. slice_get (path ++ candidate_at s.rows c' ∷ []) j ≡ Some (candidate_at s.rows c')) same (push_at path (candidate_at s.rows c'));
-          range = range_more;
-          count = count_more;
-          kept = kept_more;
-        }
+        let same : length path ≡ n = omega arith in
+        subst (λ j. slice_get (path ++ candidate_at s.rows c' ∷ []) j ≡ Some (candidate_at s.rows c')) same (push_at path (candidate_at s.rows c'));
+    kept = kept_more c c' keeps best best' path h.kept priced less;
+  }
 
-  module _ (c : Course R) (best : Best) (path : List (Priced R)) (h : IsFollowing cmp s start steps incumbent c best path) where
+  module _ (c : ArcTables R) (best : Best) (path : List (Priced R)) (h : IsFollowing cmp s start steps incumbent c best path) where
     -- the last candidate is low where the test says so
-    pub low_if : (b : Bool) → b ≡ true → (IsTrue b → whole_cents c.value ≤ℤ incumbent) → IsLow incumbent (candidate_at s.rows c)
-    low_if b e f = subst (λ v. whole_cents v ≤ℤ incumbent) h.priced.value_is (f e)
+    pub low_if : whole_cents c.value ≤ℤ incumbent → IsLow incumbent (candidate_at s.rows c)
+    low_if = subst (λ v. whole_cents v ≤ℤ incumbent) h.priced.value_is
 
     -- and not where it doesn't
-    pub high_if : (b : Bool) → b ≡ false → (whole_cents c.value ≤ℤ incumbent → IsTrue b) → IsLow incumbent (candidate_at s.rows c) → ⊥
-    high_if b e f low = clash (sym (f (subst (λ v. whole_cents v ≤ℤ incumbent) (sym h.priced.value_is) low)) ∙ e)
-      where
-        clash : true ≡ false → ⊥
-        clash e = cc
+    pub high_if : (whole_cents c.value ≤ℤ incumbent → ⊥) → IsLow incumbent (candidate_at s.rows c) → ⊥
+    high_if high low = high (subst (λ v. whole_cents v ≤ℤ incumbent) (sym h.priced.value_is) low)
 
     -- the path ends at a candidate that is low
     pub followed_low : (place : ℕ) → place + 1 ≡ length path → IsLow incumbent (candidate_at s.rows c) → IsFollowed cmp s start steps incumbent c best
     followed_low place count low = record {
+      course = h.priced.course;
       path = path;
       is_path = record { so_far = h.so_far; ends = inr (place, candidate_at s.rows c, count, h.last place count, low) };
-      following = h;
+      kept = h.kept;
     }
 
     -- the path ends after the last step
     pub followed_all : length path ≡ steps + 2 → IsFollowed cmp s start steps incumbent c best
-    followed_all all = record { path = path; is_path = record { so_far = h.so_far; ends = inl all }; following = h }
+    followed_all all = record { course = h.priced.course; path = path; is_path = record { so_far = h.so_far; ends = inl all }; kept = h.kept }
 
-  -- back at the best prices, the course is at the result
-  pub result_is : (c c' : Course R) (best : Best) (result : Priced R) → IsFollowed cmp s start steps incumbent c best → IsPriced cmp s c' → prices_at c' ≡ listed c.order.items best.prices.items
+  -- back at the best prices, the prices are the result
+  pub result_is : (c c' : ArcTables R) (best : Best) (result : Priced R) → IsFollowed cmp s start steps incumbent c best → IsPriced cmp s c' → prices_at c' ≡ listed_by c best.prices.items
       → result.prices ≡ prices_at c' → result.dual ≡ valuation_at s.rows c' → IsPathResult cmp s.net s.rows s.bids s.node start steps incumbent result
   result_is c c' best result h priced back prices dual =
-      let kept = h.following.kept in
+      let kept = h.kept in
       let p : kept.candidate.prices ≡ prices_at c' = kept.prices ∙ sym back in
       let valued = all_at (λ (x : Priced R). IsValuation s.net s.rows s.bids s.node x.prices x.dual) h.path kept.least.place kept.candidate h.is_path.so_far.each kept.least.is in
       let d : kept.candidate.dual ≡ valuation_at s.rows c' = valuation_unique s.net s.rows s.bids s.node (prices_at c') kept.candidate.dual (valuation_at s.rows c')

@@ -19,6 +19,7 @@ use Rattle.optra_prices.specs.Terms.{Setting, AreBidArcs}
 use Rattle.optra_prices.specs.Standings.{Stands, Agrees, AreTables, AllStand, replies_of, terms_of, value_of, valuation_of}
 use Rattle.optra_prices.specs.declared.numbering.ArcTerm.{ArcTerm}
 use Rattle.optra_prices.specs.declared.numbering.BidTable.{BidTable}
+use Rattle.optra_prices.specs.declared.numbering.Groups.{Groups}
 use Rattle.optra_prices.specs.declared.numbering.Standing.{Standing}
 use Rattle.optra_prices.specs.declared.numbering.Touch.{Touch}
 use Rattle.optra_prices.proofs.ListLemmas.{all_at, some_at}
@@ -39,17 +40,16 @@ group_used {R} cmp numbered prices listed uses agrees (touch ∷ touches) (row �
     let u = ap (λ (n : ℕ). slice_index_or prices touch.row (pos 0) *ℤ pos n) are.0.use_is in
     omega (arith, ints)
 
-module _ {R : Type 0} (cmp : R → R → Ordering) (s : Setting R) (proper : IsProper s.net) (law : TestsTellAllowed s.net s.rows s.bids) (by_used : PricesByUsedRows s.net s.rows cmp s.used) (numbered : List R) (prices : List ℤ) (listed : PriceList R) (agrees : Agrees cmp numbered prices listed) where
-  module _ (number : ℕ) (bid : Bid) (table : BidTable) (grouped : List ℤ) (are : AreBidArcs s number bid table.graph.now numbered table.arcs.items table.groups.starts.items table.groups.touches.items table.forced)
-      (priced : AreGroupPrices prices table.groups.starts.items table.groups.touches.items grouped) where
+module _ {R : Type 0} (cmp : R → R → Ordering) (s : Setting R) (proper : IsProper s.net) (law : TestsTellAllowed s.net s.rows s.bids) (by_used : PricesByUsedRows s.net s.rows cmp s.used) (numbered : List R) (prices : List ℤ) (listed : PriceList R) (agrees : Agrees cmp numbered prices listed)
+    (groups : Groups) (grouped : List ℤ) (priced : AreGroupPrices prices groups.starts.items groups.touches.items grouped) where
+  module _ (number : ℕ) (bid : Bid) (table : BidTable) (are : AreBidArcs s number bid table.graph.now numbered table.arcs.items groups.starts.items groups.touches.items table.forced) where
     arc_there : (k : ℕ) → k < length table.graph.now.dag.arcs → slice_get table.arcs.items k ≡ Some (get_or table.arcs.items k no_arc)
     arc_there k l = slice_get-get_or table.arcs.items k no_arc (let n = are.count in omega arith)
 
     group_is : (k : ℕ) → k < length table.graph.now.dag.arcs
-        → slice_index_or grouped (get_or table.arcs.items k no_arc).group (pos 0) ≡ group_price prices (group_at table.groups.starts.items table.groups.touches.items (get_or table.arcs.items k no_arc).group)
+        → slice_index_or grouped (get_or table.arcs.items k no_arc).group (pos 0) ≡ group_price prices (group_at groups.starts.items groups.touches.items (get_or table.arcs.items k no_arc).group)
     group_is k l =
-        let w = all_at (λ (a : ArcTerm). a.group + 1 < length table.groups.starts.items) table.arcs.items k (get_or table.arcs.items k no_arc) are.terms.within (arc_there k l) in
-        priced.each (get_or table.arcs.items k no_arc).group (let n = priced.count in omega arith)
+        priced (get_or table.arcs.items k no_arc).group (all_at (λ (a : ArcTerm). a.group + 1 < length groups.starts.items) table.arcs.items k (get_or table.arcs.items k no_arc) are.terms.within (arc_there k l))
 
     pub weighed : AreWeighed s.net s.rows s.bids s.node listed number bid table.graph.now (allows_by table.arcs.items) (weight_by table.arcs.items grouped)
     weighed = record {
@@ -65,31 +65,31 @@ module _ {R : Type 0} (cmp : R → R → Ordering) (s : Setting R) (proper : IsP
           let is = are.terms.legs_are k leg (get_or table.arcs.items k no_arc) (arc_there k l) at in
           let g = group_is k l in
           let usable = arc_usable s.net proper bid table.graph.now are.graph k leg l at in
-          let used = group_used cmp numbered prices listed (s.rows.uses bid.path.kind leg) agrees (group_at table.groups.starts.items table.groups.touches.items (get_or table.arcs.items k no_arc).group) (s.used bid.path.kind leg) is.group_is in
+          let used = group_used cmp numbered prices listed (s.rows.uses bid.path.kind leg) agrees (group_at groups.starts.items groups.touches.items (get_or table.arcs.items k no_arc).group) (s.used bid.path.kind leg) is.group_is in
           let price = by_used listed bid.path.kind leg usable in
           let v = is.value_is in
           omega (arith, ints);
     }
 
   module _ (number : ℕ) (bid : Bid) (table : BidTable) (standing : Standing)
-      (are : AreBidArcs s number bid table.graph.now numbered table.arcs.items table.groups.starts.items table.groups.touches.items table.forced) (stands : Stands table prices standing) where
-    by_standing : AreWeighed s.net s.rows s.bids s.node listed number bid table.graph.now (allows_by table.arcs.items) (weight_by table.arcs.items standing.grouped.items)
-    by_standing = weighed number bid table standing.grouped.items are stands.grouped
+      (are : AreBidArcs s number bid table.graph.now numbered table.arcs.items groups.starts.items groups.touches.items table.forced) (stands : Stands table grouped standing) where
+    by_table : AreWeighed s.net s.rows s.bids s.node listed number bid table.graph.now (allows_by table.arcs.items) (weight_by table.arcs.items grouped)
+    by_table = weighed number bid table are
 
     pub reply_is : IsReply s.net s.rows s.bids s.node listed number bid (path_reply table.graph.now standing.path.items)
     reply_is =
-        found_reply s.net proper s.rows s.bids law s.node listed number bid table.graph.now are.graph (allows_by table.arcs.items) (weight_by table.arcs.items standing.grouped.items) by_standing
-        table.forced standing.stuck standing.path.items standing.term are.forced_is stands.found
+        found_reply s.net proper s.rows s.bids law s.node listed number bid table.graph.now are.graph (allows_by table.arcs.items) (weight_by table.arcs.items grouped) by_table
+        table.forced standing.stuck standing.path.items standing.term are.forced_is stands
 
     pub term_is : IsTerm s.net s.rows s.bids s.node listed number bid standing.term
     term_is =
-        found_term s.net proper s.rows s.bids law s.node listed number bid table.graph.now are.graph (allows_by table.arcs.items) (weight_by table.arcs.items standing.grouped.items) by_standing
-        table.forced standing.stuck standing.path.items standing.term are.forced_is stands.found
+        found_term s.net proper s.rows s.bids law s.node listed number bid table.graph.now are.graph (allows_by table.arcs.items) (weight_by table.arcs.items grouped) by_table
+        table.forced standing.stuck standing.path.items standing.term are.forced_is stands
 
     pub stuck_is : (standing.stuck ≡ true) ↔ IsStuck s.net s.rows s.bids s.node number bid
     stuck_is =
-        found_stuck s.net proper s.rows s.bids law s.node listed number bid table.graph.now are.graph (allows_by table.arcs.items) (weight_by table.arcs.items standing.grouped.items) by_standing
-        (weight_by table.arcs.items standing.grouped.items) table.forced standing.stuck standing.path.items standing.term are.forced_is stands.found
+        found_stuck s.net proper s.rows s.bids law s.node listed number bid table.graph.now are.graph (allows_by table.arcs.items) (weight_by table.arcs.items grouped) by_table
+        (weight_by table.arcs.items grouped) table.forced standing.stuck standing.path.items standing.term are.forced_is stands
 
 -- a place of the lists of replies and of terms
 replies_at : (tables : List BidTable) (standings : List Standing) (k : ℕ) (reply : Option (List Leg)) → slice_get (replies_of tables standings) k ≡ Some reply
@@ -147,7 +147,8 @@ none_stuck (first ∷ standings) e k standing at is = by first.stuck refl k at (
     by false q (suc k) at before = before (grind (arith, q, e)) k standing at is
 
 module _ {R : Type 0} (cmp : R → R → Ordering) (s : Setting R) (proper : IsProper s.net) (law : TestsTellAllowed s.net s.rows s.bids) (by_used : PricesByUsedRows s.net s.rows cmp s.used) (numbered : List R) (prices : List ℤ) (listed : PriceList R) (agrees : Agrees cmp numbered prices listed)
-    (tables : List BidTable) (standings : List Standing) (are : AreTables s (length s.bids) numbered tables) (stand : AllStand tables prices standings) where
+    (groups : Groups) (grouped : List ℤ) (priced : AreGroupPrices prices groups.starts.items groups.touches.items grouped)
+    (tables : List BidTable) (standings : List Standing) (are : AreTables s (length s.bids) numbered groups tables) (stand : AllStand tables grouped standings) where
   -- a bid with its table and what stands
   pub record Placed (number : ℕ) : Type 0 where
     pub bid : Bid
@@ -169,7 +170,7 @@ module _ {R : Type 0} (cmp : R → R → Ordering) (s : Setting R) (proper : IsP
   pub stuck_at : (number : ℕ) (bid : Bid) (table : BidTable) (standing : Standing) → slice_get s.bids number ≡ Some bid → slice_get tables number ≡ Some table → slice_get standings number ≡ Some standing
       → (standing.stuck ≡ true) ↔ IsStuck s.net s.rows s.bids s.node number bid
   stuck_at number bid table standing b t st =
-      stuck_is cmp s proper law by_used numbered prices listed agrees number bid table standing (are.each number bid table b t) (stand.each number table standing t st)
+      stuck_is cmp s proper law by_used numbered prices listed agrees groups grouped priced number bid table standing (are.each number bid table b t).arcs_are (stand.each number table standing t st)
 
   total : (capacity : ℤ) → capacity ≡ capacity_price s.rows listed
       → ((IsDead s.net s.rows s.bids s.node → ⊥) × (value_of capacity standings ≡ capacity_price s.rows listed +ℤ sum_of (λ t. t) (terms_of standings))) ⊎ (IsDead s.net s.rows s.bids s.node × (value_of capacity standings ≡ pos 0))
@@ -206,7 +207,7 @@ module _ {R : Type 0} (cmp : R → R → Ordering) (s : Setting R) (proper : IsP
           let p = place number (slice_get_within s.bids number bid at) in
           let same : p.bid ≡ bid = same_Some p.bid bid (sym p.bid_at ∙ at) in
           let same_standing : p.standing ≡ w.0 = same_Some p.standing w.0 (sym p.standing_at ∙ w.1) in
-          let here = term_is cmp s proper law by_used numbered prices listed agrees number p.bid p.table p.standing (are.each number p.bid p.table p.bid_at p.table_at) (stand.each number p.table p.standing p.table_at p.standing_at) in
+          let here = term_is cmp s proper law by_used numbered prices listed agrees groups grouped priced number p.bid p.table p.standing (are.each number p.bid p.table p.bid_at p.table_at).arcs_are (stand.each number p.table p.standing p.table_at p.standing_at) in
           subst (λ b. IsTerm s.net s.rows s.bids s.node listed number b term) same (subst (IsTerm s.net s.rows s.bids s.node listed number p.bid) (ap (λ (x : Standing). x.term) same_standing ∙ w.2) here);
       total = total capacity is;
     };
@@ -214,7 +215,7 @@ module _ {R : Type 0} (cmp : R → R → Ordering) (s : Setting R) (proper : IsP
       count = replies_count tables standings stand.count_is ∙ are.count_is;
       each = λ number bid reply at at_reply.
           let w = replies_at tables standings number reply at_reply in
-          let here = reply_is cmp s proper law by_used numbered prices listed agrees number bid w.0 w.1 (are.each number bid w.0 at w.2) (stand.each number w.0 w.1 w.2 w.3) in
+          let here = reply_is cmp s proper law by_used numbered prices listed agrees groups grouped priced number bid w.0 w.1 (are.each number bid w.0 at w.2).arcs_are (stand.each number w.0 w.1 w.2 w.3) in
           subst (IsReply s.net s.rows s.bids s.node listed number bid) w.4 here;
     };
   }

@@ -52,18 +52,18 @@ weight_in arcs grouped values prices k l =
     record { low = omega (arith, ints); high = omega (arith, ints) }
 
 -- a term is less than 2^92 in size
-pub term_size : (table : BidTable) (prices : List ℤ) (standing : Standing) → IsSound table → Stands table prices standing → IsTermSize standing.term
-term_size table prices standing sound stands = by stands.found
+pub term_size : (table : BidTable) (grouped : List ℤ) (standing : Standing) → IsSound table → All IsGroupPrice grouped → Stands table grouped standing → IsTermSize standing.term
+term_size table grouped standing sound range stands = by stands
   where
-    by : IsFound table.graph.now.dag (allows_by table.arcs.items) (weight_by table.arcs.items standing.grouped.items) table.forced standing.path.items standing.term standing.stuck → IsTermSize standing.term
+    by : IsFound table.graph.now.dag (allows_by table.arcs.items) (weight_by table.arcs.items grouped) table.forced standing.path.items standing.term standing.stuck → IsTermSize standing.term
     by (inl none) = let z = none.term_is in (omega (arith, ints), omega (arith, ints))
     by (inr (inl nothing)) = let z = nothing.term_is in (omega (arith, ints), omega (arith, ints))
     by (inr (inr found)) =
         let n = sound.count in
-        let small = λ (k : ℕ) (l : k < length table.graph.now.dag.arcs). weight_in table.arcs.items standing.grouped.items sound.values stands.range k (omega arith) in
+        let small = λ (k : ℕ) (l : k < length table.graph.now.dag.arcs). weight_in table.arcs.items grouped sound.values range k (omega arith) in
         let short = path_short table.graph.now.dag sound.forward (allows_by table.arcs.items) 0 standing.path.items sound.forward.start found.best.path.leads in
         let few = sound.forward.few_nodes in
-        let size = path_size table.graph.now.dag (allows_by table.arcs.items) (weight_by table.arcs.items standing.grouped.items) small 0 standing.path.items found.best.path.leads in
+        let size = path_size table.graph.now.dag (allows_by table.arcs.items) (weight_by table.arcs.items grouped) small 0 standing.path.items found.best.path.leads in
         let sum = found.best.sum in
         let a = size.0 in
         let b = size.1 in

@@ -117,11 +117,11 @@ module _ {R : Type 0} (cmp : R → R → Ordering) (total : IsTotalOrder cmp) (a
   made_step length m is low ordered holds = record {
     proper = record {
       ascending = stepped_ascends cmp (next_held rows length) m.entries ordered;
-      each = stepped_prices rows (next_held rows length) (λ e. next_high cmp total apart rows.is_row (e.1.price +ℤ length *ℤ (pos e.1.used -ℤ pos (rows.capacity e.0)))) m.entries
+      each = stepped_prices rows (next_held rows length) (λ e. next_high (e.1.price +ℤ length *ℤ (pos e.1.used -ℤ pos (rows.capacity e.0)))) m.entries
           (λ j d l. (entry_held cmp total rows.is_row (price_of (eq_by_cmp cmp) old) (λ row. 0 + load_of rows row (entries_of bids replies)) m ordered holds j d l).0);
     };
     each = λ row is_row.
-        stepped_price cmp total apart rows.is_row (next_held rows length) (λ e. next_low cmp total apart rows.is_row (e.1.price +ℤ length *ℤ (pos e.1.used -ℤ pos (rows.capacity e.0)))) m.entries ordered row
+        stepped_price cmp total apart rows.is_row (next_held rows length) (λ e. next_low (e.1.price +ℤ length *ℤ (pos e.1.used -ℤ pos (rows.capacity e.0)))) m.entries ordered row
         ∙ by row (get cmp m row) (holds row)
         ∙ ap (λ (z : ℤ). next_price z (price_of (eq_by_cmp cmp) old row) (reply_load rows bids replies row) (rows.capacity row)) is;
   }
@@ -131,7 +131,7 @@ module _ {R : Type 0} (cmp : R → R → Ordering) (total : IsTotalOrder cmp) (a
           → next_of cmp total apart rows.is_row (next_held rows length) row o ≡ next_price length (price_of (eq_by_cmp cmp) old row) (reply_load rows bids replies row) (rows.capacity row)
       by row None (p, u) =
           let zero_load : reply_load rows bids replies row ≡ 0 = omega arith in
-          sym (ap (λ (z : ℤ). next_price length z (reply_load rows bids replies row) (rows.capacity row)) p ∙ ap (λ (n : ℕ). next_price length (pos 0) n (rows.capacity row)) zero_load ∙ next_none cmp total apart rows.is_row length (rows.capacity row) low)
+          sym (ap (λ (z : ℤ). next_price length z (reply_load rows bids replies row) (rows.capacity row)) p ∙ ap (λ (n : ℕ). next_price length (pos 0) n (rows.capacity row)) zero_load ∙ next_none length (rows.capacity row) low)
       by row (Some held) (r, p, u) =
           let load : held.used ≡ reply_load rows bids replies row = omega arith in
           ap (λ (z : ℤ). next_price length z held.used (rows.capacity row)) p ∙ ap (λ (n : ℕ). next_price length (price_of (eq_by_cmp cmp) old row) n (rows.capacity row)) load

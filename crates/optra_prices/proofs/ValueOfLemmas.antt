@@ -11,15 +11,14 @@ use Rattle.std.proofs.lemmas.Cmp.{tied_itself}
 use Rattle.std.proofs.lemmas.Option.{none-some, same_Some, slice_get_within, get_or_from_slice_get}
 use Rattle.std.proofs.lemmas.List.Sums.{fold_more}
 use Rattle.std.proofs.lemmas.List.{length-take, get_or-take}
-use Rattle.std.proofs.lemmas.List.Elements.{All-set}
 use Rattle.optra_walk.specs.declared.Leg.{Leg}
 use Rattle.optra_graph.specs.Timed.{IsRoute}
 use Rattle.optra_node.specs.Duals.{PriceList, price_of, sum_of}
 use Rattle.optra_node.specs.Certificates.{AreAscending}
 use Rattle.optra_node.proofs.RowLemmas.{equal_is}
 use Rattle.optra_node.proofs.SumLemmas.{sum_of-cons, sum_of-append}
-use Rattle.optra_prices.specs.Arcs.{path_reply, IsFound}
-use Rattle.optra_prices.specs.Tables.{IsRowPrice, allows_by, weight_by}
+use Rattle.optra_prices.specs.Arcs.{path_reply}
+use Rattle.optra_prices.specs.Tables.{allows_by}
 use Rattle.optra_prices.specs.Standings.{Stands, Agrees, SetsPrice, IsTermSize, replies_of}
 use Rattle.optra_prices.specs.declared.numbering.BidTable.{BidTable}
 use Rattle.optra_prices.specs.declared.numbering.Standing.{Standing}
@@ -58,12 +57,10 @@ replies_push (x ∷ tables) (y ∷ standings) (suc n) table standing t s = ap (�
 
 -- the path of a reply is one from the start to an end
 pub path_route : (table : BidTable) (prices : List ℤ) (standing : Standing) → Stands table prices standing → (standing.path.items ≡ [] → ⊥) → IsRoute table.graph.now standing.path.items
-path_route table prices standing stands some = by stands.found
-  where
-    by : IsFound table.graph.now.dag (allows_by table.arcs.items) (weight_by table.arcs.items standing.grouped.items) table.forced standing.path.items standing.term standing.stuck → IsRoute table.graph.now standing.path.items
-    by (inl none) = absurd (some none.path_is)
-    by (inr (inl nothing)) = absurd (some nothing.path_is)
-    by (inr (inr found)) = record { some = found.best.path.some; leads = (leads_on table.graph.now.dag (allows_by table.arcs.items) 0 standing.path.items found.best.path.leads).0 }
+path_route table prices standing (inl none) some = absurd (some none.path_is)
+path_route table prices standing (inr (inl nothing)) some = absurd (some nothing.path_is)
+path_route table prices standing (inr (inr found)) some =
+    record { some = found.best.path.some; leads = (leads_on table.graph.now.dag (allows_by table.arcs.items) 0 standing.path.items found.best.path.leads).0 }
 
 -- a place of a list after one was set
 pub set_at : (xs : List ℤ) (k j : ℕ) (x : ℤ) → k < length xs → j ≡ k → slice_index_or (set xs k x) j (pos 0) ≡ x
@@ -157,10 +154,6 @@ module _ {R : Type 0} (cmp : R → R → Ordering) (total : IsTotalOrder cmp) wh
           omega (arith, ints)
 
 -- what a set leaves
-pub sets_range : {R : Type 0} (cmp : R → R → Ordering) (numbered : List R) (e : R × ℤ) (prices after : List ℤ) → SetsPrice cmp numbered e prices after → IsRowPrice e.1 → All IsRowPrice prices → All IsRowPrice after
-sets_range cmp numbered e prices after (inl (m, at, is)) p all = subst (All IsRowPrice) (sym is) (All-set IsRowPrice prices m e.1 p all)
-sets_range cmp numbered e prices after (inr (none, is)) p all = subst (All IsRowPrice) (sym is) all
-
 pub set_count : (xs : List ℤ) (k : ℕ) (x : ℤ) → length (set xs k x) ≡ length xs
 set_count [] k x = refl
 set_count (z ∷ xs) zero x = refl

@@ -29,16 +29,16 @@ pub record AreToldAnew {R : Type 0} (net : Net) (rows : Rows R) (bids : List Bid
   pub count_is : length new ≡ length old
   pub each : (k : ℕ) (before after : ArcTerm) → slice_get old k ≡ Some before → slice_get new k ≡ Some after → IsToldAnew net rows bids node number t k before after
 
--- the table has the graph and the groups that it had, its arcs are told anew, and so is whether the bid has a yes leg
+-- the table has the graph that it had, its arcs are told anew, and so is whether the bid has a yes leg
 pub record IsTableAnew {R : Type 0} (net : Net) (rows : Rows R) (bids : List Bid) (node : List Decision) (number : ℕ) (old new : BidTable) : Type 0 where
   pub graph : new.graph.now ≡ old.graph.now
-  pub groups : new.groups ≡ old.groups
+  pub most : new.most ≡ old.most
   pub arcs : AreToldAnew net rows bids node number old.graph.now old.arcs.items new.arcs.items
   pub forced_is : new.forced ≡ has_yes node number
 
 -- the table is that of a bid
-abbrev pub IsTableFor : {R : Type 0} → Net → Rows R → (TypeId → Leg → List R) → List Bid → List R → ℕ → BidTable → Type 0
-IsTableFor net rows used bids numbered number table = (bid : Bid) × (slice_get bids number ≡ Some bid) × IsArcTable net rows used numbered bid table
+abbrev pub IsTableFor : {R : Type 0} → Net → Rows R → (TypeId → Leg → List R) → List Bid → List R → Groups → ℕ → BidTable → Type 0
+IsTableFor net rows used bids numbered groups number table = (bid : Bid) × (slice_get bids number ≡ Some bid) × IsArcTable net rows used numbered groups bid table
 
 -- arcs are in groups of touches: that of a start is empty, and there is room for that of a leg exactly where the leg is not blocked
 pub record RoomTells {R : Type 0} (rows : Rows R) (bids : List Bid) (node : List Decision) (number : ℕ) (room : Room) (t : Timed) (groups : Groups) (arcs : List ArcTerm) : Type 0 where

@@ -7,20 +7,17 @@ use Rattle.optra_bid.specs.declared.bids.Bid.{Bid}
 use Rattle.optra_walk.specs.declared.Leg.{Leg}
 use Rattle.optra_walk.specs.Families.{Rows}
 use Rattle.optra_node.specs.declared.Decision.{Decision}
-use Rattle.optra_prices.specs.Tables.{IsNumbering}
+use Rattle.optra_prices.specs.Courses.{IsCourse}
+use Rattle.optra_prices.specs.Holders.{groups_of}
+use Rattle.optra_prices.specs.Standings.{Stands}
 use Rattle.optra_prices.specs.Terms.{setting}
-use Rattle.optra_prices.specs.Standings.{AreTables, AllStand, Stands}
-use Rattle.optra_prices.specs.declared.keeping.ArcTables.{ArcTables}
+use Rattle.optra_prices.specs.declared.arc_tables.ArcTables.{ArcTables}
 use Rattle.optra_prices.specs.declared.numbering.BidTable.{BidTable}
 use Rattle.optra_prices.specs.declared.numbering.Standing.{Standing}
 
--- rows by number, a table of the arcs of each bid at the node, and what is known of each bid at two lists of prices
-pub record AreKeptAt {R : Type 0} (cmp : R → R → Ordering) (net : Net) (rows : Rows R) (used : TypeId → Leg → List R) (bids : List Bid) (node : List Decision) (kept : ArcTables R) : Type 0 where
-  pub numbering : IsNumbering cmp kept.numbering.numbers kept.numbering.rows.items
-  pub rows_are : All (λ row. rows.is_row row ≡ true) kept.numbering.rows.items
-  pub tables_are : AreTables (setting net rows used bids node) (length bids) kept.numbering.rows.items kept.tables.items
-  pub first_stand : (old : List ℤ) × AllStand kept.tables.items old kept.first.items
-  pub last_stand : (old : List ℤ) × AllStand kept.tables.items old kept.last.items
+-- rows by number, a table of the arcs of each bid at the node, and what is known of each bid at zero prices and at others
+abbrev pub AreKeptAt : {R : Type 0} → (R → R → Ordering) → Net → Rows R → (TypeId → Leg → List R) → List Bid → List Decision → ArcTables R → Type 0
+AreKeptAt cmp net rows used bids node kept = IsCourse cmp (setting net rows used bids node) kept
 
 -- the same at some node
 abbrev pub AreKept : {R : Type 0} → (R → R → Ordering) → Net → Rows R → (TypeId → Leg → List R) → List Bid → ArcTables R → Type 0
@@ -29,7 +26,7 @@ AreKept cmp net rows used bids kept = (node : List Decision) × AreKeptAt cmp ne
 -- a table was brought to a node: it has the graph and the groups that it had; where nothing is said to have changed, nothing has
 pub record IsBrought (changed : Bool) (old new : BidTable) : Type 0 where
   pub graph : new.graph.now ≡ old.graph.now
-  pub groups : new.groups ≡ old.groups
+  pub groups : groups_of new.arcs.items ≡ groups_of old.arcs.items
   pub arcs : changed ≡ false → new.arcs.items ≡ old.arcs.items
   pub forced : changed ≡ false → new.forced ≡ old.forced
 
@@ -39,9 +36,9 @@ pub record AreBrought (changed : List Bool) (old new : List BidTable) : Type 0 w
   pub changed_count : length changed ≡ length old
   pub each : (number : ℕ) (c : Bool) (before after : BidTable) → slice_get changed number ≡ Some c → slice_get old number ≡ Some before → slice_get new number ≡ Some after → IsBrought c before after
 
--- what stood by the table before it was brought to a node stands by it now, at the same prices
-abbrev pub KeepsStanding : Bool → BidTable → Standing → Standing → Type 0
-KeepsStanding changed table old new = (prices : List ℤ) (before : BidTable) → IsBrought changed before table → Stands before prices old → Stands table prices new
+-- what stood by the table before it was brought to a node stands by it now, at the same prices of groups
+abbrev pub KeepsStanding : Bool → BidTable → List ℤ → Standing → Standing → Type 0
+KeepsStanding changed table grouped old new = (before : BidTable) → IsBrought changed before table → Stands before grouped old → Stands table grouped new
 
 -- what is known of the bid at this place says that it is stuck, and of none before it
 pub record IsStuckFirst (standings : List Standing) (number : ℕ) : Type 0 where

@@ -9,7 +9,12 @@ pub mod Repairs
 pub mod Arcs
 pub mod Tables
 pub mod Terms
-pub mod Sharings
+pub mod Makings
+pub mod Chains
+pub mod Users
+pub mod Columns
+pub mod Levels
+pub mod Holders
 pub mod Standings
 pub mod Holdings
 pub mod Courses
@@ -19,5 +24,4 @@ pub mod Allowing
 pub mod Following
 pub mod Uses
 pub mod Listings
-pub mod Moves
 pub mod Parts

@@ -1,5 +1,5 @@
 -- Prices and capacities by the numbers of rows.
-use Rattle.std.specs.Prelude.{ℕ, zero, suc, List, slice_index, slice_index_or, ℤ, pos, ◌+ℤ◌, ◌*ℤ◌}
+use Rattle.std.specs.Prelude.{◌≡◌, ℕ, zero, suc, List, ◌++◌, replicate, slice_index, slice_index_or, ℤ, pos, ◌+ℤ◌, ◌*ℤ◌}
 use Rattle.optra_node.specs.Duals.{sum_of}
 
 -- the price of a row that stands with its number
@@ -18,3 +18,7 @@ sum_below f (suc n) = sum_below f n +ℤ f n
 -- the price of all capacity of the first rows by number
 abbrev pub capacity_below : List ℤ → List ℕ → ℕ → ℤ
 capacity_below prices capacities n = sum_below (λ k. slice_index_or prices k (pos 0) *ℤ pos (slice_index capacities k)) n
+
+-- more prices, all of which are 0
+abbrev pub AddsZeros : List ℤ → List ℤ → Type 0
+AddsZeros old new = (n : ℕ) × (new ≡ old ++ replicate n (pos 0))

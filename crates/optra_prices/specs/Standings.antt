@@ -1,6 +1,6 @@
 -- What is known of each bid at prices.
 use Rattle.std.specs.Prelude.{◌≡◌, ◌⊎◌, ℕ, cond, slice_set, List, [], ◌∷◌, map, length, All, Option, Some, slice_get, slice_index_or}
-use Rattle.std.specs.Prelude.{ℤ, pos, negsuc, ◌+ℤ◌}
+use Rattle.std.specs.Prelude.{ℤ, pos, negsuc, neg_ℤ, ◌+ℤ◌}
 use Rattle.std.specs.List.{list_any}
 use Rattle.std.specs.declared.cmp.Ordering.{Ordering}
 use Rattle.std.specs.declared.cmp.Ordering.TheVariants.{Equal}
@@ -15,20 +15,20 @@ use Rattle.optra_dag.specs.Paths.{IsForward}
 use Rattle.optra_node.specs.Duals.{PriceList, price_of, sum_of}
 use Rattle.optra_prices.specs.Replies.{Valuation}
 use Rattle.optra_prices.specs.Arcs.{IsFound, IsArcValue, path_reply}
-use Rattle.optra_prices.specs.Tables.{allows_by, weight_by, AreGroups, IsGroupPrice, AreGroupPrices}
+use Rattle.optra_prices.specs.Tables.{allows_by, weight_by}
 use Rattle.optra_prices.specs.Terms.{Setting, AreArcs, AreBidArcs}
+use Rattle.optra_prices.specs.declared.numbering.ArcTerm.{ArcTerm}
 use Rattle.optra_prices.specs.declared.numbering.BidTable.{BidTable}
+use Rattle.optra_prices.specs.declared.numbering.Groups.{Groups}
 use Rattle.optra_prices.specs.declared.numbering.Standing.{Standing}
 
--- the prices of the groups are those of the rows, and the search at these prices found what stands
-pub record Stands (table : BidTable) (prices : List ℤ) (standing : Standing) : Type 0 where
-  pub grouped : AreGroupPrices prices table.groups.starts.items table.groups.touches.items standing.grouped.items
-  pub range : All IsGroupPrice standing.grouped.items
-  pub found : IsFound table.graph.now.dag (allows_by table.arcs.items) (weight_by table.arcs.items standing.grouped.items) table.forced standing.path.items standing.term standing.stuck
+-- the search at these prices of groups found what stands
+abbrev pub Stands : BidTable → List ℤ → Standing → Type 0
+Stands table grouped standing =
+    IsFound table.graph.now.dag (allows_by table.arcs.items) (weight_by table.arcs.items grouped) table.forced standing.path.items standing.term standing.stuck
 
 -- all that is known of a bid is the same
 pub record IsCopy (standing copy : Standing) : Type 0 where
-  pub grouped : copy.grouped.items ≡ standing.grouped.items
   pub path : copy.path.items ≡ standing.path.items
   pub term : copy.term ≡ standing.term
   pub stuck : copy.stuck ≡ standing.stuck
@@ -38,36 +38,51 @@ pub record AreCopies (standings copies : List Standing) : Type 0 where
   pub count : length copies ≡ length standings
   pub each : (number : ℕ) (standing copy : Standing) → slice_get standings number ≡ Some standing → slice_get copies number ≡ Some copy → IsCopy standing copy
 
--- the arcs fit the graph and the groups
+-- what the values of arcs do not exceed in size
+abbrev pub IsMost : ℤ → Type 0
+IsMost z = IsBetween (pos 0) (pos 1000000000000000) z
+
+-- no value exceeds the most in size
+pub record Covers (most : ℤ) (arcs : List ArcTerm) : Type 0 where
+  pub range : IsMost most
+  pub values : All (λ arc. IsBetween (neg_ℤ most) most arc.value) arcs
+
+-- the arcs fit the graph, and their values are covered
 pub record IsSound (table : BidTable) : Type 0 where
   pub count : length table.graph.now.dag.arcs ≡ length table.arcs.items
   pub forward : IsForward table.graph.now.dag
   pub values : All (λ arc. IsArcValue arc.value) table.arcs.items
-  pub groups : AreGroups table.groups.starts.items table.groups.touches.items
+  pub covers : Covers table.most table.arcs.items
 
 -- the prices of the rows with numbers are those of the list
 abbrev pub Agrees : {R : Type 0} → (R → R → Ordering) → List R → List ℤ → PriceList R → Type 0
 Agrees {R} cmp numbered prices listed = (n : ℕ) (row : R) → slice_get numbered n ≡ Some row → price_of (eq_by_cmp cmp) listed row ≡ slice_index_or prices n (pos 0)
 
 -- the table has the arcs of the bid, as they are at all nodes
-abbrev pub IsArcTable : {R : Type 0} → Net → Rows R → (TypeId → Leg → List R) → List R → Bid → BidTable → Type 0
-IsArcTable net rows used numbered bid table = AreArcs net rows used bid table.graph.now numbered table.arcs.items table.groups.starts.items table.groups.touches.items
+pub record IsArcTable {R : Type 0} (net : Net) (rows : Rows R) (used : TypeId → Leg → List R) (numbered : List R) (groups : Groups) (bid : Bid) (table : BidTable) : Type 0 where
+  pub arcs_are : AreArcs net rows used bid table.graph.now numbered table.arcs.items groups.starts.items groups.touches.items
+  pub covers : Covers table.most table.arcs.items
 
 -- a table for each bid, as it is at all nodes
-pub record HoldArcs {R : Type 0} (net : Net) (rows : Rows R) (used : TypeId → Leg → List R) (bids : List Bid) (count : ℕ) (numbered : List R) (tables : List BidTable) : Type 0 where
+pub record HoldArcs {R : Type 0} (net : Net) (rows : Rows R) (used : TypeId → Leg → List R) (bids : List Bid) (count : ℕ) (numbered : List R) (groups : Groups) (tables : List BidTable) : Type 0 where
   pub count_is : length tables ≡ count
-  pub each : (number : ℕ) (bid : Bid) (table : BidTable) → slice_get bids number ≡ Some bid → slice_get tables number ≡ Some table → IsArcTable net rows used numbered bid table
+  pub each : (number : ℕ) (bid : Bid) (table : BidTable) → slice_get bids number ≡ Some bid → slice_get tables number ≡ Some table → IsArcTable net rows used numbered groups bid table
+
+-- the table has the arcs of the bid at the node
+pub record IsBidTable {R : Type 0} (s : Setting R) (number : ℕ) (numbered : List R) (groups : Groups) (bid : Bid) (table : BidTable) : Type 0 where
+  pub arcs_are : AreBidArcs s number bid table.graph.now numbered table.arcs.items groups.starts.items groups.touches.items table.forced
+  pub covers : Covers table.most table.arcs.items
 
 -- a table for each bid at a node
-pub record AreTables {R : Type 0} (s : Setting R) (count : ℕ) (numbered : List R) (tables : List BidTable) : Type 0 where
+pub record AreTables {R : Type 0} (s : Setting R) (count : ℕ) (numbered : List R) (groups : Groups) (tables : List BidTable) : Type 0 where
   pub count_is : length tables ≡ count
   pub each : (number : ℕ) (bid : Bid) (table : BidTable) → slice_get s.bids number ≡ Some bid → slice_get tables number ≡ Some table
-      → AreBidArcs s number bid table.graph.now numbered table.arcs.items table.groups.starts.items table.groups.touches.items table.forced
+      → IsBidTable s number numbered groups bid table
 
--- what is known of each bid
-pub record AllStand (tables : List BidTable) (prices : List ℤ) (standings : List Standing) : Type 0 where
+-- what is known of each bid at prices of groups
+pub record AllStand (tables : List BidTable) (grouped : List ℤ) (standings : List Standing) : Type 0 where
   pub count_is : length standings ≡ length tables
-  pub each : (number : ℕ) (table : BidTable) (standing : Standing) → slice_get tables number ≡ Some table → slice_get standings number ≡ Some standing → Stands table prices standing
+  pub each : (number : ℕ) (table : BidTable) (standing : Standing) → slice_get tables number ≡ Some table → slice_get standings number ≡ Some standing → Stands table grouped standing
 
 -- the replies that the paths mean
 abbrev pub replies_of : List BidTable → List Standing → List (Option (List Leg))

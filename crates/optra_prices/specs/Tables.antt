@@ -1,11 +1,14 @@
 -- What the planner keeps of rows and arcs while prices change.
-use Rattle.std.specs.Prelude.{◌≡◌, ℕ, ◌+◌, ◌-◌, ◌<◌, ◌≤◌, Bool, false, List, [], ◌++◌, length, sum_by, Some, slice_get, slice_index, slice_index_or}
-use Rattle.std.specs.Prelude.{ℤ, pos, ◌-ℤ◌, ◌*ℤ◌}
+use Rattle.std.specs.Prelude.{◌≡◌, ℕ, ◌+◌, ◌-◌, ◌<◌, ◌≤◌, Bool, false, List, [], ◌++◌, length, All, sum_by, Some, slice_get, slice_index, slice_index_or}
+use Rattle.std.specs.Prelude.{ℤ, pos, ◌-ℤ◌, ◌*ℤ◌, ◌≤ℤ◌}
+use Rattle.std.specs.Int.{w64, int_wrapping_sub}
 use Rattle.std.specs.List.{AllZip, slice_range}
 use Rattle.std.specs.declared.cmp.Ordering.{Ordering}
 use Rattle.std.specs.BTreeMap.{BTreeMap, get}
 use Rattle.optra_bid.specs.Specs.{IsBetween}
+use Rattle.optra_dag.specs.NarrowSums.{IsWithin}
 use Rattle.optra_node.specs.Duals.{sum_of}
+use Rattle.optra_prices.specs.Arcs.{IsArcValue}
 use Rattle.optra_prices.specs.declared.numbering.Touch.{Touch}
 use Rattle.optra_prices.specs.declared.numbering.ArcTerm.{ArcTerm}
 
@@ -63,14 +66,19 @@ IsRowPrice price = IsBetween (pos 0) (pos 2000000000000) price
 abbrev pub IsGroupPrice : ℤ → Type 0
 IsGroupPrice price = IsBetween (pos 0) (pos 16384000000000000) price
 
+-- prices of groups, none above the most
+pub record AreUpTo (most : ℤ) (grouped : List ℤ) : Type 0 where
+  pub range : All IsGroupPrice grouped
+  pub high : IsGroupPrice most
+  pub each : All (λ price. price ≤ℤ most) grouped
+
 -- the price of a group, by the prices of rows by number
 abbrev pub group_price : List ℤ → List Touch → ℤ
 group_price prices touches = sum_of (λ touch. slice_index_or prices touch.row (pos 0) *ℤ pos touch.uses) touches
 
 -- the price of each group
-pub record AreGroupPrices (prices : List ℤ) (starts : List ℕ) (touches : List Touch) (grouped : List ℤ) : Type 0 where
-  pub count : length grouped + 1 ≡ length starts
-  pub each : (g : ℕ) → g < length grouped → slice_index_or grouped g (pos 0) ≡ group_price prices (group_at starts touches g)
+abbrev pub AreGroupPrices : List ℤ → List ℕ → List Touch → List ℤ → Type 0
+AreGroupPrices prices starts touches grouped = (g : ℕ) → g + 1 < length starts → slice_index_or grouped g (pos 0) ≡ group_price prices (group_at starts touches g)
 
 -- past the last arc
 abbrev pub no_arc : ArcTerm
@@ -83,3 +91,13 @@ allows_by arcs k = (slice_index_or arcs k no_arc).allowed
 -- what an arc weighs at prices of groups
 abbrev pub weight_by : List ArcTerm → List ℤ → ℕ → ℤ
 weight_by arcs grouped k = (slice_index_or arcs k no_arc).value -ℤ slice_index_or grouped (slice_index_or arcs k no_arc).group (pos 0)
+
+-- the same in 64 bits
+abbrev pub narrow_weight_by : List ArcTerm → List ℤ → ℕ → ℤ
+narrow_weight_by arcs grouped k = int_wrapping_sub w64 (slice_index_or arcs k no_arc).value (slice_index_or grouped (slice_index_or arcs k no_arc).group (pos 0))
+
+-- no arc weighs more than the most in size at prices of groups
+pub record AreWeighedTo (most : ℕ) (arcs : List ArcTerm) (grouped : List ℤ) : Type 0 where
+  pub values : All (λ arc. IsArcValue arc.value) arcs
+  pub range : All IsGroupPrice grouped
+  pub weights : (k : ℕ) → k < length arcs → IsWithin most (weight_by arcs grouped k)

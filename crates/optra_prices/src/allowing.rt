@@ -204,21 +204,15 @@ fn allow_table<F: RowFamily>(
     summary: &Summary<'_, F>,
     number: u32,
     room: &Room,
+    groups: &Groups,
     table: &mut BidTable<'_>,
 ) -> bool
     requires bid { number < length summary.now.bids }
-    requires tells { RoomTells (F.rows_of summary.now.family summary.now.net) summary.now.bids summary.now.node number room.now table.old.graph.now table.old.groups table.old.arcs.items }
+    requires tells { RoomTells (F.rows_of summary.now.family summary.now.net) summary.now.bids summary.now.node number room.now table.old.graph.now groups.now table.old.arcs.items }
     ensures anew { IsTableAnew summary.now.net (F.rows_of summary.now.family summary.now.net) summary.now.bids summary.now.node number table.old table.new }
     ensures brought { IsBrought result table.old table.new }
 {
-    let arcs = allow_arcs(
-        summary,
-        number,
-        room,
-        table.graph,
-        &table.groups,
-        &mut table.arcs,
-    );
+    let arcs = allow_arcs(summary, number, room, table.graph, groups, &mut table.arcs);
     let forced = set_forced(&mut table.forced, has_yes(summary, number));
     either(arcs, forced)
 }
@@ -230,6 +224,7 @@ fn allow_bid<F: RowFamily>(
     node: &Node,
     summary: &Summary<'_, F>,
     numbering: &Numbering<F::Row>,
+    groups: &Groups,
     room: &mut Room,
     number: u32,
     table: &mut BidTable<'_>,
@@ -239,7 +234,7 @@ fn allow_bid<F: RowFamily>(
     requires summary { summary.now ≡ summed rows.now inst.net.now inst.bids.now node.now }
     requires numbering { IsNumbering F.Row.cmp numbering.now.numbers numbering.now.rows.items }
     requires room { IsRoom (F.rows_of rows.now inst.net.now) numbering.now.rows.items (yes_load (F.rows_of rows.now inst.net.now) inst.bids.now node.now) room.old }
-    requires table { IsTableFor inst.net.now (F.rows_of rows.now inst.net.now) (F.rows_used rows.now inst.net.now) inst.bids.now numbering.now.rows.items number table.old }
+    requires table { IsTableFor inst.net.now (F.rows_of rows.now inst.net.now) (F.rows_used rows.now inst.net.now) inst.bids.now numbering.now.rows.items groups.now number table.old }
     ensures room { OnOk result (IsRoom (F.rows_of rows.now inst.entry.net.now) numbering.now.rows.items (yes_load (F.rows_of rows.now inst.entry.net.now) inst.entry.bids.now node.now) room.new) }
     ensures anew { OnOk result (IsTableAnew inst.entry.net.now (F.rows_of rows.now inst.entry.net.now) inst.entry.bids.now node.now number table.old table.new) }
     ensures brought { IfOk result (λ changed. IsBrought changed table.old table.new) }
@@ -247,7 +242,7 @@ fn allow_bid<F: RowFamily>(
     let _ = inst.net.track_count();
     let own = summary.own(number);
     take_decisions(room, inst, rows, numbering, own);
-    let changed = allow_table(summary, number, room, table);
+    let changed = allow_table(summary, number, room, groups, table);
     add_decisions(room, inst, rows, numbering, own)?;
     Ok(changed)
 }
@@ -267,14 +262,15 @@ pub(crate) fn allow_all<F: RowFamily>(
     rows: &F,
     node: &Node,
     numbering: &Numbering<F::Row>,
+    groups: &Groups,
     tables: &mut Vec<BidTable<'_>>,
 ) -> Result<Vec<bool>, NoMemory>
     requires few { length inst.bids.now ≤ 1000 }
     requires node { IsNode inst.net.now (length inst.bids.now) node.now }
     requires numbering { IsNumbering F.Row.cmp numbering.now.numbers numbering.now.rows.items }
     requires rows { All (λ row. (F.rows_of rows.now inst.net.now).is_row row ≡ true) numbering.now.rows.items }
-    requires tables { HoldArcs inst.net.now (F.rows_of rows.now inst.net.now) (F.rows_used rows.now inst.net.now) inst.bids.now (length inst.bids.now) numbering.now.rows.items tables.old.items }
-    ensures tables { OnOk result (AreTables (setting inst.entry.net.now (F.rows_of rows.now inst.entry.net.now) (F.rows_used rows.now inst.entry.net.now) inst.entry.bids.now node.now) (length inst.entry.bids.now) numbering.now.rows.items tables.new.items) }
+    requires tables { HoldArcs inst.net.now (F.rows_of rows.now inst.net.now) (F.rows_used rows.now inst.net.now) inst.bids.now (length inst.bids.now) numbering.now.rows.items groups.now tables.old.items }
+    ensures tables { OnOk result (AreTables (setting inst.entry.net.now (F.rows_of rows.now inst.entry.net.now) (F.rows_used rows.now inst.entry.net.now) inst.entry.bids.now node.now) (length inst.entry.bids.now) numbering.now.rows.items groups.now tables.new.items) }
     ensures brought { IfOk result (λ changed. AreBrought changed.items tables.old.items tables.new.items) }
 {
     let summary = Summary::new(alloc, inst, rows, node)?;
@@ -289,6 +285,7 @@ pub(crate) fn allow_all<F: RowFamily>(
             node,
             &summary,
             numbering,
+            groups,
             &mut room,
             number as u32,
             &mut tables[number],

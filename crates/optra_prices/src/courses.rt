@@ -1,183 +1,134 @@
-//! Prices under way at a node: rows by number, a table for each bid, and what is known of each bid at the prices.
+//! Prices under way at a node.
 ghost use Rattle.std.specs.Prelude.{◌≡◌, ◌≤◌, [], All, IfOk, OnOk, length};
-ghost use Rattle.optra_node.specs.Nodes.{IsNode};
+ghost use Rattle.optra_node.specs.Duals.{ArePrices};
+ghost use Rattle.optra_prices.specs.Courses.{prices_at, prices_by, listed_by, valuation_at, zero_valuation, IsCourse, HasMoved, IsPriced, KeepsRows, AreNumbered};
+ghost use Rattle.optra_prices.specs.Replies.{IsValuation};
+ghost use Rattle.optra_prices.specs.Levels.{IsMove};
 ghost use Rattle.optra_prices.specs.Steps.{AreProper, IsStep};
-ghost use Rattle.optra_prices.specs.Tables.{IsRowPrice};
 ghost use Rattle.optra_prices.specs.Terms.{setting};
-ghost use Rattle.optra_prices.specs.Keepings.{AreKeptAt};
-ghost use Rattle.optra_prices.specs.Moves.{HasMoved};
-ghost use Rattle.optra_prices.specs.Courses.{listed, prices_at, valuation_at, IsCourse, IsPriced, KeepsRows, AreNumbered};
 
 use crate::Priced;
-use crate::duals::{assemble, entries};
-use crate::keeping::ArcTables;
-use crate::listing::{capacities_of, capacity_sum, in_order, list_prices};
+use crate::arc_tables::ArcTables;
+use crate::columns::{reprice, still};
+use crate::group_prices::GroupPrices;
+use crate::holders::tell_fallen;
+use crate::levels::{next_prices, rest, set_prices, zero_prices};
+use crate::listing::{in_order, list_prices, number_more, widen};
 use crate::loading::add_uses;
-use crate::moving::{clear_prices, clear_uses, move_prices};
-use crate::numbering::{BidTable, Numbering, Standing};
 use crate::sessions::settle;
 use crate::stepping::step_length;
-use crate::valuing::{dual_value, put_prices};
-use optra_dag::Buffers;
+use crate::valuing::{assemble, dual_value, entries, put_prices};
 use optra_network::NoMemory;
 use optra_node::{Node, Prices, prices_by_used_rows, tests_tell_allowed};
 use optra_walk::{Instance, RowFamily};
 use std::alloc::Global;
 
-/// Prices under way at a node.
-#[derive(Drop)]
-pub(crate) struct Course<'g, R: Copy + Ord> {
-    pub(crate) numbering: Numbering<R>,
-    /// The rows that have numbers, ascending, each with its number.
-    pub(crate) order: Vec<(R, u32)>,
-    /// The capacities of rows, by number.
-    pub(crate) capacities: Vec<u32>,
-    pub(crate) tables: Vec<BidTable<'g>>,
-    pub(crate) buffers: Buffers,
-    /// The prices of rows, by number.
-    pub(crate) prices: Vec<i64>,
-    /// How much the replies use of rows, by number, while a step is made.
-    pub(crate) uses: Vec<u64>,
-    pub(crate) standings: Vec<Standing>,
-    /// What is known of each bid at other prices, while the course is at these.
-    pub(crate) resting: Vec<Standing>,
-    /// Whether the course has left the zero prices, at which it set out.
-    pub(crate) away: bool,
-    /// The dual value at the prices.
-    pub(crate) value: i128,
-}
-
-/// The node at zero prices, over tables that are at the node.
-pub(crate) fn set_out_over<'g, F: RowFamily>(
+/// Gives each listed row a number at no price, where it has none yet.
+pub(crate) fn admit<F: RowFamily>(
     alloc: Global,
     inst: Instance<'_>,
     rows: &F,
     node: &Node,
-    kept: ArcTables<'g, F::Row>,
-) -> Result<Course<'g, F::Row>, NoMemory>
-    requires few { length inst.bids.now ≤ 1000 }
-    requires kept { AreKeptAt F.Row.cmp inst.net.now (F.rows_of rows.now inst.net.now) (F.rows_used rows.now inst.net.now) inst.bids.now node.now kept }
-    ensures priced { IfOk result (λ course. IsPriced F.Row.cmp (setting inst.entry.net.now (F.rows_of rows.now inst.entry.net.now) (F.rows_used rows.now inst.entry.net.now) inst.entry.bids.now node.now) course) }
-    ensures zero { IfOk result (λ course. prices_at course ≡ []) }
-    ensures keeps { IfOk result (λ course. course.numbering ≡ kept.entry.numbering) }
+    kept: &mut ArcTables<'_, F::Row>,
+    entries: &[(F::Row, i64)],
+) -> Result<(), NoMemory>
+    requires prices { ArePrices (F.rows_of rows.now inst.net.now) entries.now }
+    requires course { IsCourse F.Row.cmp (setting inst.net.now (F.rows_of rows.now inst.net.now) (F.rows_used rows.now inst.net.now) inst.bids.now node.now) kept.old }
+    ensures course { OnOk result (IsCourse F.Row.cmp (setting inst.entry.net.now (F.rows_of rows.now inst.entry.net.now) (F.rows_used rows.now inst.entry.net.now) inst.entry.bids.now node.now) kept.new) }
+    ensures numbered { OnOk result (AreNumbered kept.new entries.now) }
 {
     let _ = inst.net.track_count();
-    tests_tell_allowed(inst, rows);
-    prices_by_used_rows(inst, rows);
-    let ArcTables {
-        numbering,
-        tables,
-        mut buffers,
-        first: mut standings,
-        last: resting,
-    } = kept;
-    let order = in_order(alloc, &numbering.numbers)?;
-    let capacities = capacities_of(alloc, inst.net, rows, &numbering.rows)?;
-    let prices = vec![in alloc; 0; numbering.rows.len()]?;
-    let uses = vec![in alloc; 0; numbering.rows.len()]?;
-    settle(&mut buffers, &tables, &prices, &mut standings)?;
-    let value = dual_value(0, &standings);
-    let _count = numbering.numbers.len();
-    Ok(Course {
-        numbering,
-        order,
-        capacities,
-        tables,
-        buffers,
-        prices,
-        uses,
-        standings,
-        resting,
-        away: false,
-        value,
-    })
-}
-
-/// The tables of a course that is done.
-pub(crate) fn put_back<'g, F: RowFamily>(
-    inst: Instance<'_>,
-    rows: &F,
-    node: &Node,
-    course: Course<'g, F::Row>,
-) -> ArcTables<'g, F::Row>
-    requires { IsCourse F.Row.cmp (setting inst.net.now (F.rows_of rows.now inst.net.now) (F.rows_used rows.now inst.net.now) inst.bids.now node.now) course }
-    ensures { AreKeptAt F.Row.cmp inst.entry.net.now (F.rows_of rows.now inst.entry.net.now) (F.rows_used rows.now inst.entry.net.now) inst.entry.bids.now node.now result }
-{
-    let Course {
-        numbering,
-        tables,
-        buffers,
-        standings,
-        resting,
-        away,
-        ..
-    } = course;
-    let (first, last) = if away {
-        (resting, standings)
-    } else {
-        (standings, resting)
-    };
-    ArcTables {
-        numbering,
-        tables,
-        buffers,
-        first,
-        last,
+    let _ = node;
+    let before = kept.numbering.rows.len();
+    number_more(inst.net, rows, &mut kept.numbering, entries)?;
+    if kept.numbering.rows.len() == before {
+        return Ok(());
     }
+    kept.order = in_order(alloc, &kept.numbering.numbers)?;
+    widen(&mut kept.levels, inst.net, rows, &kept.numbering.rows)?;
+    Ok(())
 }
 
-/// Searches the bids again where prices have changed, and values the node.
+/// Prices anew the groups that are due, searches the bids whose replies may have changed, and values the node.
 fn arrive<F: RowFamily>(
     inst: Instance<'_>,
     rows: &F,
     node: &Node,
-    course: &mut Course<'_, F::Row>,
+    kept: &mut ArcTables<'_, F::Row>,
 ) -> Result<(), NoMemory>
     requires few { length inst.bids.now ≤ 1000 }
-    requires course { HasMoved F.Row.cmp (setting inst.net.now (F.rows_of rows.now inst.net.now) (F.rows_used rows.now inst.net.now) inst.bids.now node.now) course.old }
-    ensures priced { OnOk result (IsPriced F.Row.cmp (setting inst.entry.net.now (F.rows_of rows.now inst.entry.net.now) (F.rows_used rows.now inst.entry.net.now) inst.entry.bids.now node.now) course.new) }
-    ensures prices { OnOk result (prices_at course.new ≡ prices_at course.old) }
-    ensures keeps { OnOk result (KeepsRows course.old course.new) }
+    requires moved { HasMoved F.Row.cmp (setting inst.net.now (F.rows_of rows.now inst.net.now) (F.rows_used rows.now inst.net.now) inst.bids.now node.now) kept.old }
+    ensures priced { OnOk result (IsPriced F.Row.cmp (setting inst.entry.net.now (F.rows_of rows.now inst.entry.net.now) (F.rows_used rows.now inst.entry.net.now) inst.entry.bids.now node.now) kept.new) }
+    ensures prices { OnOk result (prices_at kept.new ≡ prices_at kept.old) }
+    ensures keeps { OnOk result (KeepsRows kept.old kept.new) }
 {
     let _ = inst.net.track_count();
     tests_tell_allowed(inst, rows);
     prices_by_used_rows(inst, rows);
-    let _count = course.numbering.numbers.len();
+    let _ = node;
+    let _count = kept.numbering.numbers.len();
+    reprice(&mut kept.columns, &kept.levels.prices);
+    tell_fallen(&kept.columns, &kept.tables, &kept.holders, &mut kept.fallen)?;
     settle(
-        &mut course.buffers,
-        &course.tables,
-        &course.prices,
-        &mut course.standings,
+        &mut kept.buffers,
+        &kept.tables,
+        GroupPrices {
+            prices: &kept.columns.grouped,
+            most: kept.columns.highest,
+        },
+        &kept.columns.marks,
+        &kept.fallen,
+        &mut kept.standings,
     )?;
-    let capacity = capacity_sum(&course.prices, &course.capacities);
-    course.value = dual_value(capacity, &course.standings);
+    still(&mut kept.columns);
+    kept.value = dual_value(kept.levels.capacity, &kept.standings);
     Ok(())
 }
 
-/// Goes from the zero prices to listed ones, whose rows have numbers. What was known of the bids last is brought up to
-/// these prices; what is known of them at zero prices rests.
+/// Goes to zero prices, before the bids are searched again.
+fn leave<F: RowFamily>(
+    inst: Instance<'_>,
+    rows: &F,
+    node: &Node,
+    kept: &mut ArcTables<'_, F::Row>,
+) -> Result<(), NoMemory>
+    requires course { IsCourse F.Row.cmp (setting inst.net.now (F.rows_of rows.now inst.net.now) (F.rows_used rows.now inst.net.now) inst.bids.now node.now) kept.old }
+    ensures moved { OnOk result (HasMoved F.Row.cmp (setting inst.entry.net.now (F.rows_of rows.now inst.entry.net.now) (F.rows_used rows.now inst.entry.net.now) inst.entry.bids.now node.now) kept.new) }
+    ensures zero { OnOk result (kept.new.levels.prices.items ≡ prices_by (length kept.old.numbering.rows.items) []) }
+    ensures keeps { OnOk result (KeepsRows kept.old kept.new) }
+{
+    let _ = inst.net;
+    let _ = rows;
+    let _ = node;
+    zero_prices(&mut kept.moves, &kept.levels)?;
+    set_prices(&mut kept.levels, &mut kept.columns, &kept.moves)
+}
+
+/// Goes to listed prices, whose rows have numbers.
 pub(crate) fn go_to<F: RowFamily>(
     inst: Instance<'_>,
     rows: &F,
     node: &Node,
-    course: &mut Course<'_, F::Row>,
+    kept: &mut ArcTables<'_, F::Row>,
     start: &Prices<F::Row>,
 ) -> Result<(), NoMemory>
     requires few { length inst.bids.now ≤ 1000 }
-    requires node { IsNode inst.net.now (length inst.bids.now) node.now }
     requires start { AreProper F.Row.cmp (F.rows_of rows.now inst.net.now) start.now }
-    requires numbered { AreNumbered course.old start.now }
-    requires course { IsCourse F.Row.cmp (setting inst.net.now (F.rows_of rows.now inst.net.now) (F.rows_used rows.now inst.net.now) inst.bids.now node.now) course.old }
-    ensures priced { OnOk result (IsPriced F.Row.cmp (setting inst.entry.net.now (F.rows_of rows.now inst.entry.net.now) (F.rows_used rows.now inst.entry.net.now) inst.entry.bids.now node.now) course.new) }
-    ensures prices { OnOk result (prices_at course.new ≡ start.now) }
-    ensures keeps { OnOk result (KeepsRows course.old course.new) }
+    requires numbered { AreNumbered kept.old start.now }
+    requires course { IsCourse F.Row.cmp (setting inst.net.now (F.rows_of rows.now inst.net.now) (F.rows_used rows.now inst.net.now) inst.bids.now node.now) kept.old }
+    ensures priced { OnOk result (IsPriced F.Row.cmp (setting inst.entry.net.now (F.rows_of rows.now inst.entry.net.now) (F.rows_used rows.now inst.entry.net.now) inst.entry.bids.now node.now) kept.new) }
+    ensures prices { OnOk result (prices_at kept.new ≡ start.now) }
+    ensures keeps { OnOk result (KeepsRows kept.old kept.new) }
 {
-    let _count = course.numbering.numbers.len();
-    std::mem::swap(&mut course.standings, &mut course.resting);
-    course.away = !course.away;
-    clear_prices(&mut course.prices);
-    put_prices::<F>(&course.numbering, &mut course.prices, entries(start));
-    arrive(inst, rows, node, course)
+    let _count = kept.numbering.numbers.len();
+    leave(inst, rows, node, kept)?;
+    put_prices::<F>(
+        &kept.numbering,
+        &mut kept.levels,
+        &mut kept.columns,
+        entries(start),
+    )?;
+    arrive(inst, rows, node, kept)
 }
 
 /// Moves the prices by step `k`, from 0, by the replies.
@@ -185,21 +136,27 @@ fn step_prices<F: RowFamily>(
     inst: Instance<'_>,
     rows: &F,
     node: &Node,
-    course: &mut Course<'_, F::Row>,
+    kept: &mut ArcTables<'_, F::Row>,
     k: u32,
 ) -> Result<(), NoMemory>
-    requires course { IsCourse F.Row.cmp (setting inst.net.now (F.rows_of rows.now inst.net.now) (F.rows_used rows.now inst.net.now) inst.bids.now node.now) course.old }
-    ensures moved { OnOk result (HasMoved F.Row.cmp (setting inst.entry.net.now (F.rows_of rows.now inst.entry.net.now) (F.rows_used rows.now inst.entry.net.now) inst.entry.bids.now node.now) course.new) }
-    ensures step { OnOk result (IsStep F.Row.cmp (F.rows_of rows.now inst.entry.net.now) inst.entry.bids.now (valuation_at (F.rows_of rows.now inst.entry.net.now) course.old).replies k (prices_at course.old) (prices_at course.new)) }
-    ensures keeps { OnOk result (KeepsRows course.old course.new) }
+    requires course { IsCourse F.Row.cmp (setting inst.net.now (F.rows_of rows.now inst.net.now) (F.rows_used rows.now inst.net.now) inst.bids.now node.now) kept.old }
+    ensures moved { OnOk result (HasMoved F.Row.cmp (setting inst.entry.net.now (F.rows_of rows.now inst.entry.net.now) (F.rows_used rows.now inst.entry.net.now) inst.entry.bids.now node.now) kept.new) }
+    ensures step { OnOk result (IsStep F.Row.cmp (F.rows_of rows.now inst.entry.net.now) inst.entry.bids.now (valuation_at (F.rows_of rows.now inst.entry.net.now) kept.old).replies k (prices_at kept.old) (prices_at kept.new)) }
+    ensures keeps { OnOk result (KeepsRows kept.old kept.new) }
 {
     let _ = inst.net.track_count();
-    let _count = course.numbering.numbers.len();
-    clear_uses(&mut course.uses);
-    add_uses(&mut course.uses, &course.tables, &course.standings)?;
+    let _ = node;
+    let _count = kept.numbering.numbers.len();
+    add_uses(
+        &mut kept.levels,
+        &kept.columns.groups,
+        &kept.tables,
+        &kept.standings,
+    )?;
     let by = step_length(inst.bids, k);
-    move_prices(by, &mut course.prices, &course.uses, &course.capacities);
-    Ok(())
+    next_prices(&mut kept.moves, &kept.levels, by)?;
+    set_prices(&mut kept.levels, &mut kept.columns, &kept.moves)?;
+    rest(&mut kept.levels, &mut kept.spare)
 }
 
 /// Makes step `k`, from 0, by the replies.
@@ -207,39 +164,37 @@ pub(crate) fn go_on<F: RowFamily>(
     inst: Instance<'_>,
     rows: &F,
     node: &Node,
-    course: &mut Course<'_, F::Row>,
+    kept: &mut ArcTables<'_, F::Row>,
     k: u32,
 ) -> Result<(), NoMemory>
     requires few { length inst.bids.now ≤ 1000 }
-    requires node { IsNode inst.net.now (length inst.bids.now) node.now }
-    requires priced { IsPriced F.Row.cmp (setting inst.net.now (F.rows_of rows.now inst.net.now) (F.rows_used rows.now inst.net.now) inst.bids.now node.now) course.old }
-    ensures priced { OnOk result (IsPriced F.Row.cmp (setting inst.entry.net.now (F.rows_of rows.now inst.entry.net.now) (F.rows_used rows.now inst.entry.net.now) inst.entry.bids.now node.now) course.new) }
-    ensures step { OnOk result (IsStep F.Row.cmp (F.rows_of rows.now inst.entry.net.now) inst.entry.bids.now (valuation_at (F.rows_of rows.now inst.entry.net.now) course.old).replies k (prices_at course.old) (prices_at course.new)) }
-    ensures keeps { OnOk result (KeepsRows course.old course.new) }
+    requires priced { IsPriced F.Row.cmp (setting inst.net.now (F.rows_of rows.now inst.net.now) (F.rows_used rows.now inst.net.now) inst.bids.now node.now) kept.old }
+    ensures priced { OnOk result (IsPriced F.Row.cmp (setting inst.entry.net.now (F.rows_of rows.now inst.entry.net.now) (F.rows_used rows.now inst.entry.net.now) inst.entry.bids.now node.now) kept.new) }
+    ensures step { OnOk result (IsStep F.Row.cmp (F.rows_of rows.now inst.entry.net.now) inst.entry.bids.now (valuation_at (F.rows_of rows.now inst.entry.net.now) kept.old).replies k (prices_at kept.old) (prices_at kept.new)) }
+    ensures keeps { OnOk result (KeepsRows kept.old kept.new) }
 {
-    step_prices(inst, rows, node, course, k)?;
-    arrive(inst, rows, node, course)
+    step_prices(inst, rows, node, kept, k)?;
+    arrive(inst, rows, node, kept)
 }
 
-/// Goes back to prices by number.
+/// Goes back to prices of rows by number.
 pub(crate) fn go_back<F: RowFamily>(
     inst: Instance<'_>,
     rows: &F,
     node: &Node,
-    course: &mut Course<'_, F::Row>,
-    prices: &[i64],
+    kept: &mut ArcTables<'_, F::Row>,
+    prices: &[(u32, i64)],
 ) -> Result<(), NoMemory>
     requires few { length inst.bids.now ≤ 1000 }
-    requires node { IsNode inst.net.now (length inst.bids.now) node.now }
-    requires range { All IsRowPrice prices.now }
-    requires count { length prices.now ≡ length course.old.numbering.rows.items }
-    requires course { IsCourse F.Row.cmp (setting inst.net.now (F.rows_of rows.now inst.net.now) (F.rows_used rows.now inst.net.now) inst.bids.now node.now) course.old }
-    ensures priced { OnOk result (IsPriced F.Row.cmp (setting inst.entry.net.now (F.rows_of rows.now inst.entry.net.now) (F.rows_used rows.now inst.entry.net.now) inst.entry.bids.now node.now) course.new) }
-    ensures prices { OnOk result (prices_at course.new ≡ listed course.old.order.items prices.now) }
-    ensures keeps { OnOk result (KeepsRows course.old course.new) }
+    requires prices { All (IsMove (length kept.old.numbering.rows.items)) prices.now }
+    requires course { IsCourse F.Row.cmp (setting inst.net.now (F.rows_of rows.now inst.net.now) (F.rows_used rows.now inst.net.now) inst.bids.now node.now) kept.old }
+    ensures priced { OnOk result (IsPriced F.Row.cmp (setting inst.entry.net.now (F.rows_of rows.now inst.entry.net.now) (F.rows_used rows.now inst.entry.net.now) inst.entry.bids.now node.now) kept.new) }
+    ensures prices { OnOk result (prices_at kept.new ≡ listed_by kept.old prices.now) }
+    ensures keeps { OnOk result (KeepsRows kept.old kept.new) }
 {
-    course.prices.copy_from_slice(prices);
-    arrive(inst, rows, node, course)
+    leave(inst, rows, node, kept)?;
+    set_prices(&mut kept.levels, &mut kept.columns, prices)?;
+    arrive(inst, rows, node, kept)
 }
 
 /// The prices, and the dual value at them.
@@ -248,20 +203,40 @@ pub(crate) fn priced_at<F: RowFamily>(
     inst: Instance<'_>,
     rows: &F,
     node: &Node,
-    course: &Course<'_, F::Row>,
+    kept: &ArcTables<'_, F::Row>,
 ) -> Result<Priced<F::Row>, NoMemory>
     requires few { length inst.bids.now ≤ 1000 }
-    requires priced { IsPriced F.Row.cmp (setting inst.net.now (F.rows_of rows.now inst.net.now) (F.rows_used rows.now inst.net.now) inst.bids.now node.now) course.now }
-    ensures prices { IfOk result (λ priced. priced.prices ≡ prices_at course.now) }
-    ensures dual { IfOk result (λ priced. priced.dual ≡ valuation_at (F.rows_of rows.now inst.entry.net.now) course.now) }
+    requires priced { IsPriced F.Row.cmp (setting inst.net.now (F.rows_of rows.now inst.net.now) (F.rows_used rows.now inst.net.now) inst.bids.now node.now) kept.now }
+    ensures prices { IfOk result (λ priced. priced.prices ≡ prices_at kept.now) }
+    ensures dual { IfOk result (λ priced. priced.dual ≡ valuation_at (F.rows_of rows.now inst.entry.net.now) kept.now) }
 {
     let _ = inst.net.track_count();
-    let _count = course.numbering.numbers.len();
-    let entries = list_prices(alloc, &course.order, &course.prices)?;
-    let capacity = capacity_sum(&course.prices, &course.capacities);
-    let dual = assemble(alloc, capacity, &course.tables, &course.standings)?;
+    let _ = node;
+    let _ = rows;
+    let _count = kept.numbering.numbers.len();
+    let entries = list_prices(alloc, &kept.order, &kept.levels.prices)?;
+    let dual = assemble(alloc, kept.levels.capacity, &kept.tables, &kept.standings)?;
     Ok(Priced {
         prices: Prices { entries },
         dual,
     })
+}
+
+/// The dual value of the node at zero prices.
+pub(crate) fn zero_value<F: RowFamily>(
+    inst: Instance<'_>,
+    rows: &F,
+    node: &Node,
+    kept: &ArcTables<'_, F::Row>,
+) -> i128
+    requires few { length inst.bids.now ≤ 1000 }
+    requires course { IsCourse F.Row.cmp (setting inst.net.now (F.rows_of rows.now inst.net.now) (F.rows_used rows.now inst.net.now) inst.bids.now node.now) kept.now }
+    ensures value { result ≡ (zero_valuation kept.now).value }
+    ensures valuation { IsValuation inst.entry.net.now (F.rows_of rows.now inst.entry.net.now) inst.entry.bids.now node.now [] (zero_valuation kept.now) }
+{
+    let _ = inst.net.track_count();
+    tests_tell_allowed(inst, rows);
+    prices_by_used_rows(inst, rows);
+    let _ = node;
+    dual_value(0, &kept.zero)
 }

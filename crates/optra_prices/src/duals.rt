@@ -1,64 +1,16 @@
 //! The dual value of a node at prices.
-ghost use Rattle.std.specs.Prelude.{◌≡◌, ◌≤◌, ◌<◌, ◌^◌, [], List, ℤ, pos, All, Contains, IfOk, length};
-ghost use Rattle.optra_bid.specs.Specs.{IsBetween};
+ghost use Rattle.std.specs.Prelude.{◌≡◌, ◌≤◌, All, Contains, IfOk, length};
 ghost use Rattle.optra_node.specs.Nodes.{IsNode};
 ghost use Rattle.optra_prices.specs.Replies.{IsValuation};
 ghost use Rattle.optra_prices.specs.Steps.{AreProper};
-ghost use Rattle.optra_prices.specs.Tables.{IsNumbering};
-ghost use Rattle.optra_prices.specs.Standings.{IsTermSize, AllStand, valuation_of};
 
 use crate::Dual;
 use crate::keeping::{bring_to, dual_over, keep_arcs};
-use crate::numbering::{BidTable, Numbering, Standing};
-use crate::valuing::{dual_value, replies, terms};
 use optra_graph::Graphs;
 use optra_network::NoMemory;
 use optra_node::{Node, Prices};
 use optra_walk::{Instance, RowFamily};
 use std::alloc::Global;
-use std::collections::BTreeMap;
-
-/// No row has a number yet.
-pub(crate) fn no_numbers<R: Copy + Ord>(alloc: Global) -> Numbering<R>
-    ensures numbering { IsNumbering R.cmp result.numbers result.rows.items }
-    ensures none { result.rows.items ≡ [] }
-{
-    Numbering {
-        numbers: BTreeMap::new(alloc),
-        rows: Vec::new(alloc),
-    }
-}
-
-/// The entries of prices.
-pub(crate) fn entries<R>(prices: &Prices<R>) -> &[(R, i64)]
-    ensures value { result.now ≡ prices.now }
-    ensures few { length result.now < 2 ^ 63 }
-{
-    &prices.entries
-}
-
-/// The dual value, the replies and the terms of what stands.
-pub(crate) fn assemble(
-    alloc: Global,
-    capacity: i128,
-    tables: &[BidTable<'_>],
-    standings: &[Standing],
-) -> Result<Dual, NoMemory>
-    requires capacity { IsBetween (pos 0) (pos 2417851639229258349412352000000000000) capacity }
-    requires few { length standings.now ≤ 1000 }
-    requires small { All (λ standing. IsTermSize standing.term) standings.now }
-    requires stand { (prices : List ℤ) × AllStand tables.now prices standings.now }
-    ensures { IfOk result (λ dual. dual ≡ valuation_of capacity tables.now standings.now) }
-{
-    let value = dual_value(capacity, standings);
-    let replies = replies(alloc, tables, standings)?;
-    let terms = terms(alloc, standings)?;
-    Ok(Dual {
-        value,
-        replies,
-        terms,
-    })
-}
 
 /// The dual value of the node at the prices, in thousandths of a cent, with the reply and the term of each bid.
 ///

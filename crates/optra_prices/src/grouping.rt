@@ -1,7 +1,7 @@
 //! Groups of touches, one after the other, and their prices.
-ghost use Rattle.std.specs.Prelude.{◌≡◌, ◌≢◌, ◌||◌, ℕ, ◌+◌, ◌*◌, ◌≤◌, ◌<◌, false, All, IfOk, length, slice_index_or, pos, ◌*ℤ◌};
+ghost use Rattle.std.specs.Prelude.{◌≡◌, ◌||◌, ◌+◌, ◌*◌, ◌≤◌, ◌<◌, All, IfOk, length, slice_index_or, pos, ◌*ℤ◌};
 ghost use Rattle.optra_bid.specs.Specs.{IsBetween};
-ghost use Rattle.optra_prices.specs.Tables.{group_at, uses_in_all, AreGroups, IsRowPrice, IsGroupPrice, group_price, AreGroupPrices};
+ghost use Rattle.optra_prices.specs.Tables.{group_at, uses_in_all, AreGroups, IsRowPrice, IsGroupPrice, group_price};
 
 use crate::numbering::{Groups, Touch};
 use optra_network::NoMemory;
@@ -71,43 +71,6 @@ fn group_price(prices: &[i64], group: &[Touch]) -> i64
     total
 }
 
-/// Sets a price, and tells whether it changed.
-fn put_price(grouped: &mut Vec<i64>, g: usize, price: i64) -> bool
-    requires within { g < length grouped.old.items }
-    requires range { All IsGroupPrice grouped.old.items }
-    requires price { IsGroupPrice price }
-    ensures len { length grouped.new.items ≡ length grouped.old.items }
-    ensures here { slice_index_or grouped.new.items g (pos 0) ≡ price }
-    ensures others { (j : ℕ) → j ≢ g → slice_index_or grouped.new.items j (pos 0) ≡ slice_index_or grouped.old.items j (pos 0) }
-    ensures range { All IsGroupPrice grouped.new.items }
-    ensures same { result ≡ false → grouped.new.items ≡ grouped.old.items }
-{
-    if grouped[g] == price {
-        return false;
-    }
-    grouped[g] = price;
-    true
-}
-
-/// Brings the prices of groups up to date, and tells whether one changed.
-pub(crate) fn refresh(prices: &[i64], groups: &Groups, grouped: &mut Vec<i64>) -> bool
-    requires prices { All IsRowPrice prices.now }
-    requires groups { AreGroups groups.now.starts.items groups.now.touches.items }
-    requires count { length grouped.old.items + 1 ≡ length groups.now.starts.items }
-    requires grouped { All IsGroupPrice grouped.old.items }
-    ensures prices { AreGroupPrices prices.now groups.now.starts.items groups.now.touches.items grouped.new.items }
-    ensures range { All IsGroupPrice grouped.new.items }
-    ensures same { result ≡ false → grouped.new.items ≡ grouped.old.items }
-{
-    let mut changed = false;
-    for g in 0..grouped.len() {
-        let price = price_at(prices, groups, g);
-        let other = put_price(grouped, g, price);
-        changed = either(changed, other);
-    }
-    changed
-}
-
 /// Whether one of two holds.
 pub(crate) fn either(a: bool, b: bool) -> bool
     ensures { result ≡ (a || b) }
@@ -116,7 +79,7 @@ pub(crate) fn either(a: bool, b: bool) -> bool
 }
 
 /// The price of a group by its number.
-fn price_at(prices: &[i64], groups: &Groups, g: usize) -> i64
+pub(crate) fn price_at(prices: &[i64], groups: &Groups, g: usize) -> i64
     requires prices { All IsRowPrice prices.now }
     requires groups { AreGroups groups.now.starts.items groups.now.touches.items }
     requires within { g + 1 < length groups.now.starts.items }

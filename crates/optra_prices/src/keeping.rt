@@ -9,12 +9,18 @@ ghost use Rattle.optra_prices.specs.Paths.{IsPathResult};
 ghost use Rattle.optra_prices.specs.Keepings.{AreKept, AreKeptAt, IsFirstStuckIn};
 
 use crate::allowing::allow_all;
-use crate::courses::{go_to, priced_at, put_back, set_out_over};
-use crate::duals::{entries, no_numbers};
-use crate::listing::number_more;
-use crate::numbering::{BidTable, Numbering, Standing};
-use crate::paths::go_along;
+use crate::arc_tables::ArcTables;
+use crate::columns::new_columns;
+use crate::courses::{admit, go_to, priced_at};
+use crate::following::go_along;
+use crate::group_prices::GroupPrices;
+use crate::holders::find_holders;
+use crate::levels::no_levels;
+use crate::listing::{in_order, widen};
+use crate::making::{Making, new_making};
+use crate::numbering::Standing;
 use crate::sessions::{copy_standings, first_standings, make_tables, renew_all};
+use crate::valuing::entries;
 use crate::{Dead, Dual, Priced};
 use optra_dag::Buffers;
 use optra_graph::Graphs;
@@ -22,18 +28,6 @@ use optra_network::{Cents, NoMemory};
 use optra_node::{Node, Prices, prices_by_used_rows, tests_tell_allowed};
 use optra_walk::{Instance, RowFamily};
 use std::alloc::Global;
-
-/// Rows by number, and for each bid what its arcs add and which rows they touch. They are made once for a plan, and serve
-/// at each of its nodes. What is known of each bid is kept twice: as it was found at zero prices, with which each price
-/// path begins, and as it was found last.
-#[derive(Drop)]
-pub struct ArcTables<'g, R: Copy + Ord> {
-    pub(crate) numbering: Numbering<R>,
-    pub(crate) tables: Vec<BidTable<'g>>,
-    pub(crate) buffers: Buffers,
-    pub(crate) first: Vec<Standing>,
-    pub(crate) last: Vec<Standing>,
-}
 
 /// The tables of the bids' arcs. It needs at most 1,000 bids, and the graphs of the bids on the instance's network.
 /// `NoMemory` is its only refusal.
@@ -48,20 +42,42 @@ pub fn keep_arcs<'g, F: RowFamily, G: Graphs>(
     requires held { All (λ bid. Contains (G.held graphs.now) bid.path) inst.bids.now }
     ensures { IfOk result (AreKept F.Row.cmp inst.entry.net.now (F.rows_of rows.now inst.entry.net.now) (F.rows_used rows.now inst.entry.net.now) inst.entry.bids.now) }
 {
+    let _ = inst.net.track_count();
     let node = Node::root(alloc);
-    let mut numbering = no_numbers(alloc);
-    let mut tables = make_tables(alloc, inst, graphs, rows, &mut numbering)?;
-    let _changed = allow_all(alloc, inst, rows, &node, &numbering, &mut tables)?;
-    let prices = Vec::new(alloc);
+    let mut making = new_making(alloc, inst.net, rows)?;
+    let mut tables = make_tables(alloc, inst, graphs, rows, &mut making)?;
+    let Making {
+        numbering,
+        groups,
+        ..
+    } = making;
+    let _changed = allow_all(alloc, inst, rows, &node, &numbering, &groups, &mut tables)?;
+    let order = in_order(alloc, &numbering.numbers)?;
+    let mut levels = no_levels(alloc);
+    widen(&mut levels, inst.net, rows, &numbering.rows)?;
+    let columns = new_columns(alloc, groups)?;
+    let holders = find_holders(alloc, &tables)?;
     let mut buffers = Buffers::new(alloc);
-    let first = first_standings(alloc, &mut buffers, &tables, &prices)?;
-    let last = copy_standings(alloc, &first)?;
+    let free = GroupPrices {
+        prices: &[],
+        most: 0,
+    };
+    let zero = first_standings(alloc, &mut buffers, &tables, free)?;
+    let standings = copy_standings(alloc, &zero)?;
     Ok(ArcTables {
         numbering,
+        order,
+        levels,
+        columns,
         tables,
+        holders,
+        zero,
+        standings,
+        value: 0,
         buffers,
-        first,
-        last,
+        moves: Vec::new(alloc),
+        spare: Vec::new(alloc),
+        fallen: Vec::new(alloc),
     })
 }
 
@@ -80,10 +96,35 @@ pub fn bring_to<F: RowFamily>(
     requires kept { AreKept F.Row.cmp inst.net.now (F.rows_of rows.now inst.net.now) (F.rows_used rows.now inst.net.now) inst.bids.now kept.old }
     ensures { OnOk result (AreKeptAt F.Row.cmp inst.entry.net.now (F.rows_of rows.now inst.entry.net.now) (F.rows_used rows.now inst.entry.net.now) inst.entry.bids.now node.now kept.new) }
 {
-    let changed = allow_all(alloc, inst, rows, node, &kept.numbering, &mut kept.tables)?;
-    renew_all(&mut kept.buffers, &kept.tables, &changed, &mut kept.first)?;
-    renew_all(&mut kept.buffers, &kept.tables, &changed, &mut kept.last)?;
-    Ok(())
+    let changed = allow_all(
+        alloc,
+        inst,
+        rows,
+        node,
+        &kept.numbering,
+        &kept.columns.groups,
+        &mut kept.tables,
+    )?;
+    renew_all(
+        &mut kept.buffers,
+        &kept.tables,
+        GroupPrices {
+            prices: &[],
+            most: 0,
+        },
+        &changed,
+        &mut kept.zero,
+    )?;
+    renew_all(
+        &mut kept.buffers,
+        &kept.tables,
+        GroupPrices {
+            prices: &kept.columns.grouped,
+            most: kept.columns.highest,
+        },
+        &changed,
+        &mut kept.standings,
+    )
 }
 
 /// The first bid that has a yes leg and no allowed walk, by what is known of the bids.
@@ -117,7 +158,7 @@ pub fn dead_over<F: RowFamily>(
     if let Some(row) = node.overfull(inst, rows) {
         return Some(Dead::Forced { row });
     }
-    let bid = first_stuck(&kept.first)?;
+    let bid = first_stuck(&kept.zero)?;
     Some(Dead::NoWalk { bid })
 }
 
@@ -140,19 +181,9 @@ pub fn price_path_over<'g, F: RowFamily>(
     ensures path { IfOk result (λ both. IsPathResult F.Row.cmp inst.entry.net.now (F.rows_of rows.now inst.entry.net.now) inst.entry.bids.now node.now start.now steps incumbent both.1) }
 {
     let mut kept = kept;
-    number_more(inst.net, rows, &mut kept.numbering, entries(start))?;
-    let mut course = set_out_over(alloc, inst, rows, node, kept)?;
-    let priced = go_along(
-        alloc,
-        inst,
-        rows,
-        node,
-        &mut course,
-        start,
-        steps,
-        incumbent,
-    )?;
-    Ok((put_back(inst, rows, node, course), priced))
+    admit(alloc, inst, rows, node, &mut kept, entries(start))?;
+    let priced = go_along(alloc, inst, rows, node, &mut kept, start, steps, incumbent)?;
+    Ok((kept, priced))
 }
 
 /// As [`crate::duals::dual`], over tables that are at the node; the tables are handed back.
@@ -172,9 +203,8 @@ pub fn dual_over<'g, F: RowFamily>(
     ensures dual { IfOk result (λ both. IsValuation inst.entry.net.now (F.rows_of rows.now inst.entry.net.now) inst.entry.bids.now node.now prices.now both.1) }
 {
     let mut kept = kept;
-    number_more(inst.net, rows, &mut kept.numbering, entries(prices))?;
-    let mut course = set_out_over(alloc, inst, rows, node, kept)?;
-    go_to(inst, rows, node, &mut course, prices)?;
-    let priced = priced_at(alloc, inst, rows, node, &course)?;
-    Ok((put_back(inst, rows, node, course), priced.dual))
+    admit(alloc, inst, rows, node, &mut kept, entries(prices))?;
+    go_to(inst, rows, node, &mut kept, prices)?;
+    let priced = priced_at(alloc, inst, rows, node, &kept)?;
+    Ok((kept, priced.dual))
 }

@@ -1,15 +1,15 @@
 //! Rows with numbers in ascending order, and their prices and capacities.
-ghost use Rattle.std.specs.Prelude.{◌≡◌, ◌≤◌, ◌*◌, true, All, Contains, IfOk, OnOk, length, map, slice_index, slice_index_or, pos, ◌*ℤ◌};
-ghost use Rattle.optra_bid.specs.Specs.{IsBetween};
+ghost use Rattle.std.specs.Prelude.{◌≡◌, ◌≤◌, true, All, Contains, IfOk, OnOk, length, map, take, slice_index_or, pos};
 ghost use Rattle.optra_node.specs.Duals.{ArePrices};
-ghost use Rattle.optra_prices.specs.Courses.{listed};
-ghost use Rattle.optra_prices.specs.Listings.{capacity_below};
+ghost use Rattle.optra_prices.specs.Courses.{listed, HaveCapacities};
+ghost use Rattle.optra_prices.specs.Levels.{IsLevels, AreUnused};
+ghost use Rattle.optra_prices.specs.Listings.{AddsZeros};
 ghost use Rattle.optra_prices.specs.Tables.{IsNumbering, Extends, IsRowPrice};
 
+use crate::levels::{Levels, push_level};
 use crate::numbering::Numbering;
 use crate::stepping::push_price;
 use crate::touching::number;
-use crate::valuing::capacity_product;
 use optra_network::{Network, NoMemory};
 use optra_walk::RowFamily;
 use std::alloc::Global;
@@ -28,6 +28,7 @@ pub(crate) fn number_more<F: RowFamily>(
     ensures numbering { OnOk result (IsNumbering F.Row.cmp numbering.new.numbers numbering.new.rows.items) }
     ensures rows { OnOk result (All (λ row. (F.rows_of rows.now net.now).is_row row ≡ true) numbering.new.rows.items) }
     ensures extends { OnOk result (Extends numbering.old.rows.items numbering.new.rows.items) }
+    ensures same { OnOk result (length numbering.new.rows.items ≡ length numbering.old.rows.items → numbering.new ≡ numbering.old) }
     ensures numbered { OnOk result (All (λ e. Contains numbering.new.rows.items e.0) entries.now) }
 {
     for entry in entries {
@@ -67,6 +68,31 @@ pub(crate) fn capacities_of<F: RowFamily>(
     Ok(capacities)
 }
 
+/// Makes room for all rows that have numbers, at no price and with no use.
+pub(crate) fn widen<F: RowFamily>(
+    levels: &mut Levels,
+    net: &Network,
+    rows: &F,
+    numbered: &[F::Row],
+) -> Result<(), NoMemory>
+    requires levels { IsLevels levels.old }
+    requires unused { AreUnused levels.old }
+    requires rows { All (λ row. (F.rows_of rows.now net.now).is_row row ≡ true) numbered.now }
+    requires few { length levels.old.prices.items ≤ length numbered.now }
+    requires capacities { HaveCapacities (F.rows_of rows.now net.now) (take (length levels.old.prices.items) numbered.now) levels.old.capacities.items }
+    ensures levels { OnOk result (IsLevels levels.new) }
+    ensures unused { OnOk result (AreUnused levels.new) }
+    ensures capacities { OnOk result (HaveCapacities (F.rows_of rows.now net.now) numbered.now levels.new.capacities.items) }
+    ensures prices { OnOk result (AddsZeros levels.old.prices.items levels.new.prices.items) }
+    ensures count { OnOk result (length levels.new.prices.items ≡ length numbered.now) }
+{
+    let _ = net.track_count();
+    for n in levels.prices.len()..numbered.len() {
+        push_level(levels, rows.cap(net, numbered[n]))?;
+    }
+    Ok(())
+}
+
 /// The price of the row with this number.
 fn price_by(prices: &[i64], number: usize) -> i64
     requires { All IsRowPrice prices.now }
@@ -74,28 +100,6 @@ fn price_by(prices: &[i64], number: usize) -> i64
     ensures range { IsRowPrice result }
 {
     prices.get(number).copied().unwrap_or(0)
-}
-
-/// The capacity of the row with this number.
-fn capacity_by(capacities: &[u32], number: usize) -> u32
-    requires { All (λ capacity. capacity ≤ 65535) capacities.now }
-    ensures value { result ≡ slice_index capacities.now number }
-    ensures range { result ≤ 65535 }
-{
-    capacities.get(number).copied().unwrap_or(0)
-}
-
-/// The price of all capacity of the row with this number. Most prices are 0, and then the capacity isn't looked up.
-fn capacity_price(price: i64, capacities: &[u32], number: usize) -> i128
-    requires price { IsRowPrice price }
-    requires capacities { All (λ capacity. capacity ≤ 65535) capacities.now }
-    ensures value { result ≡ price *ℤ pos (slice_index capacities.now number) }
-    ensures range { IsBetween (pos 0) (pos 131070000000000000) result }
-{
-    if price == 0 {
-        return 0;
-    }
-    capacity_product(price, capacity_by(capacities, number))
 }
 
 /// The list of prices above zero.
@@ -112,19 +116,4 @@ pub(crate) fn list_prices<R: Copy>(
         push_price(&mut entries, entry.0, price_by(prices, entry.1 as usize))?;
     }
     Ok(entries)
-}
-
-/// The price of all capacity, row by row in the order of the numbers.
-pub(crate) fn capacity_sum(prices: &[i64], capacities: &[u32]) -> i128
-    requires prices { All IsRowPrice prices.now }
-    requires capacities { All (λ capacity. capacity ≤ 65535) capacities.now }
-    ensures value { result ≡ capacity_below prices.now capacities.now (length prices.now) }
-    ensures range { IsBetween (pos 0) (pos 2417851639229258349412352000000000000) result }
-{
-    let mut total: i128 = 0;
-    for n in 0..prices.len() {
-        let price = price_by(prices, n);
-        total += capacity_price(price, capacities, n);
-    }
-    total
 }

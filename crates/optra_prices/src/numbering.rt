@@ -1,4 +1,4 @@
-//! Rows by number, in the order in which they were first met.
+//! Rows by number, in the order in which they were first met, and what the arcs of bids' graphs add and touch.
 use optra_graph::TimeGraph;
 use std::collections::BTreeMap;
 
@@ -16,7 +16,7 @@ pub(crate) struct Numbering<R: Copy + Ord> {
     pub(crate) rows: Vec<R>,
 }
 
-/// Groups of touches: those of group `g` stand from `starts[g]` up to `starts[g + 1]`.
+/// Groups of touches: those of group `g` stand from `starts[g]` up to `starts[g + 1]`. All bids share them.
 #[derive(Drop)]
 pub(crate) struct Groups {
     pub(crate) starts: Vec<usize>,
@@ -32,20 +32,20 @@ pub(crate) struct ArcTerm {
     pub(crate) allowed: bool,
 }
 
-/// The arcs of a bid's graph at a node, with the groups that they touch, and whether the bid has a yes leg.
+/// The arcs of a bid's graph at a node, a number that none of their values exceeds in size, and whether the bid has a yes
+/// leg.
 #[derive(Drop)]
 pub(crate) struct BidTable<'g> {
     pub(crate) graph: &'g TimeGraph,
     pub(crate) arcs: Vec<ArcTerm>,
-    pub(crate) groups: Groups,
+    pub(crate) most: i64,
     pub(crate) forced: bool,
 }
 
-/// What is known of a bid at prices: the prices of its groups, the path of its reply, which is empty where it has none,
-/// its term, and whether it has a yes leg and no allowed walk.
+/// What is known of a bid at prices: the path of its reply, which is empty where it has none, its term, and whether it
+/// has a yes leg and no allowed walk.
 #[derive(Drop)]
 pub(crate) struct Standing {
-    pub(crate) grouped: Vec<i64>,
     pub(crate) path: Vec<u32>,
     pub(crate) term: i128,
     pub(crate) stuck: bool,

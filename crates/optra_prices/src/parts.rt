@@ -7,8 +7,8 @@ ghost use Rattle.optra_prices.specs.Keepings.{AreKept, AreKeptAt};
 ghost use Rattle.optra_prices.specs.Parts.{AreParts, ArePartsOf, IsTableGraph, IsRoomIn};
 ghost use Rattle.optra_prices.specs.Tables.{AreGroups};
 
-use crate::keeping::ArcTables;
-use crate::numbering::{ArcTerm, BidTable};
+use crate::arc_tables::ArcTables;
+use crate::numbering::{ArcTerm, BidTable, Groups};
 use crate::rooms::{Room, Told, add_leg, empty_room, tell_group};
 use optra_graph::TimeGraph;
 use optra_network::{NoMemory, TypeId};
@@ -35,10 +35,15 @@ fn part_of(arc: ArcTerm, has_room: bool) -> ArcPart
 }
 
 /// Puts the parts of a table's arcs in place of those that were there.
-fn tell_table(parts: &mut Vec<ArcPart>, table: &BidTable<'_>, room: &Room) -> Result<(), NoMemory>
-    requires groups { AreGroups table.now.groups.starts.items table.now.groups.touches.items }
-    requires within { All (λ arc. arc.group + 1 < length table.now.groups.starts.items) table.now.arcs.items }
-    ensures { OnOk result (ArePartsOf room.now table.now.groups.starts.items table.now.groups.touches.items table.now.arcs.items (length table.now.arcs.items) parts.new.items) }
+fn tell_table(
+    parts: &mut Vec<ArcPart>,
+    groups: &Groups,
+    table: &BidTable<'_>,
+    room: &Room,
+) -> Result<(), NoMemory>
+    requires groups { AreGroups groups.now.starts.items groups.now.touches.items }
+    requires within { All (λ arc. arc.group + 1 < length groups.now.starts.items) table.now.arcs.items }
+    ensures { OnOk result (ArePartsOf room.now groups.now.starts.items groups.now.touches.items table.now.arcs.items (length table.now.arcs.items) parts.new.items) }
 {
     parts.clear();
     parts.reserve(table.arcs.len())?;
@@ -48,7 +53,7 @@ fn tell_table(parts: &mut Vec<ArcPart>, table: &BidTable<'_>, room: &Room) -> Re
     };
     for k in 0..table.arcs.len() {
         let arc = table.arcs[k];
-        last = tell_group(room, &table.groups, arc.group, last);
+        last = tell_group(room, groups, arc.group, last);
         parts.push(part_of(arc, last.has_room))?;
     }
     Ok(())
@@ -89,7 +94,12 @@ pub fn tell_parts<F: RowFamily>(
     let _ = inst.net.track_count();
     let _ = rows;
     let _ = node;
-    tell_table(parts, &kept.tables[number as usize], room)
+    tell_table(
+        parts,
+        &kept.columns.groups,
+        &kept.tables[number as usize],
+        room,
+    )
 }
 
 /// A room in which nothing is used. `NoMemory` is its only refusal.

@@ -1,46 +1,16 @@
 //! The price path of a node.
-ghost use Rattle.std.specs.Prelude.{◌≡◌, ◌≤◌, [], All, Contains, IfOk, OnOk, length};
+ghost use Rattle.std.specs.Prelude.{◌≡◌, ◌≤◌, All, Contains, IfOk, length};
 ghost use Rattle.optra_node.specs.Nodes.{IsNode};
-ghost use Rattle.optra_prices.specs.Steps.{AreProper};
-ghost use Rattle.optra_prices.specs.Terms.{setting};
-ghost use Rattle.optra_prices.specs.Courses.{prices_at, IsCourse, IsPriced, AreNumbered};
 ghost use Rattle.optra_prices.specs.Paths.{IsPathResult};
+ghost use Rattle.optra_prices.specs.Steps.{AreProper};
 
 use crate::Priced;
-use crate::courses::{Course, go_back, priced_at};
-use crate::following::{first_best, follow};
 use crate::keeping::{bring_to, keep_arcs, price_path_over};
 use optra_graph::Graphs;
 use optra_network::{Cents, NoMemory};
 use optra_node::{Node, Prices};
 use optra_walk::{Instance, RowFamily};
 use std::alloc::Global;
-
-/// Goes along the node's price path from zero prices, and comes back to its result.
-pub(crate) fn go_along<F: RowFamily>(
-    alloc: Global,
-    inst: Instance<'_>,
-    rows: &F,
-    node: &Node,
-    course: &mut Course<'_, F::Row>,
-    start: &Prices<F::Row>,
-    steps: u32,
-    incumbent: Cents,
-) -> Result<Priced<F::Row>, NoMemory>
-    requires few { length inst.bids.now ≤ 1000 }
-    requires node { IsNode inst.net.now (length inst.bids.now) node.now }
-    requires start { AreProper F.Row.cmp (F.rows_of rows.now inst.net.now) start.now }
-    requires priced { IsPriced F.Row.cmp (setting inst.net.now (F.rows_of rows.now inst.net.now) (F.rows_used rows.now inst.net.now) inst.bids.now node.now) course.old }
-    requires zero { prices_at course.old ≡ [] }
-    requires numbered { AreNumbered course.old start.now }
-    ensures course { OnOk result (IsCourse F.Row.cmp (setting inst.entry.net.now (F.rows_of rows.now inst.entry.net.now) (F.rows_used rows.now inst.entry.net.now) inst.entry.bids.now node.now) course.new) }
-    ensures path { IfOk result (λ priced. IsPathResult F.Row.cmp inst.entry.net.now (F.rows_of rows.now inst.entry.net.now) inst.entry.bids.now node.now start.now steps incumbent priced) }
-{
-    let mut best = first_best(alloc, course)?;
-    follow(inst, rows, node, course, &mut best, start, steps, incumbent)?;
-    go_back(inst, rows, node, course, &best.prices)?;
-    priced_at(alloc, inst, rows, node, course)
-}
 
 /// The result of the node's price path, with its dual value.
 ///

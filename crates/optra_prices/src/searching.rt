@@ -1,10 +1,16 @@
 //! The search of one bid's graph at prices of groups.
-ghost use Rattle.std.specs.Prelude.{◌≡◌, ◌⊎◌, true, false, length, All, IfOk, MatchBool, pos, ◌<ℤ◌, ◌≤ℤ◌};
-ghost use Rattle.optra_prices.specs.Arcs.{IsArcValue, IsFound};
-ghost use Rattle.optra_prices.specs.Tables.{allows_by, weight_by, IsGroupPrice};
+ghost use Rattle.std.specs.Prelude.{◌≡◌, ◌⊎◌, ◌*◌, ◌≤◌, ◌^◌, ℕ, true, false, List, length, All, IfOk, IfSome, IfNone, MatchBool, pos, neg_ℤ, ◌+ℤ◌, ◌<ℤ◌, ◌≤ℤ◌};
+ghost use Rattle.optra_bid.specs.Specs.{IsBetween};
+ghost use Rattle.optra_dag.specs.Paths.{IsPath, IsFirstBest};
+ghost use Rattle.optra_prices.specs.Arcs.{IsFound};
+ghost use Rattle.optra_prices.specs.Standings.{IsMost};
+ghost use Rattle.optra_prices.specs.Tables.{allows_by, weight_by, AreUpTo, AreWeighedTo, IsGroupPrice};
 
+use crate::group_prices::GroupPrices;
 use crate::numbering::ArcTerm;
-use optra_dag::{Buffers, Dag, Weight, first_best_in};
+use optra_dag::{
+    Buffers, Dag, FAR, NARROW_ROOM, NarrowWeight, Weight, first_best_in, is_narrow, narrow_best_in,
+};
 use optra_network::NoMemory;
 
 /// The arcs, and the prices of the groups that they touch.
@@ -35,6 +41,26 @@ impl Weight for Weights<'_> {
     }
 }
 
+impl NarrowWeight for Weights<'_> {
+    ghost use Rattle.std.specs.Prelude.{length};
+    ghost use Rattle.optra_prices.specs.Tables.{allows_by, narrow_weight_by};
+
+    ghost asked = { λ w. length w.arcs.now };
+
+    ghost allows = { λ w k. allows_by w.arcs.now k };
+
+    ghost weight = { λ w k. narrow_weight_by w.arcs.now w.grouped.now k };
+
+    fn of(&self, arc: u32) -> i64 {
+        let term = self.arcs[arc as usize];
+        if !term.allowed {
+            return FAR;
+        }
+        let price = self.grouped.get(term.group as usize).copied().unwrap_or(0);
+        term.value.wrapping_sub(price)
+    }
+}
+
 /// The term of a bid, and whether it is stuck.
 #[derive(Clone, Copy)]
 pub(crate) struct Outcome {
@@ -49,24 +75,76 @@ fn is_worth(forced: bool, sum: i128) -> bool
     forced || sum > 0
 }
 
+/// The most that an arc can weigh in size, by the values of arcs and the prices of groups.
+fn most_of(values: i64, prices: i64) -> u64
+    requires values { IsMost values }
+    requires prices { IsGroupPrice prices }
+    ensures { pos result ≡ values +ℤ prices }
+{
+    (values + prices) as u64
+}
+
+/// The first best path, in 64 bits.
+fn narrow_best(
+    buffers: &mut Buffers,
+    dag: &Dag,
+    weights: &Weights<'_>,
+    most: u64,
+) -> Result<Option<i128>, NoMemory>
+    requires count { length dag.now.arcs ≡ length weights.now.arcs.now }
+    requires weighed { AreWeighedTo most weights.now.arcs.now weights.now.grouped.now }
+    requires room { most * length dag.now.ends ≤ NARROW_ROOM }
+    ensures best { IfOk result (λ answer. IfSome answer (λ sum. IsFirstBest dag.now (allows_by weights.now.arcs.now) (weight_by weights.now.arcs.now weights.now.grouped.now) sum buffers.new)) }
+    ensures none { IfOk result (λ answer. IfNone answer ((path : List ℕ) → IsPath dag.now (allows_by weights.now.arcs.now) path → ⊥)) }
+{
+    let Some(sum) = narrow_best_in(buffers, dag, weights, most)? else {
+        return Ok(None);
+    };
+    Ok(Some(i128::from(sum)))
+}
+
+/// The first best path: in 64 bits where they hold all sums.
+fn best_in(
+    buffers: &mut Buffers,
+    dag: &Dag,
+    weights: &Weights<'_>,
+    most: u64,
+) -> Result<Option<i128>, NoMemory>
+    requires count { length dag.now.arcs ≡ length weights.now.arcs.now }
+    requires weighed { AreWeighedTo most weights.now.arcs.now weights.now.grouped.now }
+    ensures best { IfOk result (λ answer. IfSome answer (λ sum. IsFirstBest dag.now (allows_by weights.now.arcs.now) (weight_by weights.now.arcs.now weights.now.grouped.now) sum buffers.new)) }
+    ensures none { IfOk result (λ answer. IfNone answer ((path : List ℕ) → IsPath dag.now (allows_by weights.now.arcs.now) path → ⊥)) }
+{
+    if is_narrow(dag, most) {
+        narrow_best(buffers, dag, weights, most)
+    } else {
+        first_best_in(buffers, dag, weights)
+    }
+}
+
 /// Searches the graph for the first best path, and leaves it in `path`. The path is empty where no allowed path ends,
-/// and where the bid isn't forced to have a walk and none is worth anything.
+/// and where the bid isn't forced to have a walk and none is worth anything. No value of an arc exceeds `most` in size.
 pub(crate) fn search_bid(
     buffers: &mut Buffers,
     dag: &Dag,
     arcs: &[ArcTerm],
-    grouped: &[i64],
+    most: i64,
+    grouped: GroupPrices<'_>,
     forced: bool,
     path: &mut Vec<u32>,
 ) -> Result<Outcome, NoMemory>
     requires count { length dag.now.arcs ≡ length arcs.now }
-    requires arcs { All (λ arc. IsArcValue arc.value) arcs.now }
-    requires grouped { All IsGroupPrice grouped.now }
-    ensures { IfOk result (λ outcome. IsFound dag.now (allows_by arcs.now) (weight_by arcs.now grouped.now) forced path.new.items outcome.term outcome.stuck) }
+    requires most { IsMost most }
+    requires values { All (λ arc. IsBetween (neg_ℤ most) most arc.value) arcs.now }
+    requires grouped { AreUpTo grouped.most grouped.prices.now }
+    ensures { IfOk result (λ outcome. IsFound dag.now (allows_by arcs.now) (weight_by arcs.now grouped.entry.prices.now) forced path.new.items outcome.term outcome.stuck) }
 {
     path.clear();
-    let weights = Weights { arcs, grouped };
-    let Some(sum) = first_best_in(buffers, dag, &weights)? else {
+    let weights = Weights {
+        arcs,
+        grouped: grouped.prices,
+    };
+    let Some(sum) = best_in(buffers, dag, &weights, most_of(most, grouped.most))? else {
         return Ok(Outcome {
             term: 0,
             stuck: forced,

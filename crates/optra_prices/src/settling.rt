@@ -1,11 +1,14 @@
-//! What is known of the bids, brought up to date after prices changed.
-ghost use Rattle.std.specs.Prelude.{◌≡◌, All, IfOk, OnOk, List, ℤ};
-ghost use Rattle.optra_prices.specs.Tables.{IsRowPrice, IsGroupPrice, AreGroupPrices};
-ghost use Rattle.optra_prices.specs.Standings.{Stands, IsCopy, IsSound};
+//! What is known of one bid, brought up to date after prices changed or the node did.
+ghost use Rattle.std.specs.Prelude.{◌≡◌, All, IfOk, OnOk, List, ℤ, false, slice_index_or};
+ghost use Rattle.optra_prices.specs.Columns.{MarksTell, HasNotRisen};
+ghost use Rattle.optra_prices.specs.Holders.{HaveNotFallen};
 ghost use Rattle.optra_prices.specs.Keepings.{KeepsStanding};
+ghost use Rattle.optra_prices.specs.Tables.{AreUpTo, no_arc};
+ghost use Rattle.optra_prices.specs.Standings.{Stands, IsCopy, IsSound};
 
-use crate::grouping::refresh;
-use crate::numbering::{BidTable, Standing};
+use crate::columns::{Mark, mark_at};
+use crate::group_prices::GroupPrices;
+use crate::numbering::{ArcTerm, BidTable, Standing};
 use crate::searching::search_bid;
 use optra_dag::Buffers;
 use optra_network::NoMemory;
@@ -16,96 +19,59 @@ pub(crate) fn first_standing(
     alloc: Global,
     buffers: &mut Buffers,
     table: &BidTable<'_>,
-    prices: &[i64],
+    grouped: GroupPrices<'_>,
 ) -> Result<Standing, NoMemory>
-    requires prices { All IsRowPrice prices.now }
+    requires grouped { AreUpTo grouped.most grouped.prices.now }
     requires sound { IsSound table.now }
-    ensures { IfOk result (λ standing. Stands table.now prices.now standing) }
+    ensures { IfOk result (Stands table.now grouped.entry.prices.now) }
 {
-    let mut grouped = vec![in alloc; 0; table.groups.starts.len() - 1]?;
     let mut path = Vec::new(alloc);
-    let _ = refresh(prices, &table.groups, &mut grouped);
     let outcome = search_bid(
         buffers,
         table.graph.dag(),
         &table.arcs,
-        &grouped,
+        table.most,
+        grouped,
         table.forced,
         &mut path,
     )?;
     Ok(Standing {
-        grouped,
         path,
         term: outcome.term,
         stuck: outcome.stuck,
     })
 }
 
-/// A copy of numbers.
-fn copy_of<T: Copy>(alloc: Global, numbers: &[T]) -> Result<Vec<T>, NoMemory>
-    ensures { IfOk result (λ copy. copy.items ≡ numbers.now) }
-{
-    let mut copy = Vec::with_capacity(alloc, numbers.len())?;
-    copy.extend_from_slice(numbers)?;
-    Ok(copy)
-}
-
 /// A copy of what is known of a bid.
 pub(crate) fn copy_standing(alloc: Global, standing: &Standing) -> Result<Standing, NoMemory>
     ensures { IfOk result (IsCopy standing.now) }
 {
+    let mut path = Vec::with_capacity(alloc, standing.path.len())?;
+    path.extend_from_slice(&standing.path)?;
     Ok(Standing {
-        grouped: copy_of(alloc, &standing.grouped)?,
-        path: copy_of(alloc, &standing.path)?,
+        path,
         term: standing.term,
         stuck: standing.stuck,
     })
 }
 
-/// Searches the bid's graph again where a price of a row that one of its arcs touches has changed a leg's price; else
-/// what is known of it stands.
-pub(crate) fn update(
+/// Searches the bid's graph again.
+fn renew(
     buffers: &mut Buffers,
     table: &BidTable<'_>,
-    prices: &[i64],
-    standing: &mut Standing,
-) -> Result<(), NoMemory>
-    requires prices { All IsRowPrice prices.now }
-    requires sound { IsSound table.now }
-    requires before { (old : List ℤ) × Stands table.now old standing.old }
-    ensures { OnOk result (Stands table.now prices.now standing.new) }
-{
-    if !refresh(prices, &table.groups, &mut standing.grouped) {
-        return Ok(());
-    }
-    let outcome = search_bid(
-        buffers,
-        table.graph.dag(),
-        &table.arcs,
-        &standing.grouped,
-        table.forced,
-        &mut standing.path,
-    )?;
-    standing.term = outcome.term;
-    standing.stuck = outcome.stuck;
-    Ok(())
-}
-
-/// Searches the bid's graph again at the prices at which it is known, where which of its arcs may be taken has changed.
-pub(crate) fn renew(
-    buffers: &mut Buffers,
-    table: &BidTable<'_>,
+    grouped: GroupPrices<'_>,
     standing: &mut Standing,
 ) -> Result<(), NoMemory>
     requires sound { IsSound table.now }
-    requires range { All IsGroupPrice standing.old.grouped.items }
-    ensures { OnOk result ((prices : List ℤ) → AreGroupPrices prices table.now.groups.starts.items table.now.groups.touches.items standing.old.grouped.items → Stands table.now prices standing.new) }
+    requires grouped { AreUpTo grouped.most grouped.prices.now }
+    ensures { OnOk result (Stands table.now grouped.entry.prices.now standing.new) }
 {
     let outcome = search_bid(
         buffers,
         table.graph.dag(),
         &table.arcs,
-        &standing.grouped,
+        table.most,
+        grouped,
         table.forced,
         &mut standing.path,
     )?;
@@ -118,15 +84,56 @@ pub(crate) fn renew(
 pub(crate) fn renew_where(
     buffers: &mut Buffers,
     table: &BidTable<'_>,
+    grouped: GroupPrices<'_>,
     changed: bool,
     standing: &mut Standing,
 ) -> Result<(), NoMemory>
     requires sound { IsSound table.now }
-    requires range { All IsGroupPrice standing.old.grouped.items }
-    ensures { OnOk result (KeepsStanding changed table.now standing.old standing.new) }
+    requires grouped { AreUpTo grouped.most grouped.prices.now }
+    ensures { OnOk result (KeepsStanding changed table.now grouped.entry.prices.now standing.old standing.new) }
 {
     if !changed {
         return Ok(());
     }
-    renew(buffers, table, standing)
+    renew(buffers, table, grouped, standing)
+}
+
+/// The group of an arc.
+fn group_of(arcs: &[ArcTerm], k: u32) -> u32
+    ensures { result ≡ (slice_index_or arcs.now k no_arc).group }
+{
+    match arcs.get(k as usize) {
+        Some(arc) => arc.group,
+        None => 0,
+    }
+}
+
+/// Whether the price of an arc of the path rose.
+fn has_risen(marks: &[Mark], arcs: &[ArcTerm], path: &[u32]) -> bool
+    ensures { result ≡ false → All (λ k. HasNotRisen marks.now (slice_index_or arcs.now k no_arc).group) path.now }
+{
+    path.iter()
+        .any(|k| mark_at(marks, group_of(arcs, *k)) == Mark::Rose)
+}
+
+/// Searches the bid's graph again where a price of one of its groups fell, or one of an arc of its reply rose; else what
+/// is known of it stands: all other walks are worth what they were, or less.
+pub(crate) fn update(
+    buffers: &mut Buffers,
+    table: &BidTable<'_>,
+    grouped: GroupPrices<'_>,
+    marks: &[Mark],
+    fell: bool,
+    standing: &mut Standing,
+) -> Result<(), NoMemory>
+    requires grouped { AreUpTo grouped.most grouped.prices.now }
+    requires sound { IsSound table.now }
+    requires before { (old : List ℤ) × Stands table.now old standing.old × MarksTell old grouped.prices.now marks.now }
+    requires told { fell ≡ false → HaveNotFallen marks.now table.now.arcs.items }
+    ensures { OnOk result (Stands table.now grouped.entry.prices.now standing.new) }
+{
+    if !fell && !has_risen(marks, &table.arcs, &standing.path) {
+        return Ok(());
+    }
+    renew(buffers, table, grouped, standing)
 }

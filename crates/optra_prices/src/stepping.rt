@@ -6,9 +6,9 @@ ghost use Rattle.optra_walk.specs.Choices.{IsChoice};
 ghost use Rattle.optra_prices.specs.Steps.{AreProper, IsStep, greatest_base, step_length, price_within, next_price};
 ghost use Rattle.optra_prices.specs.Holdings.{stepped, next_held};
 
-use crate::duals::entries;
 use crate::holding::Held;
 use crate::using::{add_replies, priced_rows};
+use crate::valuing::entries;
 use optra_bid::Bid;
 use optra_network::{Network, NoMemory};
 use optra_node::Prices;

@@ -1,17 +1,16 @@
 //! The arcs of bids' graphs, and what they add and touch.
 //!
 //! It is the same at all nodes. Which arcs may be taken at a node is told afterwards, see `allowing`.
-ghost use Rattle.std.specs.Prelude.{◌≡◌, ◌<◌, true, All, IfSome, IfOk, OnOk, length};
+ghost use Rattle.std.specs.Prelude.{◌≡◌, ◌<◌, IfOk, OnOk, length, All, pos, neg_ℤ, ◌≤ℤ◌};
+ghost use Rattle.optra_bid.specs.Specs.{IsBetween};
 ghost use Rattle.optra_graph.specs.Timed.{IsGraphOf};
 ghost use Rattle.optra_prices.specs.Arcs.{start_value, leg_value, IsArcValue};
-ghost use Rattle.optra_prices.specs.Sharings.{HaveGroups, IsEntered};
-ghost use Rattle.optra_prices.specs.Tables.{IsNumbering, Extends, AreGroups, KeepsGroups};
+ghost use Rattle.optra_prices.specs.Makings.{IsMaking, Grows};
+ghost use Rattle.optra_prices.specs.Standings.{Covers, IsMost};
 ghost use Rattle.optra_prices.specs.Terms.{IsTerm, AreArcs};
 
-use crate::grouping::empty_groups;
-use crate::hinting::Hint;
-use crate::numbering::{ArcTerm, BidTable, Groups, Numbering};
-use crate::sharing::{Entered, leg_group};
+use crate::making::{Making, leg_group};
+use crate::numbering::{ArcTerm, BidTable};
 use crate::weighing::{leg_value, start_value};
 use optra_bid::Bid;
 use optra_graph::TimeGraph;
@@ -52,98 +51,72 @@ fn leg_term(net: &Network, bid: &Bid, leg: Leg, group: u32) -> ArcTerm
     }
 }
 
-/// The arc at a place, with a group for its leg, which is entered as the last one.
+/// The arc at a place, with a group for its leg.
 fn term_at<F: RowFamily>(
     net: &Network,
     rows: &F,
     bid: &Bid,
     graph: &TimeGraph,
-    numbering: &mut Numbering<F::Row>,
-    tables: &[BidTable<'_>],
-    groups: &mut Groups,
-    hints: &mut Vec<Hint>,
-    last: &mut Option<Entered>,
+    making: &mut Making<F::Row>,
     k: u32,
 ) -> Result<ArcTerm, NoMemory>
     requires graph { IsGraphOf net.now bid.now.path graph.now }
     requires within { k < length graph.now.dag.arcs }
-    requires numbering { IsNumbering F.Row.cmp numbering.old.numbers numbering.old.rows.items }
-    requires rows { All (λ row. (F.rows_of rows.now net.now).is_row row ≡ true) numbering.old.rows.items }
-    requires tables { HaveGroups tables.now }
-    requires groups { AreGroups groups.old.starts.items groups.old.touches.items }
-    requires last { IfSome last.old (IsEntered net.now (F.rows_of rows.now net.now) (F.rows_used rows.now net.now) bid.now.path.kind numbering.old groups.old) }
-    ensures numbering { OnOk result (IsNumbering F.Row.cmp numbering.new.numbers numbering.new.rows.items) }
-    ensures rows { OnOk result (All (λ row. (F.rows_of rows.now net.now).is_row row ≡ true) numbering.new.rows.items) }
-    ensures extends { OnOk result (Extends numbering.old.rows.items numbering.new.rows.items) }
-    ensures groups { OnOk result (AreGroups groups.new.starts.items groups.new.touches.items) }
-    ensures keeps { OnOk result (KeepsGroups groups.old.starts.items groups.old.touches.items groups.new.starts.items groups.new.touches.items) }
-    ensures last { OnOk result (IfSome last.new (IsEntered net.now (F.rows_of rows.now net.now) (F.rows_used rows.now net.now) bid.now.path.kind numbering.new groups.new)) }
-    ensures term { IfOk result (λ arc. IsTerm net.now (F.rows_of rows.now net.now) (F.rows_used rows.now net.now) bid.now graph.now numbering.new.rows.items groups.new.starts.items groups.new.touches.items k arc) }
+    requires making { IsMaking F.Row.cmp net.now (F.rows_of rows.now net.now) (F.rows_used rows.now net.now) making.old }
+    ensures making { OnOk result (IsMaking F.Row.cmp net.now (F.rows_of rows.now net.now) (F.rows_used rows.now net.now) making.new) }
+    ensures grows { OnOk result (Grows making.old making.new) }
+    ensures term { IfOk result (λ arc. IsTerm net.now (F.rows_of rows.now net.now) (F.rows_used rows.now net.now) bid.now graph.now making.new.numbering.rows.items making.new.groups.starts.items making.new.groups.touches.items k arc) }
 {
     let _ = net.track_count();
     let Some(leg) = graph.leg(k) else {
         let minute = graph.start(k).unwrap_or(0);
         return Ok(start_term(bid, minute));
     };
-    let group = leg_group(
-        net,
-        rows,
-        numbering,
-        tables,
-        groups,
-        hints,
-        *last,
-        kind_of(bid),
-        leg,
-    )?;
-    *last = Some(Entered { leg, group });
+    let group = leg_group(net, rows, making, kind_of(bid), leg)?;
     Ok(leg_term(net, bid, leg, group))
 }
 
-/// All arcs of the bid's graph, none of which may be taken yet. Groups of the tables before may serve again.
+/// The greater of a number and of the size of a value.
+fn widened(most: i64, value: i64) -> i64
+    requires most { IsMost most }
+    requires value { IsArcValue value }
+    ensures range { IsMost result }
+    ensures before { most ≤ℤ result }
+    ensures value { IsBetween (neg_ℤ result) result value }
+{
+    let size = if value < 0 { -value } else { value };
+    most.max(size)
+}
+
+/// All arcs of the bid's graph, none of which may be taken yet.
 pub(crate) fn bid_table<'g, F: RowFamily>(
     alloc: Global,
     net: &Network,
     rows: &F,
     bid: &Bid,
     graph: &'g TimeGraph,
-    numbering: &mut Numbering<F::Row>,
-    tables: &[BidTable<'_>],
-    hints: &mut Vec<Hint>,
+    making: &mut Making<F::Row>,
 ) -> Result<BidTable<'g>, NoMemory>
     requires graph { IsGraphOf net.now bid.now.path graph.now }
-    requires numbering { IsNumbering F.Row.cmp numbering.old.numbers numbering.old.rows.items }
-    requires rows { All (λ row. (F.rows_of rows.now net.now).is_row row ≡ true) numbering.old.rows.items }
-    requires tables { HaveGroups tables.now }
-    ensures numbering { OnOk result (IsNumbering F.Row.cmp numbering.new.numbers numbering.new.rows.items) }
-    ensures rows { OnOk result (All (λ row. (F.rows_of rows.now net.now).is_row row ≡ true) numbering.new.rows.items) }
-    ensures extends { OnOk result (Extends numbering.old.rows.items numbering.new.rows.items) }
-    ensures table { IfOk result (λ table. AreArcs net.now (F.rows_of rows.now net.now) (F.rows_used rows.now net.now) bid.now table.graph.now numbering.new.rows.items table.arcs.items table.groups.starts.items table.groups.touches.items) }
+    requires making { IsMaking F.Row.cmp net.now (F.rows_of rows.now net.now) (F.rows_used rows.now net.now) making.old }
+    ensures making { OnOk result (IsMaking F.Row.cmp net.now (F.rows_of rows.now net.now) (F.rows_used rows.now net.now) making.new) }
+    ensures grows { OnOk result (Grows making.old making.new) }
+    ensures table { IfOk result (λ table. AreArcs net.now (F.rows_of rows.now net.now) (F.rows_used rows.now net.now) bid.now table.graph.now making.new.numbering.rows.items table.arcs.items making.new.groups.starts.items making.new.groups.touches.items) }
+    ensures covers { IfOk result (λ table. Covers table.most table.arcs.items) }
 {
     let count = graph.dag().arcs();
-    let mut groups = empty_groups(alloc)?;
-    let mut last = None;
+    let mut most = 0;
     let mut arcs = Vec::new(alloc);
     arcs.reserve_exact(count as usize)?;
     for k in 0..count {
-        let term = term_at(
-            net,
-            rows,
-            bid,
-            graph,
-            numbering,
-            tables,
-            &mut groups,
-            hints,
-            &mut last,
-            k,
-        )?;
+        let term = term_at(net, rows, bid, graph, making, k)?;
+        most = widened(most, term.value);
         arcs.push(term)?;
     }
     Ok(BidTable {
         graph,
         arcs,
-        groups,
+        most,
         forced: false,
     })
 }

@@ -1,13 +1,12 @@
 //! What legs touch, by the numbers of rows.
-ghost use Rattle.std.specs.Prelude.{◌≡◌, ◌⊎◌, true, ◌++◌, ◌∷◌, [], All, Some, IfOk, OnOk, slice_get};
+ghost use Rattle.std.specs.Prelude.{◌≡◌, ◌⊎◌, true, ◌++◌, ◌∷◌, [], All, Some, IfOk, OnOk, length, slice_get};
 ghost use Rattle.optra_walk.specs.Families.{IsUsable};
-ghost use Rattle.optra_prices.specs.Tables.{IsNumbering, Extends, IsTouch, AreTouches, AddsTouches};
+ghost use Rattle.optra_prices.specs.Tables.{IsNumbering, Extends, AddsTouches};
 
 use crate::numbering::{Numbering, Touch};
 use optra_network::{Network, NoMemory, TypeId};
 use optra_walk::{Leg, RowFamily};
 use std::alloc::AllocError;
-use std::cmp::Ordering;
 
 /// The number of the row, which gets the next one where it has none. There is room for 4,294,967,296 numbers.
 pub(crate) fn number<F: RowFamily>(
@@ -17,6 +16,7 @@ pub(crate) fn number<F: RowFamily>(
     requires { IsNumbering F.Row.cmp numbering.old.numbers numbering.old.rows.items }
     ensures numbering { OnOk result (IsNumbering F.Row.cmp numbering.new.numbers numbering.new.rows.items) }
     ensures grows { OnOk result ((numbering.new.rows.items ≡ numbering.old.rows.items) ⊎ (numbering.new.rows.items ≡ numbering.old.rows.items ++ row ∷ [])) }
+    ensures same { OnOk result (length numbering.new.rows.items ≡ length numbering.old.rows.items → numbering.new ≡ numbering.old) }
     ensures number { IfOk result (λ n. slice_get numbering.new.rows.items n ≡ Some row) }
 {
     if let Some(number) = numbering.numbers.get(&row) {
@@ -60,56 +60,4 @@ pub(crate) fn push_touches<F: RowFamily>(
         })?;
     }
     Ok(())
-}
-
-/// Whether the row has the number.
-fn is_numbered<F: RowFamily>(numbered: &[F::Row], number: u32, row: F::Row) -> bool
-    ensures { result ≡ true → slice_get numbered.now number ≡ Some row }
-{
-    match numbered.get(number as usize) {
-        Some(known) => known.cmp(&row) == Ordering::Equal,
-        None => false,
-    }
-}
-
-/// Whether the touch is of the row, with the leg's use of it.
-fn is_touch<F: RowFamily>(
-    net: &Network,
-    rows: &F,
-    numbered: &[F::Row],
-    touch: Touch,
-    kind: TypeId,
-    leg: Leg,
-    row: F::Row,
-) -> bool
-    requires { IsUsable net.now kind leg }
-    ensures { result ≡ true → IsTouch numbered.now ((F.rows_of rows.now net.now).uses kind leg) touch row }
-{
-    is_numbered::<F>(numbered, touch.row, row) && touch.uses == rows.leg_use(net, kind, leg, row)
-}
-
-/// Whether the touches are exactly what the leg touches.
-pub(crate) fn touches_same<F: RowFamily>(
-    net: &Network,
-    rows: &F,
-    numbered: &[F::Row],
-    touches: &[Touch],
-    kind: TypeId,
-    leg: Leg,
-) -> bool
-    requires { IsUsable net.now kind leg }
-    ensures { result ≡ true → AreTouches numbered.now ((F.rows_of rows.now net.now).uses kind leg) touches.now (F.rows_used rows.now net.now kind leg) }
-{
-    for k in 0..8192 {
-        let Some(row) = rows.touched(net, kind, leg, k) else {
-            return touches.len() == k as usize;
-        };
-        let Some(touch) = touches.get(k as usize) else {
-            return false;
-        };
-        if !is_touch(net, rows, numbered, *touch, kind, leg, row) {
-            return false;
-        }
-    }
-    false
 }

@@ -1,5 +1,5 @@
 //! Dual values and replies of what stands.
-ghost use Rattle.std.specs.Prelude.{◌≡◌, ◌≤◌, [], List, ℤ, All, IfOk, length, replicate, pos, ◌*ℤ◌, ◌+ℤ◌};
+ghost use Rattle.std.specs.Prelude.{◌≡◌, ◌≤◌, [], List, ℤ, All, IfOk, OnOk, ◌<◌, ◌^◌, length, replicate, pos, ◌+ℤ◌};
 ghost use Rattle.std.specs.List.{list_any};
 ghost use Rattle.optra_bid.specs.Specs.{IsBetween};
 ghost use Rattle.optra_node.specs.Duals.{sum_of};
@@ -7,23 +7,19 @@ ghost use Rattle.optra_node.specs.Certificates.{AreAscending};
 ghost use Rattle.optra_graph.specs.Timed.{IsRoute};
 ghost use Rattle.optra_prices.specs.Arcs.{path_reply};
 ghost use Rattle.optra_prices.specs.Tables.{IsNumbering, IsRowPrice};
-ghost use Rattle.optra_prices.specs.Standings.{Agrees, IsTermSize, value_of, terms_of, replies_of, AllStand, SetsPrice};
+ghost use Rattle.optra_prices.specs.Standings.{Agrees, IsTermSize, value_of, terms_of, replies_of, AllStand, SetsPrice, valuation_of};
+ghost use Rattle.optra_prices.specs.Columns.{IsColumns, PricesAllButDue};
+ghost use Rattle.optra_prices.specs.Levels.{IsLevels, KeepsUses};
 
+use crate::Dual;
+use crate::columns::Columns;
+use crate::levels::{Levels, set_price};
 use crate::numbering::{BidTable, Numbering, Standing};
 use optra_graph::TimeGraph;
 use optra_network::NoMemory;
+use optra_node::Prices;
 use optra_walk::{RowFamily, Walk};
 use std::alloc::Global;
-
-/// A price times a capacity.
-pub(crate) fn capacity_product(price: i64, capacity: u32) -> i128
-    requires price { IsRowPrice price }
-    requires capacity { capacity ≤ 65535 }
-    ensures value { result ≡ price *ℤ pos capacity }
-    ensures range { IsBetween (pos 0) (pos 131070000000000000) result }
-{
-    i128::from(price) * i128::from(capacity)
-}
 
 /// Whether some bid is stuck.
 fn any_stuck(standings: &[Standing]) -> bool
@@ -71,7 +67,11 @@ pub(crate) fn terms(alloc: Global, standings: &[Standing]) -> Result<Vec<i128>, 
 }
 
 /// The walk of a path; none where the path is empty.
-fn reply(alloc: Global, graph: &TimeGraph, path: &[u32]) -> Result<Option<Walk>, NoMemory>
+pub(crate) fn reply(
+    alloc: Global,
+    graph: &TimeGraph,
+    path: &[u32],
+) -> Result<Option<Walk>, NoMemory>
     requires { (path.now ≡ [] → ⊥) → IsRoute graph.now path.now }
     ensures { IfOk result (λ reply. reply ≡ path_reply graph.now path.now) }
 {
@@ -88,7 +88,7 @@ pub(crate) fn replies(
     tables: &[BidTable<'_>],
     standings: &[Standing],
 ) -> Result<Vec<Option<Walk>>, NoMemory>
-    requires { (prices : List ℤ) × AllStand tables.now prices standings.now }
+    requires { (grouped : List ℤ) × AllStand tables.now grouped standings.now }
     ensures { IfOk result (λ replies. replies.items ≡ replies_of tables.now standings.now) }
 {
     let mut replies = Vec::with_capacity(alloc, tables.len())?;
@@ -103,33 +103,84 @@ pub(crate) fn replies(
 /// Sets the listed prices of rows that have numbers, where all prices were 0.
 pub(crate) fn put_prices<F: RowFamily>(
     numbering: &Numbering<F::Row>,
-    prices: &mut Vec<i64>,
+    levels: &mut Levels,
+    columns: &mut Columns,
     entries: &[(F::Row, i64)],
-)
+) -> Result<(), NoMemory>
     requires numbering { IsNumbering F.Row.cmp numbering.now.numbers numbering.now.rows.items }
+    requires levels { IsLevels levels.old }
+    requires columns { IsColumns columns.old.groups columns.old }
+    requires due { PricesAllButDue levels.old.prices.items columns.old }
     requires ascending { AreAscending F.Row.cmp entries.now }
     requires range { All (λ entry. IsRowPrice entry.1) entries.now }
-    requires zero { prices.old.items ≡ replicate (length numbering.now.rows.items) (pos 0) }
-    ensures agrees { Agrees F.Row.cmp numbering.now.rows.items prices.new.items entries.now }
-    ensures range { All IsRowPrice prices.new.items }
-    ensures count { length prices.new.items ≡ length numbering.now.rows.items }
+    requires zero { levels.old.prices.items ≡ replicate (length numbering.now.rows.items) (pos 0) }
+    ensures agrees { OnOk result (Agrees F.Row.cmp numbering.now.rows.items levels.new.prices.items entries.now) }
+    ensures levels { OnOk result (IsLevels levels.new) }
+    ensures columns { OnOk result (IsColumns columns.old.groups columns.new) }
+    ensures due { OnOk result (PricesAllButDue levels.new.prices.items columns.new) }
+    ensures grouped { OnOk result (columns.new.grouped ≡ columns.old.grouped) }
+    ensures rest { OnOk result (KeepsUses levels.old levels.new) }
+    ensures count { OnOk result (length levels.new.prices.items ≡ length numbering.now.rows.items) }
 {
     for entry in entries {
-        put_row_price::<F>(numbering, prices, *entry);
+        put_row_price::<F>(numbering, levels, columns, *entry)?;
     }
+    Ok(())
 }
 
 /// Sets the price of a row, where the row has a number.
 fn put_row_price<F: RowFamily>(
     numbering: &Numbering<F::Row>,
-    prices: &mut Vec<i64>,
+    levels: &mut Levels,
+    columns: &mut Columns,
     entry: (F::Row, i64),
-)
+) -> Result<(), NoMemory>
     requires numbering { IsNumbering F.Row.cmp numbering.now.numbers numbering.now.rows.items }
-    requires count { length prices.old.items ≡ length numbering.now.rows.items }
-    ensures { SetsPrice F.Row.cmp numbering.now.rows.items entry prices.old.items prices.new.items }
+    requires levels { IsLevels levels.old }
+    requires columns { IsColumns columns.old.groups columns.old }
+    requires due { PricesAllButDue levels.old.prices.items columns.old }
+    requires price { IsRowPrice entry.1 }
+    requires count { length levels.old.prices.items ≡ length numbering.now.rows.items }
+    ensures prices { OnOk result (SetsPrice F.Row.cmp numbering.now.rows.items entry levels.old.prices.items levels.new.prices.items) }
+    ensures levels { OnOk result (IsLevels levels.new) }
+    ensures columns { OnOk result (IsColumns columns.old.groups columns.new) }
+    ensures due { OnOk result (PricesAllButDue levels.new.prices.items columns.new) }
+    ensures grouped { OnOk result (columns.new.grouped ≡ columns.old.grouped) }
+    ensures rest { OnOk result (KeepsUses levels.old levels.new) }
 {
     if let Some(number) = numbering.numbers.get(&entry.0) {
-        prices[*number as usize] = entry.1;
+        set_price(levels, columns, *number, entry.1)?;
     }
+    Ok(())
+}
+
+/// The entries of prices.
+pub(crate) fn entries<R>(prices: &Prices<R>) -> &[(R, i64)]
+    ensures value { result.now ≡ prices.now }
+    ensures few { length result.now < 2 ^ 63 }
+{
+    &prices.entries
+}
+
+/// The dual value, the replies and the terms of what stands.
+pub(crate) fn assemble(
+    alloc: Global,
+    capacity: i128,
+    tables: &[BidTable<'_>],
+    standings: &[Standing],
+) -> Result<Dual, NoMemory>
+    requires capacity { IsBetween (pos 0) (pos 2417851639229258349412352000000000000) capacity }
+    requires few { length standings.now ≤ 1000 }
+    requires small { All (λ standing. IsTermSize standing.term) standings.now }
+    requires stand { (grouped : List ℤ) × AllStand tables.now grouped standings.now }
+    ensures { IfOk result (λ dual. dual ≡ valuation_of capacity tables.now standings.now) }
+{
+    let value = dual_value(capacity, standings);
+    let replies = replies(alloc, tables, standings)?;
+    let terms = terms(alloc, standings)?;
+    Ok(Dual {
+        value,
+        replies,
+        terms,
+    })
 }

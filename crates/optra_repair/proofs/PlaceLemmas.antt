@@ -1,5 +1,5 @@
 -- The paths of arcs that may be taken are the placeable walks, and the first best path is the first worthiest walk.
-use Rattle.std.proofs.Common.{◌≡◌, ℕ, ◌<◌, true, List, [], ◌∷◌, map, length, None, Some, refl, sym, ap, ◌∙◌, subst, arith}
+use Rattle.std.proofs.Common.{◌≡◌, ℕ, ◌<◌, true, List, [], ◌∷◌, map, length, Option, None, Some, refl, sym, ap, ◌∙◌, subst, arith}
 use Rattle.std.specs.Prelude.{All, ℤ, pos, ◌*ℤ◌, ◌≤ℤ◌, ◌<ℤ◌}
 use Rattle.std.specs.Ordering.{is_gt}
 use Rattle.std.proofs.lemmas.Int.{ints}
@@ -20,15 +20,14 @@ use Rattle.optra_node.specs.Spans.{IsLegOk}
 use Rattle.optra_node.proofs.SumLemmas.{sum_of-cons}
 use Rattle.optra_rows.specs.Loads.{HasRoom}
 use Rattle.optra_prices.specs.Arcs.{leg_value}
-use Rattle.optra_prices.specs.Repairs.{FitBeside, IsPlaceable, IsFirstWorthiest, IsGiven}
+use Rattle.optra_prices.specs.Repairs.{IsPlaceable, IsFirstWorthiest}
 use Rattle.optra_prices.proofs.ArcLemmas.{leads_on, leads_back, leads_within, leg_there}
-use Rattle.optra_prices.proofs.RepairLemmas.{worthiest_unique}
 use Rattle.optra_prices.proofs.ValueLemmas.{walk_sum}
 use Rattle.optra_prices.specs.declared.parts.ArcPart.{ArcPart}
 use Rattle.optra_prices.specs.Parts.{AreParts}
 use Rattle.optra_repair.specs.Parts.{allows_at, weight_at, IsWorthWalk}
-use Rattle.optra_repair.specs.Placings.{AreTotals, AreWithin, HaveRoom}
-use Rattle.optra_repair.proofs.RoomLemmas.{room_fits, whole_fits}
+use Rattle.optra_repair.specs.Placings.{AreTotals, AreWithin, IsWorthiest}
+use Rattle.optra_repair.proofs.RoomLemmas.{room_fits}
 use Rattle.optra_repair.proofs.WorthLemmas.{path_route}
 
 module _ {R : Type 0} (net : Net) (proper : IsProper net) (rows : Rows R) (bids : List Bid) (law : TestsTellAllowed net rows bids) (node : List Decision) (number : ℕ) (bid : Bid) (t : Timed) (is_graph : IsGraphOf net bid.path t)
@@ -140,27 +139,22 @@ module _ {R : Type 0} (net : Net) (proper : IsProper net) (rows : Rows R) (bids 
           worth,
         )
 
-    -- where no path is worth anything, nothing is given
-    pub none_given : IsWorthWalk t parts None → IsGiven net rows bids node placed number bid None
-    none_given most legs worthiest kept =
-        let p = placeable_path legs worthiest.placeable in
+    -- where no path is worth anything, no placeable walk is
+    pub none_worthiest : IsWorthWalk t parts None → IsWorthiest net rows bids node placed number bid None
+    none_worthiest most legs placeable =
+        let p = placeable_path legs placeable in
         let m = most p.0 p.1 in
         let same = route_weight p.0 p.2 ∙ ap (λ (legs : List Leg). pos 1000 *ℤ value_of net bid.path bid.money legs) p.3 in
-        let e = kept.earns in
-        absurd (omega (arith, ints))
+        omega (arith, ints)
 
-    -- where the legs have room together, the walk is given
-    pub walk_given : (legs : List Leg) → IsWorthWalk t parts (Some legs) → HaveRoom rows total bid.path.kind legs → IsGiven net rows bids node placed number bid (Some legs)
-    walk_given legs (path, sum, best, above, e) room =
+    -- else its walk is the first worthiest
+    pub some_worthiest : (legs : List Leg) → IsWorthWalk t parts (Some legs) → IsWorthiest net rows bids node placed number bid (Some legs)
+    some_worthiest legs (path, sum, best, above, e) =
         let b = best_worthiest path sum best in
-        let earns : pos 0 <ℤ value_of net bid.path bid.money (walk_of t path) = let w = b.1 in omega (arith, ints) in (
-          subst (IsFirstWorthiest net rows bids node placed number bid) (sym e) b.0,
-          record { earns = subst (λ (l : List Leg). pos 0 <ℤ value_of net bid.path bid.money l) (sym e) earns; fits = (whole_fits rows placed total totals bid.path.kind legs).0 room },
-        )
+        let earns : pos 0 <ℤ value_of net bid.path bid.money (walk_of t path) = let w = b.1 in omega (arith, ints) in
+        subst (λ (l : List Leg). IsWorthiest net rows bids node placed number bid (Some l)) (sym e) (b.0, earns)
 
-    -- where they don't, nothing is given
-    pub refused : (legs : List Leg) → IsWorthWalk t parts (Some legs) → (HaveRoom rows total bid.path.kind legs → ⊥) → IsGiven net rows bids node placed number bid None
-    refused legs (path, sum, best, above, e) none other worthiest kept =
-        let b = best_worthiest path sum best in
-        let same : walk_of t path ≡ other = worthiest_unique net rows bids node placed number bid (walk_of t path) other b.0 worthiest in
-        none ((whole_fits rows placed total totals bid.path.kind legs).1 (subst (FitBeside rows placed bid.path.kind) (sym (e ∙ same)) kept.fits))
+    -- so what the search leaves is the worthiest
+    pub worth_worthiest : (walk : Option (List Leg)) → IsWorthWalk t parts walk → IsWorthiest net rows bids node placed number bid walk
+    worth_worthiest None is = none_worthiest is
+    worth_worthiest (Some legs) is = some_worthiest legs is

@@ -1,6 +1,6 @@
 -- What a search over the parts of arcs leaves.
-use Rattle.std.proofs.Common.{◌≡◌, ℕ, List, None, Some, arith, subst, sym}
-use Rattle.std.specs.Prelude.{ℤ, pos, ◌≤ℤ◌, ◌<ℤ◌}
+use Rattle.std.proofs.Common.{◌≡◌, ℕ, List, Option, None, Some, arith, subst, sym}
+use Rattle.std.specs.Prelude.{ℤ, pos, ◌≤ℤ◌, ◌<ℤ◌, IfSome}
 use Rattle.std.proofs.lemmas.Int.{ints}
 use Rattle.optra_network.specs.Net.{Net}
 use Rattle.optra_bid.specs.Specs.{Path}
@@ -39,3 +39,8 @@ module _ (t : Timed) (dag : Graph) (parts : List ArcPart) (same : dag ≡ t.dag)
 -- it is a walk of the bid
 pub worth_is_walk : (net : Net) (path : Path) (t : Timed) (parts : List ArcPart) (legs : List Leg) → IsGraphOf net path t → IsWorthWalk t parts (Some legs) → IsWalk net path legs
 worth_is_walk net path t parts legs is_graph (arcs, total, best, above, e) = subst (IsWalk net path) (sym e) (is_graph.sound arcs (path_route t parts arcs best.path))
+
+-- what is left is a walk of the bid, or nothing
+pub worth_if_walk : (net : Net) (path : Path) (t : Timed) (parts : List ArcPart) (walk : Option (List Leg)) → IsGraphOf net path t → IsWorthWalk t parts walk → IfSome walk (IsWalk net path)
+worth_if_walk net path t parts None is_graph is = tt
+worth_if_walk net path t parts (Some legs) is_graph is = worth_is_walk net path t parts legs is_graph is

@@ -6,5 +6,6 @@ mod keeping;
 mod placing;
 mod repairing;
 mod taking;
+mod worth;
 
 pub use repairing::{repair, repair_over};

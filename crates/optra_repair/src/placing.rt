@@ -7,38 +7,22 @@ ghost use Rattle.optra_prices.specs.Parts.{IsRoomIn};
 ghost use Rattle.optra_prices.specs.Repairs.{IsGiven};
 ghost use Rattle.optra_repair.specs.Placings.{AreTotals, AreWithin, AddsWalk};
 
-use crate::finding::worth_walk;
-use crate::keeping::{keep, take_up_all};
+use crate::keeping::{each_fits, legs_of, put};
+use crate::worth::{Lent, best_allowed, worthiest};
 use optra_bid::Bid;
-use optra_dag::Buffers;
 use optra_network::{NoMemory, TypeId};
-use optra_node::{Node, tests_tell_allowed};
-use optra_prices::keeping::ArcTables;
-use optra_prices::parts::{ArcPart, graph_of, tell_parts};
+use optra_node::Node;
+use optra_prices::ArcTables;
 use optra_prices::rooms::Room;
 use optra_rows::Load;
-use optra_walk::{Instance, Leg, RowFamily, Walk};
+use optra_walk::{Instance, RowFamily, Walk};
 use std::alloc::Global;
-
-/// What one search lends to the next: the parts of the arcs, and the arrays of the search.
-#[derive(Drop)]
-pub(crate) struct Lent {
-    pub(crate) parts: Vec<ArcPart>,
-    pub(crate) buffers: Buffers,
-}
 
 /// The train type of a bid.
 fn kind_of(bid: &Bid) -> TypeId
     ensures { result ≡ bid.now.path.kind }
 {
     bid.path.kind
-}
-
-/// The legs of a walk.
-fn legs_of(walk: &Walk) -> &[Leg]
-    ensures { result.now ≡ walk.now }
-{
-    &walk.legs
 }
 
 /// Gives the bid the first of its walks of greatest value, of those allowed of which each leg has room, where it is worth
@@ -64,15 +48,15 @@ pub(crate) fn place<F: RowFamily>(
     ensures room { OnOk result (IsRoomIn (F.rows_of rows.now inst.entry.net.now) kept.now (total_of F.Row.cmp load.new.totals) room.new) }
 {
     let _ = inst.net.track_count();
-    tests_tell_allowed(inst, rows);
-    let graph = graph_of(inst, rows, kept, number);
-    tell_parts(&mut lent.parts, inst, rows, node, kept, room, number)?;
-    let Some(walk) = worth_walk(alloc, &mut lent.buffers, graph, &lent.parts)? else {
+    let kind = kind_of(bid);
+    let Some(best) = best_allowed(alloc, inst, rows, node, kept, number)? else {
         return Ok(None);
     };
-    if !keep(load, inst.net, rows, kind_of(bid), legs_of(&walk))? {
-        return Ok(None);
+    if each_fits(load, inst.net, rows, kind, legs_of(&best)) {
+        return put(load, room, inst, rows, kept, kind, best);
     }
-    take_up_all(room, inst, rows, kept, kind_of(bid), legs_of(&walk))?;
-    Ok(Some(walk))
+    let Some(walk) = worthiest(lent, room, inst, rows, node, kept, number)? else {
+        return Ok(None);
+    };
+    put(load, room, inst, rows, kept, kind, walk)
 }

@@ -7,16 +7,17 @@ ghost use Rattle.optra_node.specs.Nodes.{IsNode};
 ghost use Rattle.optra_prices.specs.Keepings.{AreKeptAt};
 ghost use Rattle.optra_prices.specs.Repairs.{IsRepair, GivesInTurn, empty_choice};
 
-use crate::placing::{Lent, place};
+use crate::placing::place;
 use crate::taking::taking_order;
+use crate::worth::Lent;
 use optra_bid::Bid;
 use optra_dag::Buffers;
 use optra_graph::Graphs;
 use optra_network::NoMemory;
 use optra_node::Node;
-use optra_prices::Dual;
-use optra_prices::keeping::{ArcTables, bring_to, keep_arcs};
+use optra_prices::keeping::{bring_to, keep_arcs};
 use optra_prices::parts::free_room;
+use optra_prices::{ArcTables, Dual};
 use optra_rows::Load;
 use optra_walk::{Choice, Instance, RowFamily, Walk};
 use std::alloc::Global;
@@ -46,6 +47,7 @@ fn place_all<F: RowFamily>(
     let mut load = Load::new(alloc);
     let mut room = free_room(alloc, inst, rows, kept)?;
     let mut lent = Lent {
+        alloc,
         parts: Vec::new(alloc),
         buffers: Buffers::new(alloc),
     };

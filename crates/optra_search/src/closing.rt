@@ -10,7 +10,8 @@ use crate::settling::{whole_cents, zero_prices};
 use crate::waiting::{Waiting, enter};
 use optra_network::NoMemory;
 use optra_node::Prices;
-use optra_prices::keeping::{ArcTables, bring_to, dual_over};
+use optra_prices::ArcTables;
+use optra_prices::keeping::{bring_to, dual_over};
 use optra_walk::{Instance, RowFamily};
 use std::alloc::Global;
 

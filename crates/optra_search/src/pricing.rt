@@ -21,8 +21,8 @@ use crate::{Limits, Repairer};
 use optra_graph::Graphs;
 use optra_network::{Cents, NoMemory};
 use optra_node::{Node, Prices};
-use optra_prices::keeping::{ArcTables, price_path_over};
-use optra_prices::{Dual, Priced, step};
+use optra_prices::keeping::price_path_over;
+use optra_prices::{ArcTables, Dual, Priced, step};
 use optra_walk::{Choice, Instance, Leg, RowFamily, Walk};
 use std::alloc::Global;
 

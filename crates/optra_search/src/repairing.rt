@@ -8,8 +8,7 @@ ghost use Rattle.optra_prices.specs.Repairs.{IsRepair};
 use optra_graph::Graphs;
 use optra_network::NoMemory;
 use optra_node::Node;
-use optra_prices::Dual;
-use optra_prices::keeping::ArcTables;
+use optra_prices::{ArcTables, Dual};
 use optra_walk::{Choice, Instance, RowFamily};
 use std::alloc::Global;
 

@@ -13,8 +13,8 @@ use crate::waiting::{Waiting, enter};
 use crate::{Limits, Repairer};
 use optra_graph::Graphs;
 use optra_network::NoMemory;
-use optra_prices::Dead;
-use optra_prices::keeping::{ArcTables, bring_to, dead_over};
+use optra_prices::keeping::{bring_to, dead_over};
+use optra_prices::{ArcTables, Dead};
 use optra_walk::{Instance, RowFamily};
 use std::alloc::Global;
 

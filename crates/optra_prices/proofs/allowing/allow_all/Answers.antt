@@ -14,7 +14,7 @@ loop-number-init g c =
     let tables = c.args.tables.now.items in
     record {
       room = node_room rows bids numbered c.decisions_of.result.now c.args.node.now c.add_decisions.new.room c.decisions_of.ensures (c.in_ok-add_decisions.ensures (λ row. 0) c.in_ok-room.ensures);
-      tables = tables_first net rows (g.F.RowFamily.rows_used f net) bids c.args.node.now numbered tables c.requires.tables;
+      tables = tables_first net rows (g.F.RowFamily.rows_used f net) bids c.args.node.now numbered c.args.groups.now tables c.requires.tables;
       brought = subst (λ (changed : List Bool). AreBroughtUpTo 0 changed tables tables) (sym c.in_ok-changed.ensures.items) (brought_none tables);
     }
 
@@ -53,7 +53,7 @@ loop-number-preserved g c =
     let one = c.in_ok-one.ensures in
     record {
       room = one.room;
-      tables = tables_more net rows (g.F.RowFamily.rows_used f net) bids c.args.node.now c.args.numbering.now.rows.items n tables bid.0 table new mixed bid.1 at one.anew;
+      tables = tables_more net rows (g.F.RowFamily.rows_used f net) bids c.args.node.now c.args.numbering.now.rows.items c.args.groups.now n tables bid.0 table new mixed bid.1 at one.anew;
       brought = subst (λ (changed : List Bool). AreBroughtUpTo (n + 1) changed old (set tables n new)) (sym c.in_ok-push.ensures.items)
           (brought_more n c.loop-number.changed.items old tables c.in_ok-one.one table new inv.brought at one.brought);
     }
@@ -68,6 +68,6 @@ returns g c =
     let count = c.requires.tables.count_is in
     let whole : c.loop-number.number ≡ length c.args.tables.now.items = omega arith in
     record {
-      tables = tables_all net (g.F.RowFamily.rows_of f net) (g.F.RowFamily.rows_used f net) bids c.args.node.now c.args.numbering.now.rows.items c.loop-number.number c.loop-number.tables.items inv.tables all;
+      tables = tables_all net (g.F.RowFamily.rows_of f net) (g.F.RowFamily.rows_used f net) bids c.args.node.now c.args.numbering.now.rows.items c.args.groups.now c.loop-number.number c.loop-number.tables.items inv.tables all;
       brought = brought_all c.loop-number.number c.loop-number.changed.items c.args.tables.now.items c.loop-number.tables.items inv.brought whole;
     }

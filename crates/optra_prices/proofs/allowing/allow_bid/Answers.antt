@@ -30,8 +30,8 @@ allow_table-changed-requires-clause-tells g c =
     let lists = λ (kind : TypeId) (leg : Leg) (usable : IsUsable net kind leg). g.met.F.RowFamily.lists_rows f net kind leg proper usable in
     let own_is = c.own-own.ensures ∙ ap (λ (x : Summed g.row.F.Denot). decisions_for x.node n) c.requires.summary in
     let room = c.take_decisions.ensures (others_load rows bids node n) (split_room rows bids numbered node n c.own-own.result.now c.args.room.now own_is c.requires.room) in
-    subst (λ (x : Summed g.row.F.Denot). RoomTells (g.F.RowFamily.rows_of x.family x.net) x.bids x.node n c.take_decisions.new.room table.graph.now table.groups table.arcs.items) (sym c.requires.summary)
-    (table_tells g.F.Row.Ord.cmp net proper rows used lists bids node n numbered c.take_decisions.new.room room table c.requires.table)
+    subst (λ (x : Summed g.row.F.Denot). RoomTells (g.F.RowFamily.rows_of x.family x.net) x.bids x.node n c.take_decisions.new.room table.graph.now c.args.groups.now table.arcs.items) (sym c.requires.summary)
+    (table_tells g.F.Row.Ord.cmp net proper rows used lists bids node n numbered c.take_decisions.new.room room c.args.groups.now table c.requires.table)
 
 pub add_decisions-requires-clause-decisions : goal.add_decisions-requires-clause-decisions
 add_decisions-requires-clause-decisions g c =

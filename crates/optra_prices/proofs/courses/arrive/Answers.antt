@@ -1,83 +1,119 @@
-use Rattle.std.proofs.Common.{◌≡◌, ◌≤◌, ℕ, List, length, sym, ap, ◌∙◌, subst, rules, to_z, of_z}
-use Rattle.std.specs.Prelude.{All, ℤ, FitsSigned}
-use Rattle.std.specs.Int.{w128}
-use Rattle.std.proofs.lemmas.Int.{to_z-of_z}
-use Rattle.optra_node.specs.Duals.{capacity_price}
-use Rattle.optra_prices.specs.Courses.{prices_at}
-use Rattle.optra_prices.specs.Listings.{capacity_below}
-use Rattle.optra_prices.specs.Standings.{AllStand, IsSound, IsTermSize, value_of}
+use Rattle.std.proofs.Common.{List, Bool, length, sym, ap, ◌∙◌, subst, arith, rules, to_z, of_z}
+use Rattle.std.specs.Prelude.{All, ℤ, pos, ◌≤ℤ◌, FitsSigned}
+use Rattle.std.specs.Int.{w64, w128}
+use Rattle.std.proofs.lemmas.Int.{ints, to_z-of_z}
+use Rattle.optra_prices.specs.Holders.{AreHolders, TellsFallen}
+use Rattle.optra_prices.specs.Standings.{AllStand, AreTables, IsSound, IsTermSize, value_of}
+use Rattle.optra_prices.specs.Tables.{AreGroupPrices, AreUpTo}
 use Rattle.optra_prices.specs.Terms.{Setting, setting}
+use Rattle.optra_prices.specs.declared.columns.Mark.{Mark}
 use Rattle.optra_prices.specs.declared.numbering.BidTable.{BidTable}
 use Rattle.optra_prices.specs.declared.numbering.Standing.{Standing}
-use Rattle.optra_prices.proofs.CourseLemmas.{capacities_small, capacity_is, course_priced}
-use Rattle.optra_prices.proofs.TableLemmas.{tables_sound, terms_small}
+use Rattle.optra_prices.proofs.CourseLemmas.{course_priced, own_columns}
+use Rattle.optra_prices.proofs.LevelLemmas.{capacity_range}
+use Rattle.optra_prices.proofs.NarrowLemmas.{columns_up}
+use Rattle.optra_prices.proofs.StandLemmas.{terms_small}
+use Rattle.optra_prices.proofs.TableLemmas.{tables_sound}
 use Rattle.optra_prices.proofs.courses.arrive.Goals as goal
+
+pub tell_fallen-requires-clause-columns : goal.tell_fallen-requires-clause-columns
+tell_fallen-requires-clause-columns g c = own_columns c.args.kept.now.columns.groups c.reprice.new.columns c.reprice.ensures.columns
+
+pub tell_fallen-requires-clause-holders : goal.tell_fallen-requires-clause-holders
+tell_fallen-requires-clause-holders g c = subst (λ (ts : List BidTable). AreHolders ts c.args.kept.now.holders) (sym c.deref-2.ensures.value) c.requires.moved.is.holders
+
+pub settle-requires-clause-fallen : goal.settle-requires-clause-fallen
+settle-requires-clause-fallen g c =
+    let marks = c.reprice.new.columns.marks.items in
+    let fallen = c.tell_fallen.new.fallen.items in
+    let tables = c.args.kept.now.tables.items in
+    let told : TellsFallen marks tables fallen = subst (λ (ts : List BidTable). TellsFallen marks ts fallen) c.deref-2.ensures.value c.in_ok-tell_fallen.ensures in
+    subst (λ (ts : List BidTable). TellsFallen c.deref-5.result.now ts c.deref-6.result.now) (sym c.deref-3.ensures.value)
+    (subst (λ (ms : List Mark). TellsFallen ms tables c.deref-6.result.now) (sym c.deref-5.ensures.value) (subst (λ (bs : List Bool). TellsFallen marks tables bs) (sym c.deref-6.ensures.value) told))
 
 pub settle-requires-clause-sound : goal.settle-requires-clause-sound
 settle-requires-clause-sound g c =
     let net = c.args.inst.net.now in
     let f = c.args.rows.now in
     let s : Setting g.row.F-Row.Denot = setting net (g.F.RowFamily.rows_of f net) (g.F.RowFamily.rows_used f net) c.args.inst.bids.now c.args.node.now in
-    let course = c.args.course.now in
-    subst (All IsSound) (sym c.deref.ensures.value) (tables_sound s course.numbering.rows.items course.tables.items c.requires.course.tables)
+    let kept = c.args.kept.now in
+    subst (All IsSound) (sym c.deref-3.ensures.value) (tables_sound s kept.numbering.rows.items kept.columns.groups kept.tables.items c.requires.moved.is.tables)
 
-pub capacity_sum-capacity-requires-clause-capacities : goal.capacity_sum-capacity-requires-clause-capacities
-capacity_sum-capacity-requires-clause-capacities g c =
+pub dual_value-kept-requires-clause-capacity : goal.dual_value-kept-requires-clause-capacity
+dual_value-kept-requires-clause-capacity g c =
+    let levels = c.args.kept.now.levels in
+    let is = c.requires.moved.is.levels in
+    let range = capacity_range levels.prices.items levels.capacities.items (length levels.prices.items) is.range is.small in
+    let a = is.capacity_is in
+    let b = range.0 in
+    let d = range.1 in
+    let n = levels.prices.ok in
+    let s = levels.prices.small in
+    let low : pos 0 ≤ℤ levels.capacity = omega (arith, ints) in
+    let high : levels.capacity ≤ℤ pos 2417851639229258349412352000000000000 = omega (arith, ints) in
+    let fits : FitsSigned w128 levels.capacity = search rules in
+    simp (to_z-of_z w128 levels.capacity fits) (low, high)
+
+pub dual_value-kept-requires-clause-small : goal.dual_value-kept-requires-clause-small
+dual_value-kept-requires-clause-small g c =
     let net = c.args.inst.net.now in
     let f = c.args.rows.now in
     let s : Setting g.row.F-Row.Denot = setting net (g.F.RowFamily.rows_of f net) (g.F.RowFamily.rows_used f net) c.args.inst.bids.now c.args.node.now in
-    subst (All (λ (capacity : ℕ). capacity ≤ 65535)) (sym c.deref-4.ensures.value)
-    (capacities_small g.F.Row.Ord.cmp s c.args.course.now (λ row is. g.met.F.RowFamily.capacity_fits f net row c.track_count.ensures.proper is) c.requires.course)
-
-pub dual_value-course-requires-clause-small : goal.dual_value-course-requires-clause-small
-dual_value-course-requires-clause-small g c =
-    let net = c.args.inst.net.now in
-    let f = c.args.rows.now in
-    let s : Setting g.row.F-Row.Denot = setting net (g.F.RowFamily.rows_of f net) (g.F.RowFamily.rows_used f net) c.args.inst.bids.now c.args.node.now in
-    let tables = c.args.course.now.tables.items in
-    let prices = c.args.course.now.prices.items in
+    let kept = c.args.kept.now in
+    let tables = kept.tables.items in
+    let grouped = c.reprice.new.columns.grouped.items in
     let standings = c.settle.new.standings.items in
-    let sound = tables_sound s c.args.course.now.numbering.rows.items tables c.requires.course.tables in
-    let stand : AllStand tables prices standings =
-    subst (λ (ts : List BidTable). AllStand ts prices standings) c.deref.ensures.value (subst (λ (ps : List ℤ). AllStand c.deref.result.now ps standings) c.deref-2.ensures.value c.in_ok-settle.ensures)
+    let sound = tables_sound s kept.numbering.rows.items kept.columns.groups tables c.requires.moved.is.tables in
+    let stand : AllStand tables grouped standings =
+    subst (λ (ts : List BidTable). AllStand ts grouped standings) c.deref-3.ensures.value (subst (λ (ps : List ℤ). AllStand c.deref-3.result.now ps standings) c.deref-4.ensures.value c.in_ok-settle.ensures)
     in
-    subst (All (λ (x : Standing). IsTermSize x.term)) (sym c.deref-5.ensures.value) (terms_small tables prices standings sound stand)
+    subst (All (λ (x : Standing). IsTermSize x.term)) (sym c.deref-7.ensures.value) (terms_small tables grouped standings sound c.reprice.ensures.columns.range stand)
 
 pub returns-clause-priced : goal.returns-clause-priced
 returns-clause-priced g c =
     let net = c.args.inst.net.now in
     let f = c.args.rows.now in
-    let rows = g.F.RowFamily.rows_of f net in
     let cmp = g.F.Row.Ord.cmp in
-    let s : Setting g.row.F-Row.Denot = setting net rows (g.F.RowFamily.rows_used f net) c.args.inst.bids.now c.args.node.now in
-    let course = c.args.course.now in
-    let tables = course.tables.items in
-    let prices = course.prices.items in
+    let s : Setting g.row.F-Row.Denot = setting net (g.F.RowFamily.rows_of f net) (g.F.RowFamily.rows_used f net) c.args.inst.bids.now c.args.node.now in
+    let kept = c.args.kept.now in
+    let tables = kept.tables.items in
+    let prices = kept.levels.prices.items in
+    let priced = c.reprice.new.columns in
+    let columns = c.still.new.columns in
     let standings = c.settle.new.standings.items in
-    let is = c.requires.course in
-    let stand : AllStand tables prices standings =
-    subst (λ (ts : List BidTable). AllStand ts prices standings) c.deref.ensures.value (subst (λ (ps : List ℤ). AllStand c.deref.result.now ps standings) c.deref-2.ensures.value c.in_ok-settle.ensures)
+    let is = c.requires.moved.is in
+    let stand : AllStand tables priced.grouped.items standings =
+    subst (λ (ts : List BidTable). AllStand ts priced.grouped.items standings) c.deref-3.ensures.value (subst (λ (ps : List ℤ). AllStand c.deref-3.result.now ps standings) c.deref-4.ensures.value c.in_ok-settle.ensures)
     in
-    let fits : FitsSigned w128 c.capacity_sum-capacity.result = search rules in
-    let capacity = to_z w128 (of_z w128 c.capacity_sum-capacity.result) in
-    let sum : capacity ≡ capacity_below prices course.capacities.items (length prices) =
-    to_z-of_z w128 c.capacity_sum-capacity.result fits ∙ c.capacity_sum-capacity.ensures.value ∙ ap (λ (ps : List ℤ). capacity_below ps c.deref-4.result.now (length ps)) c.deref-3.ensures.value
-    ∙ ap (λ (cs : List ℕ). capacity_below prices cs (length prices)) c.deref-4.ensures.value
+    let grouped : AreGroupPrices prices priced.groups.starts.items priced.groups.touches.items priced.grouped.items =
+    subst (λ (ps : List ℤ). AreGroupPrices ps priced.groups.starts.items priced.groups.touches.items priced.grouped.items) c.deref.ensures.value c.reprice.ensures.prices
     in
-    let priced : capacity ≡ capacity_price rows (prices_at course) = sum ∙ capacity_is cmp g.met.F.Row.Ord.total g.met.F.RowFamily.tells_apart s course c.len-count.ensures.ordered is in
-    let fits_value : FitsSigned w128 c.dual_value-course.result = search rules in
+    let same = c.still.ensures.columns.groups_are in
+    let fits : FitsSigned w128 c.dual_value-kept.result = search rules in
+    let whole : FitsSigned w128 kept.levels.capacity = search rules in
     course_priced cmp g.met.F.Row.Ord.total g.met.F.RowFamily.tells_apart s _ c.len-count.ensures.ordered c.track_count.ensures.proper c.tests_tell_allowed.ensures c.prices_by_used_rows.ensures
     (record {
-      numbering = is.numbering;
-      rows = is.rows;
-      order = is.order;
-      capacity_count = is.capacity_count;
-      capacities = is.capacities;
-      tables = is.tables;
-      price_count = is.price_count;
-      prices = is.prices;
-      stand = stand;
-      use_count = is.use_count;
-      rest = is.rest;
+      is = record {
+        numbering = is.numbering;
+        rows = is.rows;
+        order = is.order;
+        capacities = is.capacities;
+        price_count = is.price_count;
+        levels = is.levels;
+        unused = is.unused;
+        columns = own_columns priced.groups columns c.still.ensures.columns;
+        tables = subst (λ groups. AreTables s (length s.bids) kept.numbering.rows.items groups tables) (sym (same ∙ c.reprice.ensures.columns.groups_are)) is.tables;
+        stand = subst (λ v. AllStand tables v.items standings) (sym c.still.ensures.same) stand;
+        zero = is.zero;
+        holders = is.holders;
+      };
+      still = c.still.ensures.still;
+      grouped = subst (λ groups. AreGroupPrices prices groups.starts.items groups.touches.items columns.grouped.items) (sym same) (subst (λ v. AreGroupPrices prices priced.groups.starts.items priced.groups.touches.items v.items) (sym c.still.ensures.same) grouped);
     })
-    capacity priced (to_z-of_z w128 c.dual_value-course.result fits_value ∙ c.dual_value-course.ensures ∙ ap (λ (ss : List Standing). value_of capacity ss) c.deref-5.ensures.value)
+    (to_z-of_z w128 c.dual_value-kept.result fits ∙ c.dual_value-kept.ensures ∙ ap (λ (ss : List Standing). value_of (to_z w128 (of_z w128 kept.levels.capacity)) ss) c.deref-7.ensures.value ∙ ap (λ (z : ℤ). value_of z standings) (to_z-of_z w128 kept.levels.capacity whole))
+
+pub settle-requires-clause-grouped : goal.settle-requires-clause-grouped
+settle-requires-clause-grouped g c =
+    let columns = c.reprice.new.columns in
+    let fits : FitsSigned w64 columns.highest = search rules in
+    subst (λ (most : ℤ). AreUpTo most c.deref-4.result.now) (sym (to_z-of_z w64 columns.highest fits)) (subst (AreUpTo columns.highest) (sym c.deref-4.ensures.value) (columns_up c.args.kept.now.columns.groups columns c.reprice.ensures.columns))

@@ -1,71 +1,40 @@
-use Rattle.std.proofs.Common.{◌≡◌, ◌+◌, ◌∷◌, ◌++◌, [], length, length-append, subst, arith, rules, to_z, of_z}
-use Rattle.std.specs.Prelude.{ℤ, FitsSigned}
-use Rattle.std.specs.Int.{w64}
+use Rattle.std.proofs.Common.{◌≡◌, true, false, sym, ◌∙◌, subst, rules, to_z, of_z}
+use Rattle.std.specs.Prelude.{ℤ, ◌≤ℤ◌, FitsSigned}
+use Rattle.std.specs.Int.{w64, w128}
 use Rattle.std.proofs.lemmas.Int.{to_z-of_z}
+use Rattle.optra_node.specs.Duals.{whole_cents}
 use Rattle.optra_prices.specs.Terms.{Setting, setting}
-use Rattle.optra_prices.specs.Following.{candidate_at, IsFollowed}
-use Rattle.optra_prices.proofs.PathLemmas.{low_if, high_if, following_more, followed_low, followed_all}
+use Rattle.optra_prices.specs.Following.{IsFollowed}
+use Rattle.optra_prices.specs.declared.following.Best.{Best}
+use Rattle.optra_prices.proofs.PathLemmas.{following_start, zero_followed}
 use Rattle.optra_prices.proofs.following.follow.Goals as goal
+
+clash : true ≡ false → ⊥
+clash e = cc
 
 pub returns-then-is_low : goal.returns-then-is_low
 returns-then-is_low g c =
     let net = c.args.inst.net.now in
     let f = c.args.rows.now in
     let s : Setting g.row.F-Row.Denot = setting net (g.F.RowFamily.rows_of f net) (g.F.RowFamily.rows_used f net) c.args.inst.bids.now c.args.node.now in
-    let cmp = g.F.Row.Ord.cmp in
-    let start = c.args.start.now in
-    let steps = c.args.steps in
     let fits : FitsSigned w64 c.args.incumbent = search rules in
+    let whole : FitsSigned w128 c.zero_value.result = search rules in
+    let again : FitsSigned w128 (to_z w128 (of_z w128 c.zero_value.result)) = search rules in
     let incumbent = to_z w64 (of_z w64 c.args.incumbent) in
-    let course = c.places.course in
-    let best = c.places.best in
-    let path = c.places.invariant.0 in
-    let h = c.places.invariant.2 in
-    let low = low_if cmp s start steps incumbent course best path h c.is_low.result c.if-is_low.true c.is_low.ensures.0 in
-    subst (λ (n : ℤ). IsFollowed cmp s start steps n course best) (to_z-of_z w64 c.args.incumbent fits) (followed_low cmp s start steps incumbent course best path h c.places.place c.places.invariant.1 low)
+    let best : Best = record { prices = c.new.result; value = to_z w128 (of_z w128 c.zero_value.result) } in
+    subst (λ (n : ℤ). IsFollowed g.F.Row.Ord.cmp s c.args.start.now c.args.steps n c.args.kept.now best) (to_z-of_z w64 c.args.incumbent fits)
+    (zero_followed g.F.Row.Ord.cmp s c.args.start.now c.args.steps incumbent c.args.kept.now best c.zero_value.ensures.valuation c.new.ensures.items (to_z-of_z w128 c.zero_value.result whole ∙ c.zero_value.ensures.value) c.requires.course
+    (subst (λ v. whole_cents v ≤ℤ incumbent) (to_z-of_z w128 (to_z w128 (of_z w128 c.zero_value.result)) again) (c.is_low.ensures.0 c.if-is_low.true)))
 
-pub places-preserved : goal.places-preserved
-places-preserved g c =
+pub go_steps-requires-clause-following : goal.go_steps-requires-clause-following
+go_steps-requires-clause-following g c =
     let net = c.args.inst.net.now in
     let f = c.args.rows.now in
-    let rows = g.F.RowFamily.rows_of f net in
-    let s : Setting g.row.F-Row.Denot = setting net rows (g.F.RowFamily.rows_used f net) c.args.inst.bids.now c.args.node.now in
-    let cmp = g.F.Row.Ord.cmp in
-    let start = c.args.start.now in
-    let steps = c.args.steps in
+    let s : Setting g.row.F-Row.Denot = setting net (g.F.RowFamily.rows_of f net) (g.F.RowFamily.rows_used f net) c.args.inst.bids.now c.args.node.now in
+    let whole : FitsSigned w128 c.zero_value.result = search rules in
+    let again : FitsSigned w128 (to_z w128 (of_z w128 c.zero_value.result)) = search rules in
     let incumbent = to_z w64 (of_z w64 c.args.incumbent) in
-    let course = c.places.course in
-    let best = c.places.best in
-    let path = c.places.invariant.0 in
-    let count = c.places.invariant.1 in
-    let h = c.places.invariant.2 in
-    let high = high_if cmp s start steps incumbent course best path h c.is_low.result c.if-is_low.false c.is_low.ensures.1 in
-    let moved = c.in_ok-move_on.ensures in
-    let next = candidate_at rows c.move_on.new.course in
-    let more : length (path ++ next ∷ []) ≡ length path + 1 = length-append path (next ∷ []) in
-    let turned = following_more cmp s start steps incumbent course c.move_on.new.course best c.keep_less.new.best path h moved.priced moved.keeps c.in_ok-keep_less.ensures c.places.place count c.places-test.true high moved.next in
-    (path ++ next ∷ [], omega arith, turned)
-
-pub returns-in_ok-keep_less : goal.returns-in_ok-keep_less
-returns-in_ok-keep_less g c =
-    let net = c.args.inst.net.now in
-    let f = c.args.rows.now in
-    let rows = g.F.RowFamily.rows_of f net in
-    let s : Setting g.row.F-Row.Denot = setting net rows (g.F.RowFamily.rows_used f net) c.args.inst.bids.now c.args.node.now in
-    let cmp = g.F.Row.Ord.cmp in
-    let start = c.args.start.now in
-    let steps = c.args.steps in
-    let fits : FitsSigned w64 c.args.incumbent = search rules in
-    let incumbent = to_z w64 (of_z w64 c.args.incumbent) in
-    let course = c.places.course in
-    let best = c.places.best in
-    let path = c.places.invariant.0 in
-    let count = c.places.invariant.1 in
-    let h = c.places.invariant.2 in
-    let high = high_if cmp s start steps incumbent course best path h c.is_low.result c.if-is_low.false c.is_low.ensures.1 in
-    let moved = c.in_ok-move_on.ensures in
-    let next = candidate_at rows c.move_on.new.course in
-    let more : length (path ++ next ∷ []) ≡ length path + 1 = length-append path (next ∷ []) in
-    let turned = following_more cmp s start steps incumbent course c.move_on.new.course best c.keep_less.new.best path h moved.priced moved.keeps c.in_ok-keep_less.ensures c.places.place count c.places-test.true high moved.next in
-    subst (λ (n : ℤ). IsFollowed cmp s start steps n c.move_on.new.course c.keep_less.new.best) (to_z-of_z w64 c.args.incumbent fits)
-    (followed_all cmp s start steps incumbent c.move_on.new.course c.keep_less.new.best (path ++ next ∷ []) turned (omega arith))
+    let best : Best = record { prices = c.new.result; value = to_z w128 (of_z w128 c.zero_value.result) } in
+    let gone = c.in_ok-go_to.ensures in
+    following_start g.F.Row.Ord.cmp s c.args.start.now c.args.steps incumbent c.args.kept.now c.go_to.new.kept best c.keep_less.new.best c.zero_value.ensures.valuation c.new.ensures.items (to_z-of_z w128 c.zero_value.result whole ∙ c.zero_value.ensures.value)
+    gone.keeps gone.priced c.in_ok-keep_less.ensures gone.prices (λ (low : whole_cents best.value ≤ℤ incumbent). clash (sym (c.is_low.ensures.1 (subst (λ v. whole_cents v ≤ℤ incumbent) (sym (to_z-of_z w128 (to_z w128 (of_z w128 c.zero_value.result)) again)) low)) ∙ c.if-is_low.false))

@@ -1,6 +1,11 @@
 use Rattle.std.proofs.Common.{take}
+use Rattle.optra_prices.specs.Levels.{IsLevels, KeepsPrices}
 use Rattle.optra_prices.specs.Uses.{AddsUses, touch_uses}
 use Rattle.optra_prices.proofs.loading.add_group.Given as goal
 
 abbrev pub invariant-loop-touch : goal.invariant-loop-touch
-invariant-loop-touch l = AddsUses (touch_uses (take l.touch-index l.group)) l.initial.uses.items l.uses.items
+invariant-loop-touch l = record {
+  levels : IsLevels l.levels;
+  uses : AddsUses (touch_uses (take l.touch-index l.touches)) l.fn.levels.uses.items l.levels.uses.items;
+  prices : KeepsPrices l.fn.levels l.levels;
+}

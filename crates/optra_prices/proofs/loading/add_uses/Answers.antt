@@ -18,7 +18,7 @@ add_path-requires-clause-within c =
     let standing = c.index-standings-number.result in
     let table_at : slice_get tables n ≡ Some table = slice_get_read tables (length tables) n table refl l c.index-tables-number.is in
     let standing_at : slice_get standings n ≡ Some standing = slice_get_read standings (length standings) n standing refl m c.index-standings-number.is in
-    let groups = all_at HasGroups tables n table c.requires.groups table_at in
+    let groups = all_at (HasGroups c.args.groups.now) tables n table c.requires.groups table_at in
     let stands = c.requires.stand.1.each n table standing table_at standing_at in
     subst (λ (path : List ℕ). All (λ (k : ℕ). k < length table.arcs.items) path) (sym (c.deref.ensures.value ∙ ap (λ (x : Standing). x.path.items) (sym c.index-standings-number.is))) (path_within table c.requires.stand.0 standing groups.sound stands)
 
@@ -33,7 +33,14 @@ loop-number-preserved c =
     let standing = c.index-standings-number.result in
     let table_at : slice_get tables n ≡ Some table = slice_get_read tables (length tables) n table refl l c.index-tables-number.is in
     let standing_at : slice_get standings n ≡ Some standing = slice_get_read standings (length standings) n standing refl m c.index-standings-number.is in
-    let more : AddsUses (path_uses table standing.path.items) c.loop-number.uses.items c.add_path.new.uses.items =
-    subst (λ (path : List ℕ). AddsUses (path_uses table path) c.loop-number.uses.items c.add_path.new.uses.items) (c.deref.ensures.value ∙ ap (λ (x : Standing). x.path.items) (sym c.index-standings-number.is)) c.in_ok-add_path.ensures
+    let inv = c.loop-number.invariant in
+    let is = c.in_ok-add_path.ensures in
+    let groups = c.args.groups.now in
+    let more : AddsUses (path_uses groups table standing.path.items) c.loop-number.levels.uses.items c.add_path.new.levels.uses.items =
+    subst (λ (path : List ℕ). AddsUses (path_uses groups table path) c.loop-number.levels.uses.items c.add_path.new.levels.uses.items) (c.deref.ensures.value ∙ ap (λ (x : Standing). x.path.items) (sym c.index-standings-number.is)) is.uses
     in
-    adds_on c.args.uses.now.items c.loop-number.uses.items c.add_path.new.uses.items _ _ _ (λ k. all_more tables standings n table standing k table_at standing_at) c.loop-number.invariant more
+    record {
+      levels = is.levels;
+      uses = adds_on c.args.levels.now.uses.items c.loop-number.levels.uses.items c.add_path.new.levels.uses.items _ _ _ (λ k. all_more groups tables standings n table standing k table_at standing_at) inv.uses more;
+      prices = record { prices = is.prices.prices ∙ inv.prices.prices; capacities = is.prices.capacities ∙ inv.prices.capacities };
+    }

@@ -12,8 +12,8 @@ use Rattle.optra_prices.proofs.parts.tell_table.Goals as goal
 pub loop-k-preserved : goal.loop-k-preserved
 loop-k-preserved c =
     let room = c.args.room.now in
-    let starts = c.args.table.now.groups.starts.items in
-    let touches = c.args.table.now.groups.touches.items in
+    let starts = c.args.groups.now.starts.items in
+    let touches = c.args.groups.now.touches.items in
     let arcs = c.args.table.now.arcs.items in
     let k = c.loop-k.k in
     let arc = c.index-arc.result.now in

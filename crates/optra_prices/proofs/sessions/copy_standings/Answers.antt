@@ -1,7 +1,7 @@
 -- One more copy.
 use Rattle.std.proofs.Common.{◌≡◌, ◌+◌, length, Some, slice_get, refl, sym, subst}
 use Rattle.std.proofs.lemmas.Option.{slice_get_read}
-use Rattle.optra_prices.proofs.TableLemmas.{CopiesBelow, copy_push}
+use Rattle.optra_prices.proofs.StandLemmas.{CopiesBelow, copy_push}
 use Rattle.optra_prices.proofs.sessions.copy_standings.Goals as goal
 
 pub loop-standing-preserved : goal.loop-standing-preserved

@@ -1,4 +1,4 @@
-use Rattle.std.proofs.Common.{sym, rules}
+use Rattle.std.proofs.Common.{refl, sym, rules}
 use Rattle.std.specs.Prelude.{FitsSigned}
 use Rattle.std.specs.Int.{w128}
 use Rattle.std.proofs.lemmas.Int.{to_z-of_z}
@@ -9,8 +9,4 @@ pub returns : goal.returns
 returns c =
     let fits : FitsSigned w128 c.in_ok-outcome.outcome.term = search rules in
     let whole = to_z-of_z w128 c.in_ok-outcome.outcome.term fits in
-    record {
-      grouped = c.refresh.ensures.prices;
-      range = c.refresh.ensures.range;
-      found = found_moves _ _ _ _ _ _ _ _ _ _ _ c.dag.ensures c.deref.ensures.value c.deref-2.ensures.value (sym whole) c.in_ok-outcome.ensures;
-    }
+    found_moves _ _ _ _ _ _ _ _ _ _ _ c.dag.ensures c.deref.ensures.value refl (sym whole) c.in_ok-outcome.ensures

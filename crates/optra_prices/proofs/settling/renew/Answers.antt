@@ -1,20 +1,12 @@
-use Rattle.std.proofs.Common.{sym, rules, subst}
-use Rattle.std.specs.Prelude.{FitsSigned, All}
+use Rattle.std.proofs.Common.{refl, sym, rules}
+use Rattle.std.specs.Prelude.{FitsSigned}
 use Rattle.std.specs.Int.{w128}
 use Rattle.std.proofs.lemmas.Int.{to_z-of_z}
-use Rattle.optra_prices.specs.Tables.{IsGroupPrice}
 use Rattle.optra_prices.proofs.FoundLemmas.{found_moves}
 use Rattle.optra_prices.proofs.settling.renew.Goals as goal
 
-pub search_bid-requires-clause-grouped : goal.search_bid-requires-clause-grouped
-search_bid-requires-clause-grouped c = subst (All IsGroupPrice) (sym c.deref-2.ensures.value) c.requires.range
-
 pub returns : goal.returns
-returns c = λ prices grouped.
+returns c =
     let fits : FitsSigned w128 c.in_ok-outcome.outcome.term = search rules in
     let whole = to_z-of_z w128 c.in_ok-outcome.outcome.term fits in
-    record {
-      grouped = grouped;
-      range = c.requires.range;
-      found = found_moves _ _ _ _ _ _ _ _ _ _ _ c.dag.ensures c.deref.ensures.value c.deref-2.ensures.value (sym whole) c.in_ok-outcome.ensures;
-    }
+    found_moves _ _ _ _ _ _ _ _ _ _ _ c.dag.ensures c.deref.ensures.value refl (sym whole) c.in_ok-outcome.ensures

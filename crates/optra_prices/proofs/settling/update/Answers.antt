@@ -1,28 +1,18 @@
-use Rattle.std.proofs.Common.{refl, sym, rules, subst}
-use Rattle.std.specs.Prelude.{FitsSigned, All}
-use Rattle.std.specs.Int.{w128}
-use Rattle.std.proofs.lemmas.Int.{to_z-of_z}
-use Rattle.optra_prices.specs.Tables.{IsGroupPrice}
-use Rattle.optra_prices.proofs.FoundLemmas.{found_moves}
+use Rattle.std.proofs.Common.{refl, List, ℕ, subst}
+use Rattle.std.specs.Prelude.{All, slice_index_or}
+use Rattle.optra_prices.specs.Columns.{HasNotRisen}
+use Rattle.optra_prices.specs.Tables.{no_arc}
+use Rattle.optra_prices.specs.declared.numbering.ArcTerm.{ArcTerm}
+use Rattle.optra_prices.proofs.SkipLemmas.{stands_still}
 use Rattle.optra_prices.proofs.settling.update.Goals as goal
 
-pub returns-then-not-refresh : goal.returns-then-not-refresh
-returns-then-not-refresh c =
-    record {
-      grouped = c.if-not-refresh.ensures.prices;
-      range = c.if-not-refresh.ensures.range;
-      found = found_moves _ _ _ _ _ _ _ _ _ _ _ refl refl (sym (c.if-not-refresh.ensures.same refl)) refl c.requires.before.1.found;
-    }
-
-pub search_bid-requires-clause-grouped : goal.search_bid-requires-clause-grouped
-search_bid-requires-clause-grouped c = subst (All IsGroupPrice) (sym c.deref-2.ensures.value) c.if-not-refresh.ensures.range
-
-pub returns : goal.returns
-returns c =
-    let fits : FitsSigned w128 c.in_ok-outcome.outcome.term = search rules in
-    let whole = to_z-of_z w128 c.in_ok-outcome.outcome.term fits in
-    record {
-      grouped = c.if-not-refresh.ensures.prices;
-      range = c.if-not-refresh.ensures.range;
-      found = found_moves _ _ _ _ _ _ _ _ _ _ _ c.dag.ensures c.deref.ensures.value c.deref-2.ensures.value (sym whole) c.in_ok-outcome.ensures;
-    }
+pub returns-then-not-has_risen : goal.returns-then-not-has_risen
+returns-then-not-has_risen c =
+    let before = c.requires.before in
+    let marks = c.args.marks.now in
+    let unfallen = c.requires.told c.if-not-fell.true in
+    let by_arcs = λ (arcs : List ArcTerm) (path : List ℕ). All (λ k. HasNotRisen marks (slice_index_or arcs k no_arc).group) path in
+    let unrisen = subst (by_arcs c.args.table.now.arcs.items) c.deref-then-not-fell.ensures.value
+    (subst (λ (arcs : List ArcTerm). by_arcs arcs c.deref-then-not-fell.result.now) c.deref.ensures.value (c.if-not-has_risen.ensures refl))
+    in
+    stands_still c.args.table.now before.0 c.args.grouped.prices.now marks c.requires.sound before.2 unfallen c.args.standing.now unrisen before.1

@@ -1,7 +1,12 @@
-use Rattle.std.proofs.Common.{◌∷◌, [], length, sym, ap, subst, arith}
+use Rattle.std.proofs.Common.{◌∷◌, [], length, refl, sym, ap, ◌∙◌, subst, arith, rules, ℤ}
+use Rattle.std.specs.Prelude.{FitsSigned, neg_ℤ}
+use Rattle.std.specs.Int.{w64}
+use Rattle.std.proofs.lemmas.Int.{to_z-of_z}
 use Rattle.std.proofs.lemmas.List.{length-append}
+use Rattle.optra_bid.specs.Specs.{IsBetween}
+use Rattle.optra_prices.specs.Standings.{Covers}
 use Rattle.optra_prices.specs.Terms.{IsTerm, AreTerms}
-use Rattle.optra_prices.proofs.NumberLemmas.{extends_more}
+use Rattle.optra_prices.proofs.MakingLemmas.{grows_more, covers_push, covers_none}
 use Rattle.optra_prices.proofs.TermLemmas.{terms_kept, terms_push}
 use Rattle.optra_prices.proofs.tables.bid_table.Goals as goal
 
@@ -13,20 +18,44 @@ loop-k-preserved g c =
     let used = g.F.RowFamily.rows_used f net in
     let bid = c.args.bid.now in
     let t = c.args.graph.now in
-    let old = c.loop-k.numbering.rows.items in
-    let new = c.term_at.new.numbering.rows.items in
-    let starts = c.term_at.new.groups.starts.items in
-    let touches = c.term_at.new.groups.touches.items in
+    let old = c.loop-k.making in
+    let new = c.term_at.new.making in
+    let numbered = new.numbering.rows.items in
+    let starts = new.groups.starts.items in
+    let touches = new.groups.touches.items in
     let arcs = c.loop-k.arcs.items in
+    let term = c.in_ok-term.term in
+    let inv = c.loop-k.invariant in
     let is = c.in_ok-term.ensures in
-    let kept = terms_kept net rows used bid t old new c.loop-k.groups.starts.items starts c.loop-k.groups.touches.items touches arcs is.extends is.keeps c.loop-k.invariant.terms in
-    let here = subst (λ k. IsTerm net rows used bid t new starts touches k c.in_ok-term.term) (sym c.loop-k.invariant.count) is.term in
+    let kept = terms_kept net rows used bid t old.numbering.rows.items numbered old.groups.starts.items starts old.groups.touches.items touches arcs is.grows.extends is.grows.keeps inv.terms in
+    let here = subst (λ k. IsTerm net rows used bid t numbered starts touches k term) (sym inv.count) is.term in
+    let pushed = c.in_ok-push.ensures.items in
+    let fits : FitsSigned w64 term.value = search rules in
+    let size = c.widened-most.result in
+    let size_fits : FitsSigned w64 size = search rules in
+    let value = subst (IsBetween (neg_ℤ size) size) (to_z-of_z w64 term.value fits) c.widened-most.ensures.value in
     record {
-      numbering = is.numbering;
-      rows = is.rows;
-      extends = extends_more _ old new c.loop-k.invariant.extends is.extends;
-      groups = is.groups;
-      last = is.last;
-      count = let e = ap length c.in_ok-push.ensures.items in let n = length-append arcs (c.in_ok-term.term ∷ []) in let o = c.loop-k.invariant.count in omega arith;
-      terms = subst (AreTerms net rows used bid t new starts touches) (sym c.in_ok-push.ensures.items) (terms_push net rows used bid t new starts touches arcs c.in_ok-term.term kept here);
+      making = is.making;
+      grows = grows_more _ old new inv.grows is.grows;
+      count = let e = ap length pushed in let n = length-append arcs (term ∷ []) in let o = inv.count in omega arith;
+      terms = subst (AreTerms net rows used bid t numbered starts touches) (sym pushed) (terms_push net rows used bid t numbered starts touches arcs term kept here);
+      covers = subst (λ (m : ℤ). Covers m c.push.new.self.items) (sym (to_z-of_z w64 size size_fits))
+          (subst (Covers size) (sym pushed) (covers_push _ _ arcs term inv.covers c.widened-most.ensures.range c.widened-most.ensures.before value));
     }
+
+pub loop-k-init : goal.loop-k-init
+loop-k-init g c = record {
+  making = c.requires.making;
+  grows = search rules;
+  count = search rules;
+  terms = search rules;
+  covers = covers_none _ _ (c.in_ok-reserve_exact.ensures.items ∙ c.new-arcs.ensures.items) refl;
+}
+
+pub returns-clause-table : goal.returns-clause-table
+returns-clause-table g c = record {
+  graph = c.requires.graph;
+  count = search rules;
+  groups = c.loop-k.invariant.making.groups_are;
+  terms = c.loop-k.invariant.terms;
+}

@@ -1,7 +1,7 @@
 use Rattle.std.proofs.Common.{ℕ, Option, unwrap_or, sym, ap, ◌∙◌, subst}
 use Rattle.optra_network.specs.declared.TypeId.{TypeId}
 use Rattle.optra_walk.specs.Families.{IsUsable}
-use Rattle.optra_prices.specs.Sharings.{FindsGroup}
+use Rattle.optra_prices.specs.Makings.{IsGroupOf}
 use Rattle.optra_prices.proofs.TermLemmas.{arc_usable, start_is_term, leg_is_term}
 use Rattle.optra_prices.proofs.tables.term_at.Goals as goal
 
@@ -16,31 +16,16 @@ returns-in_default-clause-term g c =
     let f = c.args.rows.now in
     let is = c.start_term.ensures in
     let minute = c.unwrap_or-minute.ensures ∙ ap (λ (o : Option ℕ). unwrap_or o 0) c.start.ensures in
-    start_is_term net (g.F.RowFamily.rows_of f net) (g.F.RowFamily.rows_used f net) c.args.bid.now c.args.graph.now c.args.numbering.now.rows.items c.args.groups.now.starts.items c.args.groups.now.touches.items c.args.k
-    c.unwrap_or-minute.result c.start_term.result c.requires.groups (sym c.leg.ensures ∙ c.in_default.is) minute is.value is.range is.group
-
-pub returns-clause-last : goal.returns-clause-last
-returns-clause-last g c =
-    let net = c.args.net.now in
-    let f = c.args.rows.now in
-    let leg = c.in-Some.leg in
-    let found = subst (λ (kind : TypeId). FindsGroup g.F.Row.Ord.cmp (g.F.RowFamily.rows_of f net) (g.F.RowFamily.rows_used f net) kind leg c.args.numbering.now c.leg_group.new.numbering c.args.groups.now c.leg_group.new.groups c.in_ok-group.group)
-    c.kind_of.ensures c.in_ok-group.ensures
-    in
-    record {
-      usable = arc_usable net c.track_count.ensures.proper c.args.bid.now c.args.graph.now c.requires.graph c.args.k leg c.requires.within (sym c.leg.ensures ∙ c.in-Some.is);
-      within = found.within;
-      touches = found.touches;
-    }
+    start_is_term net (g.F.RowFamily.rows_of f net) (g.F.RowFamily.rows_used f net) c.args.bid.now c.args.graph.now c.args.making.now.numbering.rows.items c.args.making.now.groups.starts.items c.args.making.now.groups.touches.items c.args.k
+    c.unwrap_or-minute.result c.start_term.result c.requires.making.groups_are (sym c.leg.ensures ∙ c.in_default.is) minute is.value is.range is.group
 
 pub returns-clause-term : goal.returns-clause-term
 returns-clause-term g c =
     let net = c.args.net.now in
     let f = c.args.rows.now in
     let leg = c.in-Some.leg in
-    let found = subst (λ (kind : TypeId). FindsGroup g.F.Row.Ord.cmp (g.F.RowFamily.rows_of f net) (g.F.RowFamily.rows_used f net) kind leg c.args.numbering.now c.leg_group.new.numbering c.args.groups.now c.leg_group.new.groups c.in_ok-group.group)
-    c.kind_of.ensures c.in_ok-group.ensures
-    in
+    let making = c.leg_group.new.making in
+    let found = subst (λ (kind : TypeId). IsGroupOf (g.F.RowFamily.rows_of f net) (g.F.RowFamily.rows_used f net) kind leg making.numbering making.groups c.in_ok-group.group) c.kind_of.ensures c.in_ok-group.ensures.found in
     let is = c.leg_term.ensures in
-    leg_is_term net (g.F.RowFamily.rows_of f net) (g.F.RowFamily.rows_used f net) c.args.bid.now c.args.graph.now c.leg_group.new.numbering.rows.items c.leg_group.new.groups.starts.items c.leg_group.new.groups.touches.items c.args.k leg
+    leg_is_term net (g.F.RowFamily.rows_of f net) (g.F.RowFamily.rows_used f net) c.args.bid.now c.args.graph.now making.numbering.rows.items making.groups.starts.items making.groups.touches.items c.args.k leg
     c.leg_term.result c.in_ok-group.group (sym c.leg.ensures ∙ c.in-Some.is) is.value is.range is.group found.within found.touches

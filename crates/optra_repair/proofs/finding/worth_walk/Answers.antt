@@ -16,21 +16,21 @@ returns-in_default c = none_worth c.args.graph.now c.dag.result.now c.args.parts
 pub returns-then-not-is_worth : goal.returns-then-not-is_worth
 returns-then-not-is_worth c =
     let parts = c.args.parts.now in
-    let best = MatchOption-at_some _ (λ sum. IsFirstBest c.dag.result.now (allows_at parts) (weight_at parts) sum c.first_best_in.new.buffers) c.in-Some.sum c.in-Some.is c.in_ok-sum.ensures.best in
+    let best = MatchOption-at_some _ (λ sum. IsFirstBest c.dag.result.now (allows_at parts) (weight_at parts) sum c.best_in.new.buffers) c.in-Some.sum c.in-Some.is c.in_ok-sum.ensures.best in
     let fits : FitsSigned w128 c.in-Some.sum = search rules in
-    little_worth c.args.graph.now c.dag.result.now parts c.dag.ensures c.in-Some.sum c.first_best_in.new.buffers best (subst (λ z. z ≤ℤ pos 0) (to_z-of_z w128 c.in-Some.sum fits) c.if-not-is_worth.ensures)
+    little_worth c.args.graph.now c.dag.result.now parts c.dag.ensures c.in-Some.sum c.best_in.new.buffers best (subst (λ z. z ≤ℤ pos 0) (to_z-of_z w128 c.in-Some.sum fits) c.if-not-is_worth.ensures)
 
 pub walk_of-requires : goal.walk_of-requires
 walk_of-requires c =
     let parts = c.args.parts.now in
-    let best = MatchOption-at_some _ (λ sum. IsFirstBest c.dag.result.now (allows_at parts) (weight_at parts) sum c.first_best_in.new.buffers) c.in-Some.sum c.in-Some.is c.in_ok-sum.ensures.best in
-    let path = best_path c.args.graph.now c.dag.result.now parts c.dag.ensures c.in-Some.sum c.first_best_in.new.buffers best in
-    subst (IsRoute c.args.graph.now) (sym c.path.ensures) (path_route c.args.graph.now parts c.first_best_in.new.buffers path)
+    let best = MatchOption-at_some _ (λ sum. IsFirstBest c.dag.result.now (allows_at parts) (weight_at parts) sum c.best_in.new.buffers) c.in-Some.sum c.in-Some.is c.in_ok-sum.ensures.best in
+    let path = best_path c.args.graph.now c.dag.result.now parts c.dag.ensures c.in-Some.sum c.best_in.new.buffers best in
+    subst (IsRoute c.args.graph.now) (sym c.path.ensures) (path_route c.args.graph.now parts c.best_in.new.buffers path)
 
 pub returns : goal.returns
 returns c =
     let parts = c.args.parts.now in
-    let best = MatchOption-at_some _ (λ sum. IsFirstBest c.dag.result.now (allows_at parts) (weight_at parts) sum c.first_best_in.new.buffers) c.in-Some.sum c.in-Some.is c.in_ok-sum.ensures.best in
+    let best = MatchOption-at_some _ (λ sum. IsFirstBest c.dag.result.now (allows_at parts) (weight_at parts) sum c.best_in.new.buffers) c.in-Some.sum c.in-Some.is c.in_ok-sum.ensures.best in
     let fits : FitsSigned w128 c.in-Some.sum = search rules in
-    some_worth c.args.graph.now c.dag.result.now parts c.dag.ensures c.in-Some.sum c.first_best_in.new.buffers c.in_ok-walk.walk best
+    some_worth c.args.graph.now c.dag.result.now parts c.dag.ensures c.in-Some.sum c.best_in.new.buffers c.in_ok-walk.walk best
     (subst (λ z. pos 0 <ℤ z) (to_z-of_z w128 c.in-Some.sum fits) c.if-not-is_worth.ensures) (c.in_ok-walk.ensures ∙ ap (walk_of c.args.graph.now) c.path.ensures)

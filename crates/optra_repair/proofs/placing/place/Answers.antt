@@ -1,91 +1,96 @@
--- The walk that the search finds is the first worthiest one, and it is kept where it fits as a whole.
-use Rattle.std.proofs.Common.{true, false, List, length, None, Some, sym, ap, ◌∙◌, subst}
+-- The best of the allowed walks is the first worthiest where each of its legs has room, and else the search finds it.
+use Rattle.std.proofs.Common.{refl, sym, subst}
 use Rattle.std.specs.Prelude.{All}
+use Rattle.std.proofs.lemmas.Option.{slice_get_within}
+use Rattle.std.proofs.lemmas.Result.{IfOk-weaker}
 use Rattle.optra_network.specs.declared.TypeId.{TypeId}
 use Rattle.optra_walk.specs.Families.{IsUsable}
 use Rattle.optra_walk.proofs.UsableLemmas.{walk_usable}
-use Rattle.optra_rows.specs.Loads.{total_of}
-use Rattle.optra_prices.specs.declared.parts.ArcPart.{ArcPart}
-use Rattle.optra_prices.proofs.PartLemmas.{parts_range}
-use Rattle.optra_repair.specs.Parts.{IsWorthWalk}
-use Rattle.optra_repair.proofs.PlaceLemmas.{none_given, walk_given, refused}
-use Rattle.optra_repair.proofs.RoomLemmas.{put_moves}
-use Rattle.optra_repair.proofs.WorthLemmas.{worth_is_walk}
+use Rattle.optra_rows.specs.Loads.{HasRoom, total_of}
+use Rattle.optra_repair.specs.Placings.{IsPutWhole, AddsWalk}
+use Rattle.optra_repair.proofs.GivenLemmas.{none_allowed, none_placeable, best_worthiest, put_given, put_adds}
 use Rattle.optra_repair.proofs.placing.place.Goals as goal
-
-pub worth_walk-requires-clause-count : goal.worth_walk-requires-clause-count
-worth_walk-requires-clause-count g c =
-    let total = total_of g.F.Row.Ord.cmp c.args.load.now.totals in
-    let parts = c.in_ok-tell_parts.ensures c.args.bid.now c.graph_of-graph.result.now total c.requires.bid c.graph_of-graph.ensures.table c.requires.room in
-    ap length c.deref.ensures.value ∙ parts.count
-
-pub worth_walk-requires-clause-range : goal.worth_walk-requires-clause-range
-worth_walk-requires-clause-range g c =
-    let net = c.args.inst.net.now in
-    let bid = c.args.bid.now in
-    let graph = c.graph_of-graph.result.now in
-    let total = total_of g.F.Row.Ord.cmp c.args.load.now.totals in
-    let parts = c.in_ok-tell_parts.ensures bid graph total c.requires.bid c.graph_of-graph.ensures.table c.requires.room in
-    rw c.deref.ensures.value (parts_range net (g.F.RowFamily.rows_of c.args.rows.now net) c.args.inst.bids.now c.args.node.now total c.args.number bid graph _ c.tell_parts.new.parts.items parts)
-
-pub keep-requires-clause-usable : goal.keep-requires-clause-usable
-keep-requires-clause-usable g c =
-    let net = c.args.inst.net.now in
-    let bid = c.args.bid.now in
-    let is = worth_is_walk net bid.path c.graph_of-graph.result.now c.deref.result.now c.in-Some.walk (c.graph_of-graph.ensures.graph bid c.requires.bid) (rw c.in-Some.is at c.in_ok-walk.ensures) in
-    subst (λ (kind : TypeId). All (IsUsable net kind) c.legs_of.result.now) (sym c.kind_of.ensures) (subst (All (IsUsable net bid.path.kind)) (sym c.legs_of.ensures) (walk_usable net c.track_count.ensures.proper bid c.in-Some.walk is))
 
 pub returns-in_default-clause-given : goal.returns-in_default-clause-given
 returns-in_default-clause-given g c placed totals =
     let net = c.args.inst.net.now in
-    let f = c.args.rows.now in
-    let proper = c.track_count.ensures.proper in
-    let bid = c.args.bid.now in
-    let graph = c.graph_of-graph.result.now in
-    let total = total_of g.F.Row.Ord.cmp c.args.load.now.totals in
-    none_given net proper (g.F.RowFamily.rows_of f net) c.args.inst.bids.now c.tests_tell_allowed.ensures c.args.node.now c.args.number bid graph (c.graph_of-graph.ensures.graph bid c.requires.bid) total c.tell_parts.new.parts.items
-    (c.in_ok-tell_parts.ensures bid graph total c.requires.bid c.graph_of-graph.ensures.table c.requires.room) (λ leg usable. (g.met.F.RowFamily.lists_rows f net bid.path.kind leg proper usable).are_rows) c.requires.within placed totals
-    (subst (λ (parts : List ArcPart). IsWorthWalk graph parts None) c.deref.ensures.value (rw c.in_default.is at c.in_ok-walk.ensures))
+    let best = rw c.in_default.is at c.in_ok-best.ensures in
+    none_allowed net (g.F.RowFamily.rows_of c.args.rows.now net) c.args.inst.bids.now c.args.node.now c.args.number c.args.bid.now placed (best c.args.bid.now c.requires.bid)
 
-pub take_up_all-requires-clause-usable : goal.take_up_all-requires-clause-usable
-take_up_all-requires-clause-usable g c =
+pub each_fits-requires : goal.each_fits-requires
+each_fits-requires g c =
     let net = c.args.inst.net.now in
     let bid = c.args.bid.now in
-    let is = worth_is_walk net bid.path c.graph_of-graph.result.now c.deref.result.now c.in-Some.walk (c.graph_of-graph.ensures.graph bid c.requires.bid) (rw c.in-Some.is at c.in_ok-walk.ensures) in
-    subst (λ (kind : TypeId). All (IsUsable net kind) c.legs_of-2.result.now) (sym c.kind_of-2.ensures) (subst (All (IsUsable net bid.path.kind)) (sym c.legs_of-2.ensures) (walk_usable net c.track_count.ensures.proper bid c.in-Some.walk is))
+    let best = rw c.in-Some.is at c.in_ok-best.ensures in
+    let usable = walk_usable net c.track_count.ensures.proper bid c.in-Some.best (best bid c.requires.bid).0.allowed.walk in
+    subst (λ (kind : TypeId). All (IsUsable net kind) c.legs_of.result.now) (sym c.kind_of-kind.ensures) (subst (All (IsUsable net bid.path.kind)) (sym c.legs_of.ensures) usable)
 
-pub returns-then-not-branch-clause-given : goal.returns-then-not-branch-clause-given
-returns-then-not-branch-clause-given g c placed totals =
+pub put-requires-clause-usable : goal.put-requires-clause-usable
+put-requires-clause-usable g c =
+    let net = c.args.inst.net.now in
+    let bid = c.args.bid.now in
+    let best = rw c.in-Some.is at c.in_ok-best.ensures in
+    let usable = walk_usable net c.track_count.ensures.proper bid c.in-Some.best (best bid c.requires.bid).0.allowed.walk in
+    subst (λ (kind : TypeId). All (IsUsable net kind) c.in-Some.best) (sym c.kind_of-kind.ensures) usable
+
+pub returns-then-each_fits-clause-given : goal.returns-then-each_fits-clause-given
+returns-then-each_fits-clause-given g c =
     let net = c.args.inst.net.now in
     let f = c.args.rows.now in
     let rows = g.F.RowFamily.rows_of f net in
-    let total = total_of g.F.Row.Ord.cmp c.args.load.now.totals in
-    let proper = c.track_count.ensures.proper in
+    let bids = c.args.inst.bids.now in
+    let node = c.args.node.now in
+    let n = c.args.number in
     let bid = c.args.bid.now in
-    let graph = c.graph_of-graph.result.now in
-    let put = put_moves rows total (total_of g.F.Row.Ord.cmp c.keep.new.load.totals) c.kind_of.result bid.path.kind c.legs_of.result.now c.in-Some.walk c.in_ok-keep.field-0 false c.kind_of.ensures c.legs_of.ensures c.if-not-branch.true c.in_ok-keep.ensures in
-    refused net proper rows c.args.inst.bids.now c.tests_tell_allowed.ensures c.args.node.now c.args.number bid graph (c.graph_of-graph.ensures.graph bid c.requires.bid) total c.tell_parts.new.parts.items
-    (c.in_ok-tell_parts.ensures bid graph total c.requires.bid c.graph_of-graph.ensures.table c.requires.room) (λ leg usable. (g.met.F.RowFamily.lists_rows f net bid.path.kind leg proper usable).are_rows) c.requires.within placed totals c.in-Some.walk
-    (subst (λ (parts : List ArcPart). IsWorthWalk graph parts (Some c.in-Some.walk)) c.deref.ensures.value (rw c.in-Some.is at c.in_ok-walk.ensures)) put.0
+    let proper = c.track_count.ensures.proper in
+    let legs = c.in-Some.best in
+    let total = total_of g.F.Row.Ord.cmp c.args.load.now.totals in
+    let after = total_of g.F.Row.Ord.cmp c.put.new.load.totals in
+    let best = rw c.in-Some.is at c.in_ok-best.ensures in
+    let room : All (HasRoom rows total bid.path.kind) legs = subst (λ (kind : TypeId). All (HasRoom rows total kind) legs) c.kind_of-kind.ensures (subst (All (HasRoom rows total c.kind_of-kind.result)) c.legs_of.ensures (c.if-each_fits.ensures.0 refl)) in
+    IfOk-weaker c.put.result _ _
+    (λ given put placed totals.
+    let worthiest = best_worthiest net rows bids node n bid placed total c.requires.within totals proper (λ leg usable. (g.met.F.RowFamily.lists_rows f net bid.path.kind leg proper usable).are_rows) legs (best bid c.requires.bid) room in
+    put_given net rows bids node n bid placed total c.requires.within totals after legs given worthiest (subst (λ (kind : TypeId). IsPutWhole rows kind legs given total after) c.kind_of-kind.ensures put))
+    c.put.ensures.put
+
+pub worthiest-requires-clause-number : goal.worthiest-requires-clause-number
+worthiest-requires-clause-number g c = slice_get_within c.args.inst.bids.now c.args.number c.args.bid.now c.requires.bid
+
+pub returns-in_default-2-clause-given : goal.returns-in_default-2-clause-given
+returns-in_default-2-clause-given g c placed totals =
+    let net = c.args.inst.net.now in
+    let total = total_of g.F.Row.Ord.cmp c.args.load.now.totals in
+    let worthiest = rw c.in_default-2.is at c.in_ok-walk.ensures.worthiest in
+    none_placeable net (g.F.RowFamily.rows_of c.args.rows.now net) c.args.inst.bids.now c.args.node.now c.args.number c.args.bid.now placed (worthiest c.args.bid.now total placed c.requires.bid c.requires.room c.requires.within totals)
+
+pub put-requires-2-clause-usable : goal.put-requires-2-clause-usable
+put-requires-2-clause-usable g c =
+    let net = c.args.inst.net.now in
+    let bid = c.args.bid.now in
+    let is = rw c.in-Some-2.is at c.in_ok-walk.ensures.walk in
+    subst (λ (kind : TypeId). All (IsUsable net kind) c.in-Some-2.walk) (sym c.kind_of-kind.ensures) (walk_usable net c.track_count.ensures.proper bid c.in-Some-2.walk (is bid c.requires.bid))
 
 pub returns-clause-given : goal.returns-clause-given
-returns-clause-given g c placed totals =
+returns-clause-given g c =
     let net = c.args.inst.net.now in
-    let f = c.args.rows.now in
-    let rows = g.F.RowFamily.rows_of f net in
-    let total = total_of g.F.Row.Ord.cmp c.args.load.now.totals in
-    let proper = c.track_count.ensures.proper in
+    let rows = g.F.RowFamily.rows_of c.args.rows.now net in
     let bid = c.args.bid.now in
-    let graph = c.graph_of-graph.result.now in
-    let put = put_moves rows total (total_of g.F.Row.Ord.cmp c.keep.new.load.totals) c.kind_of.result bid.path.kind c.legs_of.result.now c.in-Some.walk c.in_ok-keep.field-0 true c.kind_of.ensures c.legs_of.ensures c.if-not-branch.false c.in_ok-keep.ensures in
-    walk_given net proper rows c.args.inst.bids.now c.tests_tell_allowed.ensures c.args.node.now c.args.number bid graph (c.graph_of-graph.ensures.graph bid c.requires.bid) total c.tell_parts.new.parts.items
-    (c.in_ok-tell_parts.ensures bid graph total c.requires.bid c.graph_of-graph.ensures.table c.requires.room) (λ leg usable. (g.met.F.RowFamily.lists_rows f net bid.path.kind leg proper usable).are_rows) c.requires.within placed totals c.in-Some.walk
-    (subst (λ (parts : List ArcPart). IsWorthWalk graph parts (Some c.in-Some.walk)) c.deref.ensures.value (rw c.in-Some.is at c.in_ok-walk.ensures)) put.0
+    let legs = c.in-Some-2.walk in
+    let total = total_of g.F.Row.Ord.cmp c.args.load.now.totals in
+    let after = total_of g.F.Row.Ord.cmp c.put-2.new.load.totals in
+    let worthiest = rw c.in-Some-2.is at c.in_ok-walk.ensures.worthiest in
+    IfOk-weaker c.put-2.result _ _
+    (λ given put placed totals.
+    put_given net rows c.args.inst.bids.now c.args.node.now c.args.number bid placed total c.requires.within totals after legs given (worthiest bid total placed c.requires.bid c.requires.room c.requires.within totals)
+    (subst (λ (kind : TypeId). IsPutWhole rows kind legs given total after) c.kind_of-kind.ensures put))
+    c.put-2.ensures.put
 
-pub returns-clause-room : goal.returns-clause-room
-returns-clause-room g c =
+pub returns-clause-adds : goal.returns-clause-adds
+returns-clause-adds g c =
     let rows = g.F.RowFamily.rows_of c.args.rows.now c.args.inst.net.now in
     let total = total_of g.F.Row.Ord.cmp c.args.load.now.totals in
-    let after = total_of g.F.Row.Ord.cmp c.keep.new.load.totals in
-    let put = put_moves rows total after c.kind_of.result c.kind_of-2.result c.legs_of.result.now c.legs_of-2.result.now c.in_ok-keep.field-0 true (c.kind_of.ensures ∙ sym c.kind_of-2.ensures) (c.legs_of.ensures ∙ sym c.legs_of-2.ensures) c.if-not-branch.false c.in_ok-keep.ensures in
-    c.in_ok-take_up_all.ensures total after put.1 c.requires.room
+    let after = total_of g.F.Row.Ord.cmp c.put-2.new.load.totals in
+    IfOk-weaker c.put-2.result _ _
+    (λ given put. subst (λ (kind : TypeId). AddsWalk rows kind given total after) c.kind_of-kind.ensures (put_adds rows c.kind_of-kind.result total after c.in-Some-2.walk given put))
+    c.put-2.ensures.put

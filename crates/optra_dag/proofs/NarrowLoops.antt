@@ -1,0 +1,106 @@
+-- What the loops over the arcs of one node keep.
+use Rattle.std.proofs.Common.{◌≡◌, ◌≢◌, ℕ, List, ◌++◌, take, drop, length, get_or, ap, ◌+◌, max, cond, ◌<◌, ◌≤◌, ◌⊎◌, inl, inr, ⊎_elim, Bool, true, false, refl, sym, ◌∙◌, subst, arith, ℤ, pos, ◌≤ℤ◌, ◌<ℤ◌}
+use Rattle.std.proofs.lemmas.Bool.{cases_lt}
+use Rattle.std.proofs.Math.Nat.{eq-or-lt_of_le}
+use Rattle.std.proofs.Math.Seq.{take-append_seam}
+use Rattle.std.specs.Int.{int_max}
+use Rattle.std.specs.Prelude.{int_lt}
+use lib.Signed.{lt_z}
+use Rattle.std.proofs.lemmas.Int.{ints}
+use Rattle.optra_dag.specs.Spans.{StandsIn}
+use Rattle.optra_dag.specs.NarrowSums.{far, value_of, IsBestOf, IsFirstBy}
+use Rattle.optra_dag.proofs.Ways.{same_default}
+use Rattle.optra_dag.specs.declared.spans.Span.{Span}
+
+abbrev span_of : ℕ → ℕ → Span
+span_of a b = record { start = a; stop = b }
+
+le_self : (a : ℤ) → a ≤ℤ a
+le_self a = omega (arith, ints)
+
+le_le : (a b c : ℤ) → a ≤ℤ b → b ≤ℤ c → a ≤ℤ c
+le_le a b c h l = omega (arith, ints)
+
+le_same : (a b : ℤ) → a ≡ b → a ≤ℤ b
+le_same a b h = omega (arith, ints)
+
+-- what the call that gives an arc's value says of it
+pub value_by : (allowed : Bool) (weight r : ℤ) → (allowed ≡ true → r ≡ weight) → (allowed ≡ false → r ≡ far) → r ≡ value_of allowed weight
+value_by true weight r on off = on refl
+value_by false weight r on off = off refl
+
+pub best_start : (by : ℕ → ℤ) (empty : ℤ) (start : ℕ) → IsBestOf by empty (span_of start start) empty
+best_start by empty start = record {
+  empty_most = le_self empty;
+  most = λ k h. let a : start ≤ k = h.0 in let b : k < start = h.1 in absurd (omega arith);
+  one = inl refl;
+}
+
+pub best_more : (by : ℕ → ℤ) (empty best sum new : ℤ) (start k : ℕ) → start ≤ k → sum ≡ by k → best ≤ℤ new → sum ≤ℤ new → (new ≡ best) ⊎ (new ≡ sum)
+    → IsBestOf by empty (span_of start k) best → IsBestOf by empty (span_of start (k + 1)) new
+best_more by empty best sum new start k l e old one which h = record {
+  empty_most = le_le _ _ _ h.empty_most old;
+  most = λ j s. most j s (cases_lt j k);
+  one = picked which;
+}
+  where
+    most : (j : ℕ) → StandsIn (span_of start (k + 1)) j → (j < k) ⊎ (k ≤ j) → by j ≤ℤ new
+    most j s (inl m) = le_le _ _ _ (h.most j (s.0, m)) old
+    most j s (inr m) = let b : j < k + 1 = s.1 in let same : k ≡ j = omega arith in subst (λ i. by i ≤ℤ new) same (le_le _ _ _ (le_same _ _ (sym e)) one)
+
+    kept : new ≡ best → (best ≡ empty) ⊎ ((j : ℕ) × StandsIn (span_of start k) j × (by j ≡ best)) → (new ≡ empty) ⊎ ((j : ℕ) × StandsIn (span_of start (k + 1)) j × (by j ≡ new))
+    kept n (inl t) = inl (n ∙ t)
+    kept n (inr t) = inr (t.0, (t.1.0, let b : t.0 < k = t.1.1 in omega arith), t.2 ∙ sym n)
+
+    picked : (new ≡ best) ⊎ (new ≡ sum) → (new ≡ empty) ⊎ ((j : ℕ) × StandsIn (span_of start (k + 1)) j × (by j ≡ new))
+    picked (inl n) = kept n h.one
+    picked (inr n) = inr (k, (l, omega arith), sym e ∙ sym n)
+
+pub best_all : (by : ℕ → ℤ) (empty best : ℤ) (span : Span) (k : ℕ) → span.stop ≤ k → k ≤ max span.start span.stop
+    → IsBestOf by empty (span_of span.start k) best → IsBestOf by empty span best
+best_all by empty best span k over short h = record {
+  empty_most = h.empty_most;
+  most = λ j s. h.most j (s.0, let b : j < span.stop = s.1 in omega arith);
+  one = ⊎_elim (λ e. inl e) (λ (t : (j : ℕ) × StandsIn (span_of span.start k) j × (by j ≡ best)). inr (t.0, (t.1.0, inside t.0 t.1), t.2)) h.one;
+}
+  where
+    inside : (j : ℕ) → StandsIn (span_of span.start k) j → j < span.stop
+    inside j s = let a : span.start ≤ j = s.0 in let b : j < k = s.1 in omega arith
+
+pub max_is : (a b r : ℤ) → r ≡ int_max a b → (r ≡ a) ⊎ (r ≡ b)
+max_is a b r e = by (int_lt b a) refl e
+  where
+    by : (t : Bool) → int_lt b a ≡ t → r ≡ cond t a b → (r ≡ a) ⊎ (r ≡ b)
+    by true d e = inl e
+    by false d e = inr e
+
+-- the first arc on does not give the sum
+pub one_on : (by : ℕ → ℤ) (sum : ℤ) (k stop : ℕ) → by k ≢ sum → (j : ℕ) × StandsIn (span_of k stop) j × (by j ≡ sum)
+    → (j : ℕ) × StandsIn (span_of (k + 1) stop) j × (by j ≡ sum)
+one_on by sum k stop off h = (h.0, (further (eq-or-lt_of_le h.1.0), h.1.1), h.2)
+  where
+    further : (k ≡ h.0) ⊎ (k < h.0) → k + 1 ≤ h.0
+    further (inl e) = absurd (off (subst (λ i. by i ≡ sum) (sym e) h.2))
+    further (inr l) = omega arith
+
+pub passed_on : (by : ℕ → ℤ) (sum : ℤ) (span : Span) (k : ℕ) → by k ≢ sum → ((j : ℕ) → StandsIn span j → j < k → by j ≢ sum)
+    → (j : ℕ) → StandsIn span j → j < k + 1 → by j ≢ sum
+passed_on by sum span k off h j s l = at (cases_lt j k)
+  where
+    at : (j < k) ⊎ (k ≤ j) → by j ≢ sum
+    at (inl m) = h j s m
+    at (inr m) = let e : k ≡ j = omega arith in subst (λ i. by i ≢ sum) e off
+
+-- the first arc of a span that gives a sum
+pub first_by : (by : ℕ → ℤ) (sum : ℤ) (span : Span) (k : ℕ) → StandsIn span k → by k ≡ sum → ((j : ℕ) → StandsIn span j → j < k → by j ≢ sum) → IsFirstBy by span sum k
+first_by by sum span k s e h = record { stands = s; gives = e; first = h }
+
+-- what was written into the whole of an array
+pub whole_written : (len : ℕ) (xs ys : List ℤ) → len ≡ length xs → take len (xs ++ drop (length xs) ys) ≡ xs
+whole_written len xs ys e = ap (λ n. take n (xs ++ drop (length xs) ys)) e ∙ take-append_seam xs (drop (length xs) ys)
+
+pub read_zero : (xs : List ℤ) (i : ℕ) (x : ℤ) → i < length xs → x ≡ get_or xs i x → x ≡ get_or xs i (pos 0)
+read_zero xs i x l e = e ∙ same_default xs i x (pos 0) l
+
+pub is_below : (a b : ℤ) → lt_z a b ≡ true → a <ℤ b
+is_below a b e = grind (arith, ints)

@@ -1,0 +1,241 @@
+//! The first path of greatest weight in 64 bits: the best sum of each node, from the last node to
+//! the first, and then the path by these sums.
+ghost use Rattle.std.specs.Prelude.{◌≡◌, ℕ, Bool, true, false, ◌*◌, ◌<◌, ◌≤◌, ◌↔◌, ◌≤ℤ◌, pos, length, slice_index_or, slice_set, IfOk, OnOk, IfSome, IfNone, IsTrue, ℤ, List};
+ghost use Rattle.optra_dag.specs.Paths.{IsPath, IsFirstBest};
+ghost use Rattle.optra_dag.specs.WaySums.{open_graph, plain_graph};
+ghost use Rattle.optra_dag.specs.Spans.{no_span, StandsIn};
+ghost use Rattle.optra_dag.specs.NarrowSums.{IsWithin, arc_value, sum_by, CanBeSummed, IsBestOf, IsFirstBy, empty_sum, IsNarrow, HasSums, IsFirstWay, IsOver};
+
+use crate::buffers::Buffers;
+use crate::graphs::Dag;
+use crate::spans::Span;
+use crate::{Arc, NoMemory};
+
+/// The value of an arc that no path may take, far below all sums.
+pub const FAR: i64 = -4611686018427387904;
+
+/// The most that the bound of the weights times the count of nodes may be for a narrow search:
+/// 2^60.
+pub const NARROW_ROOM: u64 = 1152921504606846976;
+
+/// Half of [`FAR`]. No path has so low a sum.
+const LEAST: i64 = -2305843009213693952;
+
+/// Which arcs a path may take, and what each adds, in 64 bits. The answers depend on the arc alone
+/// while the value is lent.
+pub trait NarrowWeight {
+    /// It may be asked about the arcs below this number.
+    ghost asked: { Self → ℕ };
+
+    ghost allows: { Self → ℕ → Bool };
+
+    ghost weight: { Self → ℕ → ℤ };
+
+    /// What the arc adds to the sum of a path; [`FAR`] where no path may take it.
+    fn of(&self, arc: u32) -> i64
+        requires { arc < asked self.now }
+        ensures allowed { allows self.now arc ≡ true → result ≡ weight self.now arc }
+        ensures other { allows self.now arc ≡ false → result ≡ FAR };
+}
+
+/// Whether [`narrow_best_in`] may go over the graph where each allowed arc weighs from `-most` to
+/// `most`.
+pub fn is_narrow(dag: &Dag, most: u64) -> bool
+    ensures { IsTrue result ↔ (most * length dag.now.ends ≤ NARROW_ROOM) }
+{
+    match most.checked_mul(dag.ends.len() as u64) {
+        Some(all) => all <= NARROW_ROOM,
+        None => false,
+    }
+}
+
+/// Like [`first_best_in`](crate::first_best_in), in 64 bits and several times as fast: `Some` with
+/// the weight where there is a path, which the buffers then hold, and `None` exactly where there is
+/// none. Each allowed arc weighs from `-most` to `most`, and `most` times the count of nodes is at
+/// most [`NARROW_ROOM`], as [`is_narrow`] tells. After `NoMemory` the buffers may hold any path;
+/// the next search empties them as well.
+pub fn narrow_best_in<W: NarrowWeight>(
+    buffers: &mut Buffers,
+    dag: &Dag,
+    weight: &W,
+    most: u64,
+) -> Result<Option<i64>, NoMemory>
+    requires asked { length dag.now.arcs ≤ W.asked weight.now }
+    requires weights { (k : ℕ) → k < length dag.now.arcs → W.allows weight.now k ≡ true
+        → IsWithin most (W.weight weight.now k) }
+    requires room { most * length dag.now.ends ≤ NARROW_ROOM }
+    ensures best { IfOk result (λ answer. IfSome answer (λ sum.
+        IsFirstBest dag.now (W.allows weight.now) (W.weight weight.now) sum buffers.new)) }
+    ensures none { IfOk result (λ answer. IfNone answer
+        ((path : List ℕ) → IsPath dag.now (W.allows weight.now) path → ⊥)) }
+{
+    let arcs = &dag.arcs;
+    let ends = &dag.ends;
+    let spans = &dag.spans;
+    search(
+        &mut buffers.narrow,
+        &mut buffers.path,
+        arcs,
+        ends,
+        spans,
+        weight,
+        most,
+    )
+}
+
+fn search<W: NarrowWeight>(
+    sums: &mut Vec<i64>,
+    path: &mut Vec<u32>,
+    arcs: &[Arc],
+    ends: &[bool],
+    spans: &[Span],
+    weight: &W,
+    most: u64,
+) -> Result<Option<i64>, NoMemory>
+    requires asked { length arcs.now ≤ W.asked weight.now }
+    requires narrow { IsNarrow arcs.now ends.now spans.now
+        (W.allows weight.now) (W.weight weight.now) most }
+    ensures best { IfOk result (λ answer. IfSome answer (λ sum.
+        IsFirstBest (plain_graph arcs.now ends.now)
+        (W.allows weight.now) (W.weight weight.now) sum path.new.items)) }
+    ensures none { IfOk result (λ answer. IfNone answer
+        ((path : List ℕ) → IsPath (plain_graph arcs.now ends.now) (W.allows weight.now) path → ⊥)) }
+{
+    sums.resize(ends.len(), FAR)?;
+    sweep(sums, arcs, ends, spans, weight, most);
+    let sum = sums[0];
+    if sum < LEAST {
+        return Ok(None);
+    }
+    trace(path, sums, arcs, ends, spans, weight, most)?;
+    Ok(Some(sum))
+}
+
+/// Whether the node is an end; the path from node 0 may not be empty.
+fn ends_at(ends: &[bool], node: usize) -> bool
+    requires { node < length ends.now }
+    ensures { result ≡ slice_index_or (slice_set ends.now 0 false) node false }
+{
+    node != 0 && ends[node]
+}
+
+/// The sum of the empty way.
+fn empty_sum(end: bool) -> i64
+    ensures { result ≡ empty_sum end }
+{
+    if end { 0 } else { FAR }
+}
+
+/// The sums of all nodes, from the last node to the first. What the array held before is not read.
+fn sweep<W: NarrowWeight>(
+    sums: &mut [i64],
+    arcs: &[Arc],
+    ends: &[bool],
+    spans: &[Span],
+    weight: &W,
+    most: u64,
+)
+    requires asked { length arcs.now ≤ W.asked weight.now }
+    requires narrow { IsNarrow arcs.now ends.now spans.now
+        (W.allows weight.now) (W.weight weight.now) most }
+    requires long { length sums.old ≡ length ends.now }
+    ensures long { length sums.new ≡ length ends.now }
+    ensures summed { HasSums arcs.now ends.now
+        (W.allows weight.now) (W.weight weight.now) most sums.new 0 }
+{
+    let _most = most;
+    let mut node = ends.len();
+    'nodes: while node > 0 {
+        node -= 1;
+        let empty = empty_sum(ends_at(ends, node));
+        let best = best_of_node(sums, arcs, spans[node], weight, empty);
+        sums[node] = best;
+    }
+}
+
+/// The best sum of a node: that of the empty way, or that by the best of its arcs.
+fn best_of_node<W: NarrowWeight>(
+    sums: &[i64],
+    arcs: &[Arc],
+    span: Span,
+    weight: &W,
+    empty: i64,
+) -> i64
+    requires asked { length arcs.now ≤ W.asked weight.now }
+    requires sums { (k : ℕ) → StandsIn span k → CanBeSummed arcs.now
+        (arc_value (W.allows weight.now) (W.weight weight.now)) sums.now k }
+    ensures { IsBestOf (sum_by arcs.now
+        (arc_value (W.allows weight.now) (W.weight weight.now)) sums.now) empty span result }
+{
+    let mut best = empty;
+    'arcs: for k in span.start..span.stop {
+        let rest = sums[arcs[k as usize].to as usize];
+        best = best.max(weight.of(k) + rest);
+    }
+    best
+}
+
+/// The path from node 0 by the sums: at each node by its first arc that gives the node's sum.
+fn trace<W: NarrowWeight>(
+    path: &mut Vec<u32>,
+    sums: &[i64],
+    arcs: &[Arc],
+    ends: &[bool],
+    spans: &[Span],
+    weight: &W,
+    most: u64,
+) -> Result<(), NoMemory>
+    requires asked { length arcs.now ≤ W.asked weight.now }
+    requires narrow { IsNarrow arcs.now ends.now spans.now
+        (W.allows weight.now) (W.weight weight.now) most }
+    requires long { length sums.now ≡ length ends.now }
+    requires summed { HasSums arcs.now ends.now
+        (W.allows weight.now) (W.weight weight.now) most sums.now 0 }
+    requires reached { LEAST ≤ℤ slice_index_or sums.now 0 (pos 0) }
+    ensures { OnOk result (IsFirstWay (open_graph arcs.now ends.now)
+        (W.allows weight.now) (W.weight weight.now)
+        0 (slice_index_or sums.now 0 (pos 0)) path.new.items) }
+{
+    let _most = most;
+    path.clear();
+    let mut node: u32 = 0;
+    'nodes: while !is_over(ends, sums, node as usize) {
+        let sum = sums[node as usize];
+        let number = first_arc_by(sums, arcs, spans[node as usize], weight, sum);
+        path.push(number)?;
+        node = arcs[number as usize].to;
+    }
+    Ok(())
+}
+
+/// Whether the path ends at the node: the empty way is as good as any, and comes before all others.
+fn is_over(ends: &[bool], sums: &[i64], node: usize) -> bool
+    requires end { node < length ends.now }
+    requires sum { node < length sums.now }
+    ensures { IsTrue result ↔ IsOver ends.now sums.now node }
+{
+    sums[node] == 0 && ends_at(ends, node)
+}
+
+/// The first arc of the span that gives the sum; one does.
+fn first_arc_by<W: NarrowWeight>(
+    sums: &[i64],
+    arcs: &[Arc],
+    span: Span,
+    weight: &W,
+    sum: i64,
+) -> u32
+    requires asked { length arcs.now ≤ W.asked weight.now }
+    requires sums { (k : ℕ) → StandsIn span k → CanBeSummed arcs.now
+        (arc_value (W.allows weight.now) (W.weight weight.now)) sums.now k }
+    requires one { (k : ℕ) × StandsIn span k × (sum_by arcs.now
+        (arc_value (W.allows weight.now) (W.weight weight.now)) sums.now k ≡ sum) }
+    ensures { IsFirstBy (sum_by arcs.now
+        (arc_value (W.allows weight.now) (W.weight weight.now)) sums.now) span sum result }
+{
+    let mut k = span.start;
+    'arcs: while weight.of(k) + sums[arcs[k as usize].to as usize] != sum {
+        k += 1;
+    }
+    k
+}

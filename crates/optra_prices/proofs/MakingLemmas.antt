@@ -1,0 +1,88 @@
+-- Legs that have entered keep their groups while rows get numbers and groups are added.
+use Rattle.std.proofs.Common.{◌≡◌, ℕ, List, [], ◌∷◌, ◌++◌, get_or, true, slice_get, sym, ap, ◌∙◌, subst, arith, ℤ, pos, ◌≤ℤ◌}
+use Rattle.std.specs.Prelude.{All, Contains, neg_ℤ}
+use Rattle.std.specs.BTreeMap.{BTreeMap, is_at}
+use Rattle.std.specs.Map.{lookup}
+use Rattle.std.specs.declared.cmp.Ordering.{Ordering}
+use Rattle.std.proofs.lemmas.Int.{ints}
+use Rattle.std.proofs.lemmas.List.Elements.{All-contains, All-push}
+use Rattle.std.proofs.lemmas.Option.{none-some}
+use Rattle.optra_network.specs.Net.{Net}
+use Rattle.optra_network.specs.declared.TypeId.{TypeId}
+use Rattle.optra_bid.specs.Specs.{IsBetween}
+use Rattle.optra_walk.specs.declared.Leg.{Leg}
+use Rattle.optra_walk.specs.Families.{Rows}
+use Rattle.optra_prices.specs.Tables.{IsNumbering, Extends, AreTouches, group_at, AreGroups, KeepsGroups}
+use Rattle.optra_prices.specs.Makings.{IsGroupOf, IsHead, IsMaking, Grows}
+use Rattle.optra_prices.specs.Standings.{Covers, IsMost}
+use Rattle.optra_prices.specs.declared.making.Head.{Head}
+use Rattle.optra_prices.specs.declared.making.Making.{Making}
+use Rattle.optra_prices.specs.declared.numbering.ArcTerm.{ArcTerm}
+use Rattle.optra_prices.specs.declared.numbering.Groups.{Groups}
+use Rattle.optra_prices.specs.declared.numbering.Numbering.{Numbering}
+use Rattle.optra_prices.specs.declared.numbering.Touch.{Touch}
+use Rattle.optra_prices.proofs.NumberLemmas.{touches_kept, extends_more}
+
+module _ {R : Type 0} (net : Net) (rows : Rows R) (used : TypeId → Leg → List R) (old new : Numbering R) (before after : Groups) where
+  group_kept : (kind : TypeId) (leg : Leg) (g : ℕ) → Extends old.rows.items new.rows.items → KeepsGroups before.starts.items before.touches.items after.starts.items after.touches.items
+      → IsGroupOf rows used kind leg old before g → IsGroupOf rows used kind leg new after g
+  group_kept kind leg g extends keeps is = record {
+    within = let w = is.within in let m = keeps.more in omega arith;
+    touches = subst (λ (touches : List Touch). AreTouches new.rows.items (rows.uses kind leg) touches (used kind leg)) (sym (keeps.same g is.within))
+        (touches_kept old.rows.items new.rows.items (rows.uses kind leg) extends (group_at before.starts.items before.touches.items g) (used kind leg) is.touches);
+  }
+
+  pub heads_kept : (heads : List Head) → Extends old.rows.items new.rows.items → KeepsGroups before.starts.items before.touches.items after.starts.items after.touches.items
+      → All (IsHead net rows used old before) heads → All (IsHead net rows used new after) heads
+  heads_kept heads extends keeps are k d l =
+      let is = are k d l in
+      record { usable = is.usable; group_is = group_kept _ _ _ extends keeps is.group_is }
+
+pub groups_more : (a b c : Groups) → KeepsGroups a.starts.items a.touches.items b.starts.items b.touches.items → KeepsGroups b.starts.items b.touches.items c.starts.items c.touches.items
+    → KeepsGroups a.starts.items a.touches.items c.starts.items c.touches.items
+groups_more a b c h k = record {
+  more = let m = h.more in let n = k.more in omega arith;
+  same = λ g l. let m = h.more in k.same g (omega arith) ∙ h.same g l;
+}
+
+pub grows_more : {R : Type 0} (a b c : Making R) → Grows a b → Grows b c → Grows a c
+grows_more a b c h k = record {
+  extends = extends_more a.numbering.rows.items b.numbering.rows.items c.numbering.rows.items h.extends k.extends;
+  keeps = groups_more a.groups b.groups c.groups h.keeps k.keeps;
+}
+
+-- no row and no number
+numbering_none : {R : Type 0} (cmp : R → R → Ordering) (numbers : BTreeMap R ℕ) (rows : List R) → numbers.entries ≡ [] → rows ≡ [] → IsNumbering cmp numbers rows
+numbering_none cmp numbers rows none is = record {
+  found = λ row n at. absurd (none-some n (sym (ap (lookup (is_at (cmp row))) none) ∙ at));
+  known = λ n row at. absurd (none-some row (ap (λ (xs : List _). slice_get xs n) (sym is) ∙ at));
+}
+
+none : {X : Type 0} (P : X → Type 0) (xs : List X) → xs ≡ [] → All P xs
+none P xs is = subst (All P) (sym is) (λ k d l. absurd (omega arith))
+
+pub making_none : {R : Type 0} (cmp : R → R → Ordering) (net : Net) (rows : Rows R) (used : TypeId → Leg → List R) (making : Making R) → making.numbering.numbers.entries ≡ [] → making.numbering.rows.items ≡ [] → making.heads.items ≡ []
+    → AreGroups making.groups.starts.items making.groups.touches.items → IsMaking cmp net rows used making
+making_none cmp net rows used making no_numbers no_rows no_heads groups = record {
+  numbering = numbering_none cmp making.numbering.numbers making.numbering.rows.items no_numbers no_rows;
+  rows_are = none (λ row. rows.is_row row ≡ true) making.numbering.rows.items no_rows;
+  groups_are = groups;
+  heads_are = none (IsHead net rows used making.numbering making.groups) making.heads.items no_heads;
+}
+
+wider : (most after value : ℤ) → most ≤ℤ after → IsBetween (neg_ℤ most) most value → IsBetween (neg_ℤ after) after value
+wider most after value up v = let a = v.0 in let b = v.1 in (omega (arith, ints), omega (arith, ints))
+
+-- one arc more, whose value does not exceed the most
+pub covers_push : (most after : ℤ) (arcs : List ArcTerm) (arc : ArcTerm) → Covers most arcs → IsMost after → most ≤ℤ after → IsBetween (neg_ℤ after) after arc.value → Covers after (arcs ++ arc ∷ [])
+covers_push most after arcs arc are range up value = record {
+  range = range;
+  values = All-push (λ (a : ArcTerm). IsBetween (neg_ℤ after) after a.value) arcs arc (λ k d l. wider most after (get_or arcs k d).value up (are.values k d l)) value;
+}
+
+-- no arc is there yet
+pub covers_none : (most : ℤ) (arcs : List ArcTerm) → arcs ≡ [] → most ≡ pos 0 → Covers most arcs
+covers_none most arcs empty zero = record {
+  range = subst IsMost (sym zero) (omega (arith, ints), omega (arith, ints));
+  values = none (λ (arc : ArcTerm). IsBetween (neg_ℤ most) most arc.value) arcs empty;
+}

@@ -1,0 +1,14 @@
+use Rattle.std.proofs.Common.{◌≡◌, Bool, true, false, refl, sym, ◌∙◌}
+use Rattle.std.specs.Prelude.{◌||◌}
+use Rattle.optra_prices.proofs.HolderLemmas.{same_groups, neither}
+use Rattle.optra_prices.proofs.allowing.allow_table.Goals as goal
+
+pub returns-clause-brought : goal.returns-clause-brought
+returns-clause-brought g c =
+    let told = c.allow_arcs-arcs.ensures.told in
+    record {
+      graph = refl;
+      groups = same_groups c.args.table.now.arcs.items c.allow_arcs-arcs.new.arcs.items told.count_is (λ k before after old_at new_at. (told.each k before after old_at new_at).group_is);
+      arcs = λ e. c.allow_arcs-arcs.ensures.same (neither _ _ (sym c.either.ensures ∙ e)).0;
+      forced = λ e. c.set_forced-forced.ensures.same (neither _ _ (sym c.either.ensures ∙ e)).1;
+    }

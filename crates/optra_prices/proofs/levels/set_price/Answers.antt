@@ -1,0 +1,83 @@
+use Rattle.std.proofs.Common.{◌≡◌, ℕ, ◌<◌, ◌∙◌, length, set, sym, ap, subst, arith, rules, to_z, of_z}
+use Rattle.std.specs.Prelude.{All, ℤ, pos, ◌+ℤ◌, ◌-ℤ◌, ◌*ℤ◌, ◌≤ℤ◌, slice_index, slice_index_or, FitsSigned}
+use Rattle.std.specs.Int.{w64, w128}
+use Rattle.std.proofs.lemmas.Int.{ints, to_z-of_z}
+use Rattle.std.proofs.lemmas.List.{get_or_read, set-get_or, length-set}
+use Rattle.std.proofs.lemmas.List.Elements.{All-set}
+use Rattle.optra_prices.specs.Columns.{PricesAllButDue}
+use Rattle.optra_prices.specs.Listings.{capacity_below}
+use Rattle.optra_prices.specs.Tables.{IsRowPrice}
+use Rattle.optra_prices.proofs.ColumnLemmas.{moved_due}
+use Rattle.optra_prices.proofs.LevelLemmas.{woken_levels, woken_here, capacity_range, capacity_set, covers_priced}
+use Rattle.optra_prices.proofs.levels.set_price.Goals as goal
+
+pub returns-then-old-price-clause-prices : goal.returns-then-old-price-clause-prices
+returns-then-old-price-clause-prices c =
+    let prices = c.args.levels.now.prices.items in
+    let old = c.index-old.result.now in
+    let f1 : FitsSigned w64 old = search rules in
+    let f2 : FitsSigned w64 c.args.price = search rules in
+    let same : old ≡ c.args.price = sym (to_z-of_z w64 old f1) ∙ ap (to_z w64) c.if-old-price.true ∙ to_z-of_z w64 c.args.price f2 in
+    sym (ap (set prices c.args.number) (sym same ∙ c.index-old.ensures) ∙ set-get_or prices c.args.number old)
+
+pub capacity_after-levels-requires-clause-total : goal.capacity_after-levels-requires-clause-total
+capacity_after-levels-requires-clause-total c =
+    let woken = c.wake.new.levels in
+    let is = woken_levels c.args.number c.args.levels.now woken c.in_ok-wake.ensures c.requires.levels in
+    let range = capacity_range woken.prices.items woken.capacities.items (length woken.prices.items) is.range is.small in
+    let a = is.capacity_is in
+    let b = range.0 in
+    let d = range.1 in
+    let n = woken.prices.ok in
+    let s = woken.prices.small in
+    let low : pos 0 ≤ℤ woken.capacity = omega (arith, ints) in
+    let high : woken.capacity ≤ℤ pos 2417851639229258349412352000000000000 = omega (arith, ints) in
+    let fits : FitsSigned w128 woken.capacity = search rules in
+    simp (to_z-of_z w128 woken.capacity fits) (low, high)
+
+pub returns-clause-levels : goal.returns-clause-levels
+returns-clause-levels c =
+    let old = c.args.levels.now in
+    let woken = c.wake.new.levels in
+    let wakes = c.in_ok-wake.ensures in
+    let is = woken_levels c.args.number old woken wakes c.requires.levels in
+    let number = c.args.number in
+    let prices = woken.prices.items in
+    let capacities = woken.capacities.items in
+    let count = length prices in
+    let within : number < count = subst (λ v. number < length v.items) (sym wakes.prices) c.requires.within in
+    let fits : FitsSigned w64 c.args.price = search rules in
+    let price = to_z w64 (of_z w64 c.args.price) in
+    let range : IsRowPrice price = subst IsRowPrice (sym (to_z-of_z w64 c.args.price fits)) c.requires.price in
+    let before = c.index-old.result.now in
+    let f1 : FitsSigned w64 before = search rules in
+    let before_is : to_z w64 (of_z w64 before) ≡ slice_index_or prices number (pos 0) =
+    to_z-of_z w64 before f1 ∙ get_or_read old.prices.items number before c.requires.within c.index-old.ensures (pos 0) ∙ ap (λ v. slice_index_or v.items number (pos 0)) (sym wakes.prices)
+    in
+    let capacity = c.index.result.now in
+    let capacity_is : capacity ≡ slice_index capacities number = get_or_read capacities number capacity (let n = is.capacity_count in omega arith) c.index.ensures 0 in
+    let total = woken.capacity in
+    let f2 : FitsSigned w128 total = search rules in
+    let f3 : FitsSigned w128 c.capacity_after-levels.result = search rules in
+    let after = to_z-of_z w128 c.capacity_after-levels.result f3 ∙ c.capacity_after-levels.ensures ∙ ap (λ (z : ℤ). z +ℤ (price *ℤ pos capacity -ℤ to_z w64 (of_z w64 before) *ℤ pos capacity)) (to_z-of_z w128 total f2 ∙ is.capacity_is)
+    ∙ ap (λ (z : ℤ). capacity_below prices capacities count +ℤ (price *ℤ pos capacity -ℤ z *ℤ pos capacity)) before_is
+    ∙ ap (λ (n : ℕ). capacity_below prices capacities count +ℤ (price *ℤ pos n -ℤ slice_index_or prices number (pos 0) *ℤ pos n)) capacity_is
+    in
+    let long = length-set prices number price in
+    record {
+      use_count = is.use_count ∙ sym long;
+      capacity_count = is.capacity_count ∙ sym long;
+      range = All-set IsRowPrice prices number price range is.range;
+      small = is.small;
+      capacity_is = after ∙ sym (capacity_set prices capacities number price count within within) ∙ ap (capacity_below (set prices number price) capacities) (sym long);
+      within = subst (λ (most : ℕ). All (λ (n : ℕ). n < most) woken.active.items) (sym long) is.within;
+      covers = covers_priced prices woken.uses.items woken.active.items number price (woken_here number old woken wakes c.requires.levels c.requires.within) is.covers;
+    }
+
+pub returns-clause-due : goal.returns-clause-due
+returns-clause-due c =
+    let old = c.args.levels.now in
+    let price = to_z w64 (of_z w64 c.args.price) in
+    let marked = c.in_ok-mark_row.ensures in
+    subst (λ v. PricesAllButDue (set v.items c.args.number price) c.mark_row.new.columns) (sym c.in_ok-wake.ensures.prices)
+    (moved_due old.prices.items c.args.number price c.args.columns.now c.mark_row.new.columns c.requires.columns marked.columns.groups_are marked.row c.requires.due)

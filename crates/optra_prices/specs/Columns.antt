@@ -1,0 +1,76 @@
+-- The prices of groups, and how they have moved since the bids were searched.
+use Rattle.std.specs.Prelude.{◌≡◌, ◌⊎◌, ℕ, ◌+◌, ◌<◌, List, length, All, Contains, slice_index_or}
+use Rattle.std.specs.Prelude.{ℤ, pos, ◌≤ℤ◌}
+use Rattle.optra_prices.specs.Tables.{group_at, group_price, AreGroups, IsGroupPrice}
+use Rattle.optra_prices.specs.Chains.{AreChains, ChainHas}
+use Rattle.optra_prices.specs.Users.{FindsUsers}
+use Rattle.optra_prices.specs.declared.columns.Columns.{Columns}
+use Rattle.optra_prices.specs.declared.columns.Mark.{Mark}
+use Rattle.optra_prices.specs.declared.columns.Mark.TheVariants.{Still, Due, Rose, Fell}
+use Rattle.optra_prices.specs.declared.numbering.Groups.{Groups}
+
+-- past the last group nothing moves
+abbrev pub mark_at : List Mark → ℕ → Mark
+mark_at marks g = slice_index_or marks g Still
+
+abbrev pub price_at : List ℤ → ℕ → ℤ
+price_at grouped g = slice_index_or grouped g (pos 0)
+
+-- groups with a price and a mark each, and lists of what is marked and of what touches a row
+pub record IsColumns (groups : Groups) (c : Columns) : Type 0 where
+  pub groups_are : c.groups ≡ groups
+  pub are : AreGroups c.groups.starts.items c.groups.touches.items
+  pub users_are : AreChains c.users
+  pub found : FindsUsers c.groups (length c.groups.starts.items) c.users
+  pub count : length c.grouped.items + 1 ≡ length c.groups.starts.items
+  pub mark_count : length c.marks.items ≡ length c.grouped.items
+  pub range : All IsGroupPrice c.grouped.items
+  pub high : IsGroupPrice c.highest
+  pub most : All (λ price. price ≤ℤ c.highest) c.grouped.items
+  pub listed : (g : ℕ) → (mark_at c.marks.items g ≡ Still → ⊥) → Contains c.due.items g
+
+abbrev pub IsDue : Columns → ℕ → Type 0
+IsDue c g = mark_at c.marks.items g ≡ Due
+
+-- no group is marked
+abbrev pub AreStill : Columns → Type 0
+AreStill c = (g : ℕ) → mark_at c.marks.items g ≡ Still
+
+-- prices stay, and marks stay or become due
+pub record MarksMore (old new : Columns) : Type 0 where
+  pub users : new.users ≡ old.users
+  pub prices : new.grouped ≡ old.grouped
+  pub marks : (g : ℕ) → (mark_at new.marks.items g ≡ mark_at old.marks.items g) ⊎ IsDue new g
+
+-- so do they, and the groups that touch the row are due
+pub record MarksRow (row : ℕ) (old new : Columns) : Type 0 where
+  pub more : MarksMore old new
+  pub users_due : (g : ℕ) → g < length old.marks.items → ChainHas old.users row g → IsDue new g
+
+-- each group has its price, or is due
+abbrev pub PricesAllButDue : List ℤ → Columns → Type 0
+PricesAllButDue prices c = (g : ℕ) → g + 1 < length c.groups.starts.items
+    → IsDue c g ⊎ ((mark_at c.marks.items g ≡ Still) × (price_at c.grouped.items g ≡ group_price prices (group_at c.groups.starts.items c.groups.touches.items g)))
+
+-- the mark tells how the price has moved
+pub record MarkTells (old new : ℤ) (mark : Mark) : Type 0 where
+  pub unless_fell : (mark ≡ Fell → ⊥) → old ≤ℤ new
+  pub unless_rose : (mark ≡ Rose → ⊥) → new ≤ℤ old
+  pub told : mark ≡ Due → ⊥
+
+-- the marks tell how the prices have moved
+abbrev pub MarksTell : List ℤ → List ℤ → List Mark → Type 0
+MarksTell old new marks = (g : ℕ) → MarkTells (price_at old g) (price_at new g) (mark_at marks g)
+
+-- where the group was due it has its price, and its mark tells how it has moved; all else is as it was
+pub record Reprices (prices : List ℤ) (g : ℕ) (old new : Columns) : Type 0 where
+  pub due_is : new.due ≡ old.due
+  pub priced : IsDue old g → price_at new.grouped.items g ≡ group_price prices (group_at old.groups.starts.items old.groups.touches.items g)
+  pub marked : IsDue old g → MarkTells (price_at old.grouped.items g) (price_at new.grouped.items g) (mark_at new.marks.items g)
+  pub kept : (h : ℕ) → ((h ≡ g) × IsDue old h → ⊥) → (price_at new.grouped.items h ≡ price_at old.grouped.items h) × (mark_at new.marks.items h ≡ mark_at old.marks.items h)
+
+abbrev pub HasNotFallen : List Mark → ℕ → Type 0
+HasNotFallen marks g = mark_at marks g ≡ Fell → ⊥
+
+abbrev pub HasNotRisen : List Mark → ℕ → Type 0
+HasNotRisen marks g = mark_at marks g ≡ Rose → ⊥

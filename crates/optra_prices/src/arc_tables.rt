@@ -1,0 +1,36 @@
+//! What a plan keeps from node to node: rows and groups of touches with their prices, the arcs of each bid's graph, and
+//! what is known of each bid.
+use crate::chains::Chains;
+use crate::columns::Columns;
+use crate::levels::Levels;
+use crate::numbering::{BidTable, Numbering, Standing};
+use optra_dag::Buffers;
+
+/// Rows by number, and for each bid what its arcs add and which rows they touch. They are made once for a plan, and serve
+/// at each of its nodes. What is known of each bid is kept twice: at zero prices, with which each price path begins, and
+/// at the prices to which the last one came.
+#[derive(Drop)]
+pub struct ArcTables<'g, R: Copy + Ord> {
+    pub(crate) numbering: Numbering<R>,
+    /// The rows that have numbers, ascending, each with its number.
+    pub(crate) order: Vec<(R, u32)>,
+    /// The prices of rows, by number.
+    pub(crate) levels: Levels,
+    /// The prices of groups of touches.
+    pub(crate) columns: Columns,
+    pub(crate) tables: Vec<BidTable<'g>>,
+    /// The bids that have each group on an arc.
+    pub(crate) holders: Chains,
+    /// What is known of each bid at zero prices.
+    pub(crate) zero: Vec<Standing>,
+    /// What is known of each bid at the prices.
+    pub(crate) standings: Vec<Standing>,
+    /// The dual value at the prices.
+    pub(crate) value: i128,
+    pub(crate) buffers: Buffers,
+    /// Rows with the prices that they are to have; lent to what moves prices.
+    pub(crate) moves: Vec<(u32, i64)>,
+    pub(crate) spare: Vec<u32>,
+    /// Which bids have a group whose price fell; lent to each step.
+    pub(crate) fallen: Vec<bool>,
+}

@@ -1,0 +1,188 @@
+//! The prices of groups of touches, brought up to date only where the price of a row that they touch has moved.
+//!
+//! A group whose price may be old is due. It is priced anew before the bids are searched, and its mark then tells how
+//! its price has moved since they were searched last.
+ghost use Rattle.std.specs.Prelude.{◌≡◌, ◌⊎◌, ◌<◌, ℕ, [], All, Contains, IfOk, OnOk, length, slice_set};
+ghost use Rattle.optra_prices.specs.Columns.{IsColumns, IsDue, MarksMore, MarksRow, MarkTells, MarksTell, AreStill, PricesAllButDue, Reprices, mark_at};
+ghost use Rattle.optra_prices.specs.declared.columns.Mark.TheVariants.{Still};
+ghost use Rattle.optra_prices.specs.Tables.{AreGroups, AreGroupPrices, IsRowPrice};
+
+use crate::chains::{Chains, first_link};
+use crate::grouping::price_at;
+use crate::numbering::Groups;
+use crate::users::find_users;
+use optra_network::NoMemory;
+use std::alloc::Global;
+
+/// How the price of a group has moved since the bids were searched.
+#[derive(Clone, Copy, PartialEq, Eq)]
+pub(crate) enum Mark {
+    /// Not at all.
+    Still,
+    /// It may be old.
+    Due,
+    /// It rose.
+    Rose,
+    /// It fell.
+    Fell,
+}
+
+/// Groups of touches with their prices.
+#[derive(Drop)]
+pub(crate) struct Columns {
+    pub(crate) groups: Groups,
+    pub(crate) users: Chains,
+    /// The prices of the groups.
+    pub(crate) grouped: Vec<i64>,
+    /// How the prices of the groups have moved.
+    pub(crate) marks: Vec<Mark>,
+    /// The groups that are marked.
+    pub(crate) due: Vec<u32>,
+    /// No group has cost more.
+    pub(crate) highest: i64,
+}
+
+/// The groups at zero prices.
+pub(crate) fn new_columns(alloc: Global, groups: Groups) -> Result<Columns, NoMemory>
+    requires { AreGroups groups.starts.items groups.touches.items }
+    ensures columns { IfOk result (IsColumns groups) }
+    ensures still { IfOk result AreStill }
+    ensures zero { IfOk result (λ columns. AreGroupPrices [] groups.starts.items groups.touches.items columns.grouped.items) }
+{
+    let users = find_users(alloc, &groups)?;
+    let count = groups.starts.len() - 1;
+    Ok(Columns {
+        groups,
+        users,
+        grouped: vec![in alloc; 0; count]?,
+        marks: vec![in alloc; Mark::Still; count]?,
+        due: Vec::new(alloc),
+        highest: 0,
+    })
+}
+
+/// Lists a group that is marked from now on.
+fn list_group(due: &mut Vec<u32>, mark: Mark, g: u32) -> Result<(), NoMemory>
+    ensures here { OnOk result (mark ≡ Still → Contains due.new.items g) }
+    ensures kept { OnOk result (All (Contains due.new.items) due.old.items) }
+{
+    if mark == Mark::Still {
+        due.push(g)?;
+    }
+    Ok(())
+}
+
+/// Makes a group due.
+fn mark_group(columns: &mut Columns, g: u32) -> Result<(), NoMemory>
+    requires columns { IsColumns columns.old.groups columns.old }
+    ensures columns { OnOk result (IsColumns columns.old.groups columns.new) }
+    ensures more { OnOk result (MarksMore columns.old columns.new) }
+    ensures here { OnOk result (g < length columns.old.marks.items → IsDue columns.new g) }
+{
+    let place = g as usize;
+    if place >= columns.marks.len() {
+        return Ok(());
+    }
+    let mark = columns.marks[place];
+    list_group(&mut columns.due, mark, g)?;
+    columns.marks[place] = Mark::Due;
+    Ok(())
+}
+
+/// Makes the groups that touch a row due.
+pub(crate) fn mark_row(columns: &mut Columns, row: u32) -> Result<(), NoMemory>
+    requires columns { IsColumns columns.old.groups columns.old }
+    ensures columns { OnOk result (IsColumns columns.old.groups columns.new) }
+    ensures row { OnOk result (MarksRow row columns.old columns.new) }
+{
+    let mut place = first_link(&columns.users.first, row);
+    while place > 0 {
+        let link = columns.users.links[place as usize - 1];
+        mark_group(columns, link.item)?;
+        place = link.next;
+    }
+    Ok(())
+}
+
+/// The mark of a group.
+pub(crate) fn mark_at(marks: &[Mark], g: u32) -> Mark
+    ensures { result ≡ mark_at marks.now g }
+{
+    marks.get(g as usize).copied().unwrap_or(Mark::Still)
+}
+
+/// How a price has moved.
+fn mark_of(old: i64, new: i64) -> Mark
+    ensures { MarkTells old new result }
+{
+    if new > old {
+        Mark::Rose
+    } else if new < old {
+        Mark::Fell
+    } else {
+        Mark::Still
+    }
+}
+
+/// Prices a group anew where it is due.
+fn reprice_group(columns: &mut Columns, prices: &[i64], g: u32)
+    requires columns { IsColumns columns.old.groups columns.old }
+    requires prices { All IsRowPrice prices.now }
+    ensures columns { IsColumns columns.old.groups columns.new }
+    ensures repriced { Reprices prices.now g columns.old columns.new }
+{
+    let place = g as usize;
+    if place >= columns.grouped.len() || columns.marks[place] != Mark::Due {
+        return;
+    }
+    let price = price_at(prices, &columns.groups, place);
+    columns.marks[place] = mark_of(columns.grouped[place], price);
+    columns.grouped[place] = price;
+    columns.highest = columns.highest.max(price);
+}
+
+/// Prices anew all groups that are due. Their marks then tell how they have moved.
+pub(crate) fn reprice(columns: &mut Columns, prices: &[i64])
+    requires columns { IsColumns columns.old.groups columns.old }
+    requires prices { All IsRowPrice prices.now }
+    requires due { PricesAllButDue prices.now columns.old }
+    ensures columns { IsColumns columns.old.groups columns.new }
+    ensures prices { AreGroupPrices prices.now columns.new.groups.starts.items columns.new.groups.touches.items columns.new.grouped.items }
+    ensures marks { MarksTell columns.old.grouped.items columns.new.grouped.items columns.new.marks.items }
+{
+    for k in 0..columns.due.len() {
+        let g = columns.due[k];
+        reprice_group(columns, prices, g);
+    }
+}
+
+/// Takes the mark of a group away.
+fn still_group(marks: &mut Vec<Mark>, g: u32)
+    ensures { marks.new.items ≡ slice_set marks.old.items g Still }
+{
+    let place = g as usize;
+    if place < marks.len() {
+        marks[place] = Mark::Still;
+    }
+}
+
+/// Takes the marks of groups away.
+fn still_groups(marks: &mut Vec<Mark>, groups: &[u32])
+    ensures count { length marks.new.items ≡ length marks.old.items }
+    ensures still { (g : ℕ) → (mark_at marks.new.items g ≡ Still) ⊎ ((mark_at marks.new.items g ≡ mark_at marks.old.items g) × (Contains groups.now g → ⊥)) }
+{
+    for g in groups {
+        still_group(marks, *g);
+    }
+}
+
+/// Takes all marks away, once the bids are searched.
+pub(crate) fn still(columns: &mut Columns)
+    requires { IsColumns columns.old.groups columns.old }
+    ensures columns { IsColumns columns.old.groups columns.new }
+    ensures still { AreStill columns.new }
+    ensures same { columns.new.grouped ≡ columns.old.grouped }
+{
+    still_groups(&mut columns.marks, &columns.due);
+    columns.due.clear();
+}

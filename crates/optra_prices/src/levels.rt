@@ -1,0 +1,256 @@
+//! The prices of rows by number, of which few are above zero.
+//!
+//! Rows with a price or a use are active. A step moves these alone, and the price of all capacity is kept by difference.
+ghost use Rattle.std.specs.Prelude.{◌≡◌, ◌⊎◌, ◌<◌, ◌≤◌, ℕ, [], ◌∷◌, ◌++◌, pos, ◌+ℤ◌, ◌-ℤ◌, ◌*ℤ◌, All, Contains, OnOk, length, slice_set};
+ghost use Rattle.optra_bid.specs.Specs.{IsBetween};
+ghost use Rattle.optra_prices.specs.Columns.{IsColumns, PricesAllButDue};
+ghost use Rattle.optra_prices.specs.Levels.{IsLevels, IsMove, AreUnused, KeepsPrices, KeepsUses, Wakes, MovesTo, HoldsPrices, moved_by, next_at};
+ghost use Rattle.optra_prices.specs.Tables.{IsRowPrice};
+ghost use Rattle.optra_prices.specs.Uses.{AddsUses, touch_use};
+
+use crate::columns::{Columns, mark_row};
+use crate::numbering::Touch;
+use crate::stepping::next_price;
+use optra_network::NoMemory;
+use std::alloc::{AllocError, Global};
+
+/// The prices, uses and capacities of rows, by number.
+#[derive(Drop)]
+pub(crate) struct Levels {
+    pub(crate) capacities: Vec<u32>,
+    pub(crate) prices: Vec<i64>,
+    /// How much the replies use of rows while a step is made, else nothing.
+    pub(crate) uses: Vec<u64>,
+    /// The rows with a price or a use, and maybe others.
+    pub(crate) active: Vec<u32>,
+    /// The price of all capacity.
+    pub(crate) capacity: i128,
+}
+
+/// A price times a capacity.
+fn capacity_product(price: i64, capacity: u32) -> i128
+    requires price { IsRowPrice price }
+    requires capacity { capacity ≤ 65535 }
+    ensures value { result ≡ price *ℤ pos capacity }
+    ensures range { IsBetween (pos 0) (pos 131070000000000000) result }
+{
+    i128::from(price) * i128::from(capacity)
+}
+
+/// The price of all capacity after one row's price has changed.
+fn capacity_after(total: i128, old: i64, new: i64, capacity: u32) -> i128
+    requires old { IsRowPrice old }
+    requires new { IsRowPrice new }
+    requires capacity { capacity ≤ 65535 }
+    requires total { IsBetween (pos 0) (pos 2417851639229258349412352000000000000) total }
+    ensures { result ≡ total +ℤ (new *ℤ pos capacity -ℤ old *ℤ pos capacity) }
+{
+    total + (capacity_product(new, capacity) - capacity_product(old, capacity))
+}
+
+/// No row yet.
+pub(crate) fn no_levels(alloc: Global) -> Levels
+    ensures levels { IsLevels result }
+    ensures unused { AreUnused result }
+    ensures none { (result.prices.items ≡ []) × (result.capacities.items ≡ []) }
+{
+    Levels {
+        capacities: Vec::new(alloc),
+        prices: Vec::new(alloc),
+        uses: Vec::new(alloc),
+        active: Vec::new(alloc),
+        capacity: 0,
+    }
+}
+
+/// Makes room for one more row, at no price and with no use.
+pub(crate) fn push_level(levels: &mut Levels, capacity: u32) -> Result<(), NoMemory>
+    requires levels { IsLevels levels.old }
+    requires unused { AreUnused levels.old }
+    requires small { capacity ≤ 65535 }
+    ensures levels { OnOk result (IsLevels levels.new) }
+    ensures unused { OnOk result (AreUnused levels.new) }
+    ensures prices { OnOk result (levels.new.prices.items ≡ levels.old.prices.items ++ pos 0 ∷ []) }
+    ensures capacities { OnOk result (levels.new.capacities.items ≡ levels.old.capacities.items ++ capacity ∷ []) }
+{
+    levels.capacities.push(capacity)?;
+    levels.prices.push(0)?;
+    levels.uses.push(0)?;
+    Ok(())
+}
+
+/// Makes a row active that has neither a price nor a use, before it gets one.
+fn wake(levels: &mut Levels, number: u32) -> Result<(), NoMemory>
+    requires within { number < length levels.old.prices.items }
+    requires uses { length levels.old.uses.items ≡ length levels.old.prices.items }
+    ensures { OnOk result (Wakes number levels.old levels.new) }
+{
+    let place = number as usize;
+    if levels.prices[place] == 0 && levels.uses[place] == 0 {
+        levels.active.push(number)?;
+    }
+    Ok(())
+}
+
+/// Sets the price of a row, and makes the groups due that touch it.
+pub(crate) fn set_price(
+    levels: &mut Levels,
+    columns: &mut Columns,
+    number: u32,
+    price: i64,
+) -> Result<(), NoMemory>
+    requires levels { IsLevels levels.old }
+    requires columns { IsColumns columns.old.groups columns.old }
+    requires within { number < length levels.old.prices.items }
+    requires price { IsRowPrice price }
+    requires due { PricesAllButDue levels.old.prices.items columns.old }
+    ensures levels { OnOk result (IsLevels levels.new) }
+    ensures columns { OnOk result (IsColumns columns.old.groups columns.new) }
+    ensures due { OnOk result (PricesAllButDue levels.new.prices.items columns.new) }
+    ensures prices { OnOk result (levels.new.prices.items ≡ slice_set levels.old.prices.items number price) }
+    ensures grouped { OnOk result (columns.new.grouped ≡ columns.old.grouped) }
+    ensures rest { OnOk result (KeepsUses levels.old levels.new) }
+{
+    let place = number as usize;
+    let old = levels.prices[place];
+    if old == price {
+        return Ok(());
+    }
+    wake(levels, number)?;
+    mark_row(columns, number)?;
+    levels.capacity = capacity_after(levels.capacity, old, price, levels.capacities[place]);
+    levels.prices[place] = price;
+    Ok(())
+}
+
+/// The prices that rows are to have, of those that are active: their next prices by a step of this length.
+pub(crate) fn next_prices(
+    moves: &mut Vec<(u32, i64)>,
+    levels: &Levels,
+    by: i64,
+) -> Result<(), NoMemory>
+    requires levels { IsLevels levels.now }
+    requires by { IsBetween (pos 1) (pos 1000000000000) by }
+    ensures { OnOk result (MovesTo (next_at by levels.now) levels.now moves.new.items) }
+{
+    moves.clear();
+    for k in 0..levels.active.len() {
+        let number = levels.active[k];
+        let price = next_price_at(levels, number, by);
+        moves.push((number, price))?;
+    }
+    Ok(())
+}
+
+/// The next price of a row by a step of this length.
+fn next_price_at(levels: &Levels, number: u32, by: i64) -> i64
+    requires levels { IsLevels levels.now }
+    requires by { IsBetween (pos 1) (pos 1000000000000) by }
+    requires within { number < length levels.now.prices.items }
+    ensures value { result ≡ next_at by levels.now number }
+    ensures range { IsRowPrice result }
+{
+    let place = number as usize;
+    next_price(
+        by,
+        levels.prices[place],
+        levels.uses[place],
+        levels.capacities[place],
+    )
+}
+
+/// Zero prices, for all rows that are active.
+pub(crate) fn zero_prices(moves: &mut Vec<(u32, i64)>, levels: &Levels) -> Result<(), NoMemory>
+    requires { IsLevels levels.now }
+    ensures { OnOk result (MovesTo (λ number. pos 0) levels.now moves.new.items) }
+{
+    moves.clear();
+    for k in 0..levels.active.len() {
+        moves.push((levels.active[k], 0))?;
+    }
+    Ok(())
+}
+
+/// The prices of all rows that are active.
+pub(crate) fn copy_prices(moves: &mut Vec<(u32, i64)>, levels: &Levels) -> Result<(), NoMemory>
+    requires { IsLevels levels.now }
+    ensures { OnOk result (HoldsPrices levels.now moves.new.items) }
+{
+    moves.clear();
+    for k in 0..levels.active.len() {
+        let number = levels.active[k];
+        moves.push((number, levels.prices[number as usize]))?;
+    }
+    Ok(())
+}
+
+/// Sets the prices of rows one after the other.
+pub(crate) fn set_prices(
+    levels: &mut Levels,
+    columns: &mut Columns,
+    moves: &[(u32, i64)],
+) -> Result<(), NoMemory>
+    requires levels { IsLevels levels.old }
+    requires columns { IsColumns columns.old.groups columns.old }
+    requires moves { All (IsMove (length levels.old.prices.items)) moves.now }
+    requires due { PricesAllButDue levels.old.prices.items columns.old }
+    ensures levels { OnOk result (IsLevels levels.new) }
+    ensures columns { OnOk result (IsColumns columns.old.groups columns.new) }
+    ensures due { OnOk result (PricesAllButDue levels.new.prices.items columns.new) }
+    ensures prices { OnOk result (levels.new.prices.items ≡ moved_by moves.now levels.old.prices.items) }
+    ensures grouped { OnOk result (columns.new.grouped ≡ columns.old.grouped) }
+    ensures rest { OnOk result (KeepsUses levels.old levels.new) }
+{
+    for next in moves {
+        set_price(levels, columns, next.0, next.1)?;
+    }
+    Ok(())
+}
+
+/// Adds what a touch uses.
+pub(crate) fn add_touch(levels: &mut Levels, touch: Touch) -> Result<(), NoMemory>
+    requires { IsLevels levels.old }
+    ensures levels { OnOk result (IsLevels levels.new) }
+    ensures uses { OnOk result (AddsUses (touch_use touch) levels.old.uses.items levels.new.uses.items) }
+    ensures prices { OnOk result (KeepsPrices levels.old levels.new) }
+{
+    let place = touch.row as usize;
+    if place >= levels.uses.len() {
+        return Ok(());
+    }
+    wake(levels, touch.row)?;
+    let Some(more) = levels.uses[place].checked_add(u64::from(touch.uses)) else {
+        return Err(AllocError);
+    };
+    levels.uses[place] = more;
+    Ok(())
+}
+
+/// Lists a row that has a price.
+fn list_priced(list: &mut Vec<u32>, number: u32, price: i64) -> Result<(), NoMemory>
+    ensures here { OnOk result ((price ≡ pos 0) ⊎ Contains list.new.items number) }
+    ensures kept { OnOk result (All (Contains list.new.items) list.old.items) }
+    ensures within { OnOk result ((count : ℕ) → number < count → All (λ n. n < count) list.old.items → All (λ n. n < count) list.new.items) }
+{
+    if price != 0 {
+        list.push(number)?;
+    }
+    Ok(())
+}
+
+/// Forgets the uses, once a step is made. Rows without a price are active no more.
+pub(crate) fn rest(levels: &mut Levels, spare: &mut Vec<u32>) -> Result<(), NoMemory>
+    requires { IsLevels levels.old }
+    ensures levels { OnOk result (IsLevels levels.new) }
+    ensures unused { OnOk result (AreUnused levels.new) }
+    ensures prices { OnOk result (KeepsPrices levels.old levels.new) }
+{
+    spare.clear();
+    for k in 0..levels.active.len() {
+        let number = levels.active[k];
+        levels.uses[number as usize] = 0;
+        list_priced(spare, number, levels.prices[number as usize])?;
+    }
+    std::mem::swap(&mut levels.active, spare);
+    Ok(())
+}

@@ -1,0 +1,229 @@
+//! Rows by number and groups of touches while they are made, leg by leg.
+//!
+//! A leg takes the group of one that entered before, where the family sees at once that both use alike; else it makes a
+//! new one. Where such a leg may be found is only guessed: nothing rests on a guess, since it is tried before it is taken.
+ghost use Rattle.std.specs.Prelude.{◌≡◌, ◌<◌, true, All, IfSome, IfOk, OnOk};
+ghost use Rattle.optra_walk.specs.Families.{IsUsable};
+ghost use Rattle.optra_prices.specs.Tables.{AreGroups, IsNumbering};
+ghost use Rattle.optra_prices.specs.Makings.{IsHead, IsGroupOf, IsMaking, Grows, FindsGroup};
+
+use crate::grouping::empty_groups;
+use crate::numbering::{Groups, Numbering};
+use crate::touching::push_touches;
+use optra_network::{Network, NoMemory, TypeId};
+use optra_walk::{Action, Leg, RowFamily};
+use std::alloc::{AllocError, Global};
+use std::collections::BTreeMap;
+
+/// How many guesses are kept.
+const PLACES: usize = 1_048_576;
+
+/// The minutes in which legs depart.
+const MINUTES: usize = 2_880;
+
+/// How many train types there may be.
+const TYPES: usize = 16;
+
+/// A number that is prime to the count of guesses, so that actions spread.
+const SPREAD: usize = 7_919;
+
+/// A leg of a type that has entered, and the group of what it touches.
+#[derive(Clone, Copy)]
+pub(crate) struct Head {
+    pub(crate) kind: TypeId,
+    pub(crate) leg: Leg,
+    pub(crate) group: u32,
+}
+
+/// Rows and groups while they are made, the legs that made groups, and by the places of legs which of these may have
+/// entered alike.
+#[derive(Drop)]
+pub(crate) struct Making<R: Copy + Ord> {
+    pub(crate) numbering: Numbering<R>,
+    pub(crate) groups: Groups,
+    pub(crate) heads: Vec<Head>,
+    pub(crate) guesses: Vec<u32>,
+    /// The head that served last.
+    pub(crate) last: u32,
+}
+
+/// No row and no leg yet.
+pub(crate) fn new_making<F: RowFamily>(
+    alloc: Global,
+    net: &Network,
+    rows: &F,
+) -> Result<Making<F::Row>, NoMemory>
+    ensures { IfOk result (IsMaking F.Row.cmp net.now (F.rows_of rows.now net.now) (F.rows_used rows.now net.now)) }
+{
+    let _ = net;
+    let _ = rows;
+    Ok(Making {
+        numbering: Numbering {
+            numbers: BTreeMap::new(alloc),
+            rows: Vec::new(alloc),
+        },
+        groups: empty_groups(alloc)?,
+        heads: Vec::new(alloc),
+        guesses: vec![in alloc; 0; PLACES]?,
+        last: 0,
+    })
+}
+
+/// The place of a leg, by its type, track and departure.
+fn place_of(kind: TypeId, leg: Leg) -> usize
+    ensures { result < 1048576 }
+{
+    let entry = usize::from(leg.track.0) * TYPES + usize::from(kind.0);
+    (entry * MINUTES + usize::from(leg.depart)) % PLACES
+}
+
+/// The place of a leg, by its action as well.
+fn own_place_of(kind: TypeId, leg: Leg) -> usize {
+    let action = match leg.action {
+        Action::Pass => 0,
+        Action::Finish => 1,
+        Action::Halt(dwell) => 2 + 2 * usize::from(dwell),
+        Action::Wait(dwell) => 3 + 2 * usize::from(dwell),
+    };
+    (place_of(kind, leg) + SPREAD * action) % PLACES
+}
+
+/// What is guessed at a place.
+fn guess_at(guesses: &[u32], place: usize) -> u32 {
+    guesses.get(place).copied().unwrap_or(0)
+}
+
+/// Puts a guess at a place, in place of what was there.
+fn put_guess(guesses: &mut Vec<u32>, place: usize, head: u32) {
+    if let Some(old) = guesses.get_mut(place) {
+        *old = head;
+    }
+}
+
+/// The group of a head, where the family sees at once that its leg uses alike.
+fn head_group<F: RowFamily>(
+    net: &Network,
+    rows: &F,
+    making: &Making<F::Row>,
+    head: u32,
+    kind: TypeId,
+    leg: Leg,
+) -> Option<u32>
+    requires making { IsMaking F.Row.cmp net.now (F.rows_of rows.now net.now) (F.rows_used rows.now net.now) making.now }
+    requires usable { IsUsable net.now kind leg }
+    ensures { IfSome result (IsGroupOf (F.rows_of rows.now net.now) (F.rows_used rows.now net.now) kind leg making.now.numbering making.now.groups) }
+{
+    let known = making.heads.get(head as usize)?;
+    if known.kind == kind && rows.use_alike(net, kind, known.leg, leg) {
+        Some(known.group)
+    } else {
+        None
+    }
+}
+
+/// A new group with what the leg touches.
+fn new_group<F: RowFamily>(
+    net: &Network,
+    rows: &F,
+    numbering: &mut Numbering<F::Row>,
+    groups: &mut Groups,
+    kind: TypeId,
+    leg: Leg,
+) -> Result<u32, NoMemory>
+    requires usable { IsUsable net.now kind leg }
+    requires numbering { IsNumbering F.Row.cmp numbering.old.numbers numbering.old.rows.items }
+    requires rows { All (λ row. (F.rows_of rows.now net.now).is_row row ≡ true) numbering.old.rows.items }
+    requires groups { AreGroups groups.old.starts.items groups.old.touches.items }
+    ensures { IfOk result (FindsGroup F.Row.cmp (F.rows_of rows.now net.now) (F.rows_used rows.now net.now) kind leg numbering.old numbering.new groups.old groups.new) }
+{
+    let _ = net.track_count();
+    let Ok(number) = u32::try_from(groups.starts.len() - 1) else {
+        return Err(AllocError);
+    };
+    push_touches(net, rows, numbering, &mut groups.touches, kind, leg)?;
+    groups.starts.push(groups.touches.len())?;
+    Ok(number)
+}
+
+/// The group of a leg that has entered alike, by the guesses.
+fn guessed_group<F: RowFamily>(
+    net: &Network,
+    rows: &F,
+    making: &mut Making<F::Row>,
+    kind: TypeId,
+    leg: Leg,
+) -> Option<u32>
+    requires making { IsMaking F.Row.cmp net.now (F.rows_of rows.now net.now) (F.rows_used rows.now net.now) making.old }
+    requires usable { IsUsable net.now kind leg }
+    ensures making { IsMaking F.Row.cmp net.now (F.rows_of rows.now net.now) (F.rows_used rows.now net.now) making.new }
+    ensures same { (making.new.numbering ≡ making.old.numbering) × (making.new.groups ≡ making.old.groups) }
+    ensures found { IfSome result (IsGroupOf (F.rows_of rows.now net.now) (F.rows_used rows.now net.now) kind leg making.new.numbering making.new.groups) }
+{
+    if let Some(group) = head_group(net, rows, making, making.last, kind, leg) {
+        return Some(group);
+    }
+    let guess = guess_at(&making.guesses, place_of(kind, leg));
+    if let Some(group) = head_group(net, rows, making, guess, kind, leg) {
+        making.last = guess;
+        return Some(group);
+    }
+    let guess = guess_at(&making.guesses, own_place_of(kind, leg));
+    let group = head_group(net, rows, making, guess, kind, leg)?;
+    making.last = guess;
+    Some(group)
+}
+
+/// Enters a leg with its new group, so that legs that use alike may find it.
+fn enter<F: RowFamily>(
+    net: &Network,
+    rows: &F,
+    making: &mut Making<F::Row>,
+    head: Head,
+) -> Result<(), NoMemory>
+    requires making { IsMaking F.Row.cmp net.now (F.rows_of rows.now net.now) (F.rows_used rows.now net.now) making.old }
+    requires head { IsHead net.now (F.rows_of rows.now net.now) (F.rows_used rows.now net.now) making.old.numbering making.old.groups head }
+    ensures making { OnOk result (IsMaking F.Row.cmp net.now (F.rows_of rows.now net.now) (F.rows_used rows.now net.now) making.new) }
+    ensures same { OnOk result ((making.new.numbering ≡ making.old.numbering) × (making.new.groups ≡ making.old.groups)) }
+{
+    let _ = net;
+    let _ = rows;
+    let number = u32::try_from(making.heads.len()).unwrap_or(0);
+    making.heads.push(head)?;
+    making.last = number;
+    put_guess(&mut making.guesses, place_of(head.kind, head.leg), number);
+    put_guess(
+        &mut making.guesses,
+        own_place_of(head.kind, head.leg),
+        number,
+    );
+    Ok(())
+}
+
+/// The number of a group with what the leg touches.
+pub(crate) fn leg_group<F: RowFamily>(
+    net: &Network,
+    rows: &F,
+    making: &mut Making<F::Row>,
+    kind: TypeId,
+    leg: Leg,
+) -> Result<u32, NoMemory>
+    requires making { IsMaking F.Row.cmp net.now (F.rows_of rows.now net.now) (F.rows_used rows.now net.now) making.old }
+    requires usable { IsUsable net.now kind leg }
+    ensures making { OnOk result (IsMaking F.Row.cmp net.now (F.rows_of rows.now net.now) (F.rows_used rows.now net.now) making.new) }
+    ensures grows { OnOk result (Grows making.old making.new) }
+    ensures found { IfOk result (IsGroupOf (F.rows_of rows.now net.now) (F.rows_used rows.now net.now) kind leg making.new.numbering making.new.groups) }
+{
+    if let Some(group) = guessed_group(net, rows, making, kind, leg) {
+        return Ok(group);
+    }
+    let group = new_group(
+        net,
+        rows,
+        &mut making.numbering,
+        &mut making.groups,
+        kind,
+        leg,
+    )?;
+    enter(net, rows, making, Head { kind, leg, group })?;
+    Ok(group)
+}

@@ -1,0 +1,77 @@
+//! The walk that is worth most to a bid: of all that are allowed, and of those of which each leg has room.
+ghost use Rattle.std.specs.Prelude.{◌≡◌, ◌<◌, ℕ, IfOk, IfSome, List, MatchBool, Some, length, pos, slice_get, ◌<ℤ◌, ◌≤ℤ◌};
+ghost use Rattle.optra_bid.specs.declared.bids.Bid.{Bid};
+ghost use Rattle.optra_walk.specs.Families.{Entry};
+ghost use Rattle.optra_walk.specs.Walks.{IsWalk};
+ghost use Rattle.optra_prices.specs.Keepings.{AreKeptAt};
+ghost use Rattle.optra_prices.specs.Parts.{IsRoomIn};
+ghost use Rattle.optra_repair.specs.Placings.{AreTotals, AreWithin, IsBestAllowed, IsWorthiest};
+
+use crate::finding::worth_walk;
+use optra_dag::Buffers;
+use optra_network::NoMemory;
+use optra_node::{Node, tests_tell_allowed};
+use optra_prices::ArcTables;
+use optra_prices::parts::{ArcPart, graph_of, tell_parts};
+use optra_prices::rooms::Room;
+use optra_prices::zero::{zero_reply, zero_term};
+use optra_walk::{Instance, RowFamily, Walk};
+use std::alloc::Global;
+
+/// What one search lends to the next: the parts of the arcs, and the arrays of the search.
+#[derive(Drop)]
+pub(crate) struct Lent {
+    pub(crate) alloc: Global,
+    pub(crate) parts: Vec<ArcPart>,
+    pub(crate) buffers: Buffers,
+}
+
+/// Whether a term is above 0.
+fn gains(term: i128) -> bool
+    ensures { MatchBool result (pos 0 <ℤ term) (term ≤ℤ pos 0) }
+{
+    term > 0
+}
+
+/// The first of the bid's allowed walks of greatest value, where it is worth more than 0. No graph is searched.
+pub(crate) fn best_allowed<F: RowFamily>(
+    alloc: Global,
+    inst: Instance<'_>,
+    rows: &F,
+    node: &Node,
+    kept: &ArcTables<'_, F::Row>,
+    number: u32,
+) -> Result<Option<Walk>, NoMemory>
+    requires kept { AreKeptAt F.Row.cmp inst.net.now (F.rows_of rows.now inst.net.now) (F.rows_used rows.now inst.net.now) inst.bids.now node.now kept.now }
+    requires number { number < length inst.bids.now }
+    ensures { IfOk result (λ walk. (bid : Bid) → slice_get inst.entry.bids.now number ≡ Some bid → IsBestAllowed inst.entry.net.now (F.rows_of rows.now inst.entry.net.now) inst.entry.bids.now node.now number bid walk) }
+{
+    if !gains(zero_term(inst, rows, node, kept, number)) {
+        return Ok(None);
+    }
+    zero_reply(alloc, inst, rows, node, kept, number)
+}
+
+/// The first of the bid's walks of greatest value, of those allowed of which each leg has room, where it is worth more
+/// than 0. The bid's graph is searched.
+pub(crate) fn worthiest<F: RowFamily>(
+    lent: &mut Lent,
+    room: &Room,
+    inst: Instance<'_>,
+    rows: &F,
+    node: &Node,
+    kept: &ArcTables<'_, F::Row>,
+    number: u32,
+) -> Result<Option<Walk>, NoMemory>
+    requires kept { AreKeptAt F.Row.cmp inst.net.now (F.rows_of rows.now inst.net.now) (F.rows_used rows.now inst.net.now) inst.bids.now node.now kept.now }
+    requires number { number < length inst.bids.now }
+    requires room { (total : F.Row → ℕ) × IsRoomIn (F.rows_of rows.now inst.net.now) kept.now total room.now }
+    ensures worthiest { IfOk result (λ walk. (bid : Bid) (total : F.Row → ℕ) (placed : List Entry) → slice_get inst.entry.bids.now number ≡ Some bid → IsRoomIn (F.rows_of rows.now inst.entry.net.now) kept.now total room.now → AreWithin (F.rows_of rows.now inst.entry.net.now) total → AreTotals (F.rows_of rows.now inst.entry.net.now) total placed → IsWorthiest inst.entry.net.now (F.rows_of rows.now inst.entry.net.now) inst.entry.bids.now node.now placed number bid walk) }
+    ensures walk { IfOk result (λ walk. (bid : Bid) → slice_get inst.entry.bids.now number ≡ Some bid → IfSome walk (IsWalk inst.entry.net.now bid.path)) }
+{
+    let _ = inst.net.track_count();
+    tests_tell_allowed(inst, rows);
+    let graph = graph_of(inst, rows, kept, number);
+    tell_parts(&mut lent.parts, inst, rows, node, kept, room, number)?;
+    worth_walk(lent.alloc, &mut lent.buffers, graph, &lent.parts)
+}
