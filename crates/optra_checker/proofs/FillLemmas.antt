@@ -5,6 +5,7 @@ use Rattle.std.proofs.lemmas.Bool.{cases_lt, lt-ltb}
 use Rattle.std.proofs.lemmas.Bool.Decides.{nat_tests}
 use Rattle.std.proofs.Common.{get_or-set_other, get_or-set_same, ◌≢◌}
 use Rattle.std.proofs.Math.ListN.{length-set}
+use Rattle.std.proofs.lemmas.List.{length-map}
 use Rattle.optra_network.specs.Net.{Net}
 use Rattle.optra_bid.specs.declared.bids.Bid.{Bid}
 use Rattle.optra_network.specs.declared.StationId.{StationId}
@@ -19,9 +20,10 @@ use Rattle.optra_checker.specs.Places.{IsPlaced, IsSmall, slot_of, spot_at, plac
 use Rattle.optra_checker.specs.Settings.{IsSetting}
 use Rattle.optra_checker.specs.Rests.{IsBestRest, AnyLeg}
 use Rattle.optra_checker.specs.declared.reach.Reach.{Reach}
-use Rattle.optra_checker.specs.Reaches.{IsReach, IsReached, IsInTime, IsAhead, IsNear, IsWithoutFar}
-use Rattle.optra_checker.specs.Tables.{IsTable, IsFilled, IsReadyFor, HasBest, entry_at, rest_at, end_of, is_early}
+use Rattle.optra_checker.specs.Reaches.{IsReach, IsReached, WasTime, IsInTime, IsAhead, IsNear, IsWithoutFar}
+use Rattle.optra_checker.specs.Tables.{IsTable, IsFilled, IsReadyFor, HasBest, entry_at, rest_at, rest_in, rests_of, end_of, is_early}
 use Rattle.optra_checker.proofs.HorizonLemmas.{after_later, rest_before}
+use Rattle.optra_checker.proofs.BehindLemmas.{time_after}
 use Rattle.optra_checker.proofs.ReachLemmas.{reached_after, rest_in_time, rest_ahead, late_leg}
 use Rattle.optra_checker.proofs.PlaceLemmas.{place_below, place_later, one_place, of_spot}
 
@@ -39,12 +41,13 @@ module _ (w : Weights) (net : Net) (bid : Bid) where
     is_table = is;
     setting = setting;
     reach = reach;
-    each = λ s placed from reached early. let l = place_below table.layout s placed in absurd (omega arith);
+    each = λ s placed from reached time early. let l = place_below table.layout s placed in absurd (omega arith);
   }
 
   -- a state in which a train may be, and behind whose place all is filled
-  pub filled_ready : (table : RestTable) (s : State) → IsPlaced table.layout s → IsFilled w net bid table (place_of table.layout s + 1) → IsReached bid.path table.reach s → IsReadyFor w net bid table s
-  filled_ready table s placed h reached = record {
+  pub filled_ready : (table : RestTable) (s : State) → IsPlaced table.layout s → IsFilled w net bid table (place_of table.layout s + 1) → IsReached bid.path table.reach s
+      → WasTime bid.path table.reach s → IsReadyFor w net bid table s
+  filled_ready table s placed h reached time = record {
     is_table = h.is_table;
     setting = h.setting;
     reach = h.reach;
@@ -52,7 +55,11 @@ module _ (w : Weights) (net : Net) (bid : Bid) where
     later = λ leg after move is_after there early.
         let later = after_later net bid.path h.setting.proper s after leg move is_after in
         let p = place_later table.layout s after placed there later in
-        h.each after there (omega arith) (reached_after net bid.path table.reach h.reach s after leg move is_after reached) early;
+        let slots = h.setting.laid.slots in
+        let done = placed.done in
+        let few : s.done ≤ length bid.path.stops = omega (arith, slots, done) in
+        h.each after there (omega arith) (reached_after net bid.path table.reach h.reach s after leg move is_after reached)
+        (time_after net bid.path table.reach h.reach s after leg few move is_after time) early;
   }
 
   -- a state from which a walk can't end in time
@@ -98,14 +105,14 @@ module _ (w : Weights) (net : Net) (bid : Bid) where
     is_table = h.is_table;
     setting = h.setting;
     reach = h.reach;
-    each = λ s placed behind reached early.
+    each = λ s placed behind reached time early.
         elim (cases_lt (place_of table.layout s) (spot_at table.layout (minute - table.layout.first) (station + 1))) as (λ _. HasBest w net bid table s) [
           | inl l ↦
               let is = of_spot table.layout s (minute - table.layout.first) station placed within behind l in
               let after = placed.early in
               let e = is.0 in
               absurd (none s (omega (arith, e)) is.1 reached (early_time table s h.setting placed early))
-          | inr l ↦ h.each s placed l reached early
+          | inr l ↦ h.each s placed l reached time early
         ];
   }
 
@@ -139,45 +146,68 @@ module _ (w : Weights) (net : Net) (bid : Bid) where
       (λ station l b near. is.far station l (omega (arith, b, fewer)) near)
       (subst (λ (n : ℕ). IsFilled w net bid table (spot_at table.layout (minute - table.layout.first) n)) e h)
 
+  -- a place of a state to which there was no time to come
+  pub filled_past : (table : RestTable) (here : State) → IsPlaced table.layout here → (WasTime bid.path table.reach here → ⊥)
+      → IsFilled w net bid table (place_of table.layout here + 1) → IsFilled w net bid table (place_of table.layout here)
+  filled_past table here there past h = record {
+    is_table = h.is_table;
+    setting = h.setting;
+    reach = h.reach;
+    each = λ s placed from reached time early.
+        elim (cases_lt (place_of table.layout here) (place_of table.layout s)) as (λ _. HasBest w net bid table s) [
+          | inl l ↦ h.each s placed (omega (arith, l)) reached time early
+          | inr l ↦
+              let is : here ≡ s = one_place table.layout here s there placed (omega (arith, l, from)) in
+              absurd (past (subst (WasTime bid.path table.reach) (sym is) time))
+        ];
+  }
+
   -- one more place
   pub filled_more : (table after : RestTable) (here : State) (rest : Option ℤ) → IsPlaced table.layout here → IsFilled w net bid table (place_of table.layout here + 1)
       → IsBestRest w net bid here AnyLeg rest
-      → after.rests.items ≡ slice_set table.rests.items (place_of table.layout here) rest → after.layout ≡ table.layout → after.reach ≡ table.reach → IsFilled w net bid after (place_of table.layout here)
+      → rests_of after ≡ slice_set (rests_of table) (place_of table.layout here) rest → after.layout ≡ table.layout → after.reach ≡ table.reach → IsFilled w net bid after (place_of table.layout here)
   filled_more table after here rest there h best e f g = record {
     is_table = record {
       small = subst IsSmall (sym f) h.is_table.small;
-      len = let n = ap length e ∙ length-set table.rests.items (place_of table.layout here) rest in let p = ap places_of f in let l = h.is_table.len in omega (arith, n, p, l);
+      len = let n = ap length e ∙ length-set (rests_of table) (place_of table.layout here) rest in
+          let a = length-map after.rests.items rest_in in
+          let b = length-map table.rests.items rest_in in
+          let p = ap places_of f in
+          let l = h.is_table.len in
+          omega (arith, n, a, b, p, l);
       from = ap (λ (r : Reach). length r.from_origin.items) g ∙ h.is_table.from ∙ ap (λ (lay : Layout). lay.stations) (sym f);
       on = ap (λ (r : Reach). length r.to_destination.items) g ∙ h.is_table.on ∙ ap (λ (lay : Layout). lay.stations) (sym f);
     };
     setting = subst (IsSetting net bid.path) (sym f) h.setting;
     reach = subst (IsReach net bid.path) (sym g) h.reach;
-    each = λ s placed from reached early.
+    each = λ s placed from reached time early.
         let is : place_of after.layout s ≡ place_of table.layout s = ap (λ (lay : Layout). place_of lay s) f in
         let soon : is_early table s ≡ true = (λ i. early_by (sym f i) (sym g i) s) ∙ early in
-        subst (λ (p : ℕ). IsBestRest w net bid s AnyLeg (slice_index_or after.rests.items p None)) (sym is)
+        subst (λ (p : ℕ). IsBestRest w net bid s AnyLeg (slice_index_or (rests_of after) p None)) (sym is)
         (subst (λ (xs : List (Option ℤ)). IsBestRest w net bid s AnyLeg (slice_index_or xs (place_of table.layout s) None)) (sym e)
-        (at s (subst (λ (lay : Layout). IsPlaced lay s) f placed) (cases_lt (place_of table.layout here) (place_of table.layout s)) (subst (λ (p : ℕ). place_of table.layout here ≤ p) is from) (subst (λ (r : Reach). IsReached bid.path r s) g reached) soon));
+        (at s (subst (λ (lay : Layout). IsPlaced lay s) f placed) (cases_lt (place_of table.layout here) (place_of table.layout s)) (subst (λ (p : ℕ). place_of table.layout here ≤ p) is from) (subst (λ (r : Reach). IsReached bid.path r s) g reached)
+        (subst (λ (r : Reach). WasTime bid.path r s) g time) soon));
   }
     where
       early_by : Layout → Reach → State → Bool
       early_by lay reach s = nat_lt s.minute (lay.first + lay.minutes) && nat_le (s.minute + slice_index reach.to_destination.items s.station.0) (lay.first + lay.minutes)
 
-      at : (s : State) → IsPlaced table.layout s → (place_of table.layout here < place_of table.layout s) ⊎ (place_of table.layout s ≤ place_of table.layout here) → place_of table.layout here ≤ place_of table.layout s → IsReached bid.path table.reach s → is_early table s ≡ true
-          → IsBestRest w net bid s AnyLeg (slice_index_or (slice_set table.rests.items (place_of table.layout here) rest) (place_of table.layout s) None)
-      at s placed (inl m) from reached early =
+      at : (s : State) → IsPlaced table.layout s → (place_of table.layout here < place_of table.layout s) ⊎ (place_of table.layout s ≤ place_of table.layout here) → place_of table.layout here ≤ place_of table.layout s → IsReached bid.path table.reach s
+          → WasTime bid.path table.reach s → is_early table s ≡ true
+          → IsBestRest w net bid s AnyLeg (slice_index_or (slice_set (rests_of table) (place_of table.layout here) rest) (place_of table.layout s) None)
+      at s placed (inl m) from reached time early =
           let ne : place_of table.layout s ≢ place_of table.layout here = omega arith in
           let k : place_of table.layout here + 1 ≤ place_of table.layout s = omega arith in
-          rw get_or-set_other (h.each s placed k reached early)
-      at s placed (inr m) from reached early =
+          rw get_or-set_other (h.each s placed k reached time early)
+      at s placed (inr m) from reached time early =
           let same : place_of table.layout here ≡ place_of table.layout s = omega arith in
           let n = h.is_table.len in
           let b = place_below table.layout here there in
-          let lt : place_of table.layout here < length table.rests.items = omega (arith, n, b) in
+          let lt : place_of table.layout here < length (rests_of table) = omega (arith, n, b, length-map table.rests.items rest_in) in
           let is : here ≡ s = one_place table.layout here s there placed same in
-          let made : IsBestRest w net bid here AnyLeg (slice_index_or (slice_set table.rests.items (place_of table.layout here) rest) (place_of table.layout here) None) = rw get_or-set_same best in
-          subst (λ (p : ℕ). IsBestRest w net bid s AnyLeg (slice_index_or (slice_set table.rests.items (place_of table.layout here) rest) p None)) same
-          (subst (λ (q : State). IsBestRest w net bid q AnyLeg (slice_index_or (slice_set table.rests.items (place_of table.layout here) rest) (place_of table.layout here) None)) is made)
+          let made : IsBestRest w net bid here AnyLeg (slice_index_or (slice_set (rests_of table) (place_of table.layout here) rest) (place_of table.layout here) None) = rw get_or-set_same best in
+          subst (λ (p : ℕ). IsBestRest w net bid s AnyLeg (slice_index_or (slice_set (rests_of table) (place_of table.layout here) rest) p None)) same
+          (subst (λ (q : State). IsBestRest w net bid q AnyLeg (slice_index_or (slice_set (rests_of table) (place_of table.layout here) rest) (place_of table.layout here) None)) is made)
 
   -- what the table has for a state in which a train may be: its best rest, or nothing where it is too late
   pub rest_by : (table : RestTable) (s : State) → IsReach net bid.path table.reach → IsSetting net bid.path table.layout → (is_early table s ≡ true → HasBest w net bid table s) → IsBestRest w net bid s AnyLeg (rest_at table s)

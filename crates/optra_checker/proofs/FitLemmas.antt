@@ -1,6 +1,8 @@
 -- Totals within capacities, leg by leg and bid by bid.
-use Rattle.std.proofs.Common.{◌≡◌, ℕ, zero, suc, ◌+◌, ◌<◌, ◌≤◌, ◌↔◌, true, List, [], ◌∷◌, ◌++◌, map, length, get_or, take, drop, sum_by, Option, None, Some, refl, sym, ap, ◌∙◌, arith, inl, inr, add-one}
-use Rattle.std.specs.Prelude.{All}
+use Rattle.std.proofs.Common.{◌≡◌, ℕ, zero, suc, ◌+◌, ◌<◌, ◌≤◌, ◌↔◌, Bool, true, List, [], ◌∷◌, ◌++◌, map, length, get_or, take, drop, sum_by, Option, None, Some, slice_get, refl, sym, ap, ◌∙◌, subst, arith, inl, inr, add-one}
+use Rattle.std.specs.Prelude.{All, IsTrue}
+use Rattle.std.specs.declared.cmp.Ordering.{Ordering}
+use Rattle.std.proofs.lemmas.Option.{slice_get-get_or, slice_get_within, get_or_from_slice_get}
 use Rattle.std.proofs.lemmas.Bool.{cases_lt}
 use Rattle.std.proofs.lemmas.List.{append-nil}
 use Rattle.std.proofs.lemmas.List.Elements.{All-head, All-tail}
@@ -9,7 +11,7 @@ use Rattle.optra_network.specs.Net.{Net}
 use Rattle.optra_network.specs.declared.TypeId.{TypeId}
 use Rattle.optra_bid.specs.declared.bids.Bid.{Bid}
 use Rattle.optra_walk.specs.declared.Leg.{Leg}
-use Rattle.optra_walk.specs.Families.{Rows, Entry, IsUsable, entries_of, load_of, FitRows}
+use Rattle.optra_walk.specs.Families.{Rows, Entry, IsUsable, ListsRows, entries_of, load_of, FitRows}
 use Rattle.optra_node.proofs.SumLemmas.{sum_by-map}
 use Rattle.optra_checker.specs.Fits.{AreWithin}
 
@@ -42,6 +44,53 @@ module _ {R : Type 0} (rows : Rows R) where
 
       from : AreWithin rows after → (q : R) → 0 < uses q → after q ≤ rows.capacity q
       from w q used = let a = added q in (w q (omega arith)).1
+
+  abbrev Fits : (R → ℕ) → (R → ℕ) → List R → ℕ → Type 0
+  Fits before uses used k = (j : ℕ) (row : R) → j < k → slice_get used j ≡ Some row → before row + uses row ≤ rows.capacity row
+
+  -- one row more
+  pub fits_more : (before uses : R → ℕ) (used : List R) (k : ℕ) (row : R) (fit still : Bool) (sum : ℕ) → slice_get used k ≡ Some row → sum ≡ before row + uses row
+      → (IsTrue fit ↔ Fits before uses used k) → (IsTrue still ↔ (IsTrue fit × (sum ≤ rows.capacity row))) → IsTrue still ↔ Fits before uses used (k + 1)
+  fits_more before uses used k row fit still sum at is h both = (to, from)
+    where
+      to : IsTrue still → Fits before uses used (k + 1)
+      to t j other l e = elim (cases_lt j k) as (λ _. before other + uses other ≤ rows.capacity other) [
+        | inl early ↦ h.0 (both.0 t).0 j other early e
+        | inr past ↦
+            let last : j ≡ k = omega (arith, l, past) in
+            let same : row ≡ other = some_same row other (sym at ∙ ap (slice_get used) (sym last) ∙ e) in
+            let fits = (both.0 t).1 in
+            subst (λ r. before r + uses r ≤ rows.capacity r) same (omega (arith, is, fits))
+      ]
+        where
+          some_same : (a b : R) → Some a ≡ Some b → a ≡ b
+          some_same a b e = cc
+
+      from : Fits before uses used (k + 1) → IsTrue still
+      from all = let here = all k row (omega arith) at in both.1 (h.1 (λ j other l e. all j other (omega (arith, l)) e), omega (arith, is, here))
+
+  -- all rows of a leg
+  pub fits_all : (cmp : R → R → Ordering) (before after uses : R → ℕ) (used : List R) (k : ℕ) (fit : Bool) → ListsRows cmp rows.is_row uses used → length used ≤ k → AreWithin rows before
+      → ((q : R) → after q ≡ before q + uses q) → (IsTrue fit ↔ Fits before uses used k) → IsTrue fit ↔ AreWithin rows after
+  fits_all cmp before after uses used k fit lists past within added h = ((λ t. both.0 (to t)), (λ w. from (both.1 w)))
+    where
+      both : ((q : R) → 0 < uses q → after q ≤ rows.capacity q) ↔ AreWithin rows after
+      both = leg_within before after uses lists.are_rows within added
+
+      to : IsTrue fit → (q : R) → 0 < uses q → after q ≤ rows.capacity q
+      to t q pos =
+          let c = (lists.used q).0 pos in
+          let l = c.1 in
+          let fits = h.0 t c.0 q (omega (arith, past, l)) (slice_get-get_or used c.0 q c.1 ∙ ap Some c.2) in
+          let a = added q in
+          omega (arith, fits, a)
+
+      from : ((q : R) → 0 < uses q → after q ≤ rows.capacity q) → IsTrue fit
+      from all = h.1 (λ j row l e.
+          let used_here = (lists.used row).1 (j, slice_get_within used j row e, get_or_from_slice_get used j row row e) in
+          let fits = all row used_here in
+          let a = added row in
+          omega (arith, fits, a))
 
   pub load_map : (kind : TypeId) (q : R) (legs : List Leg) → load_of rows q (map (λ leg. (kind, leg)) legs) ≡ sum_by (λ leg. rows.uses kind leg q) legs
   load_map kind q legs = sum_by-map (λ (e : Entry). rows.uses e.0 e.1 q) (λ (leg : Leg). (kind, leg)) legs

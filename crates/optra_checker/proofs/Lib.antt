@@ -3,13 +3,16 @@ pub mod OwnLemmas
 pub mod OpenLemmas
 pub mod ToComeLemmas
 pub mod AtLemmas
+pub mod BehindLemmas
 pub mod EarnLemmas
 pub mod FitLemmas
 pub mod LeafPriceLemmas
+pub mod LoadedLemmas
 pub mod TestLemmas
 pub mod PlaceLemmas
 pub mod RestLemmas
 pub mod HorizonLemmas
+pub mod IndexLemmas
 pub mod WayLemmas
 pub mod WatchLemmas
 pub mod BestLemmas

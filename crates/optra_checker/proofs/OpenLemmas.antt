@@ -1,6 +1,6 @@
 -- An open node, with one decision more and one less.
-use Rattle.std.proofs.Common.{◌≡◌, ℕ, zero, suc, ◌+◌, ◌*◌, ◌<◌, ◌≤◌, ◌↔◌, Bool, true, false, cond, List, [], ◌∷◌, ◌++◌, length, get_or, Option, Some, None, slice_get, refl, sym, ap, ◌∙◌, subst, arith}
-use Rattle.std.specs.Prelude.{All, IsTrue, IsSome}
+use Rattle.std.proofs.Common.{◌≡◌, ℕ, zero, suc, ◌+◌, ◌*◌, ◌<◌, ◌≤◌, Bool, true, false, cond, List, [], ◌∷◌, ◌++◌, length, get_or, Option, Some, None, slice_get, refl, sym, ap, ◌∙◌, subst, arith}
+use Rattle.std.specs.Prelude.{All, IsSome}
 use Rattle.std.specs.declared.cmp.Ordering.{Ordering}
 use Rattle.std.specs.BTreeMap.{BTreeMap}
 use Rattle.std.proofs.lemmas.Bool.{false≢true}
@@ -16,11 +16,11 @@ use Rattle.optra_walk.specs.declared.Leg.{Leg}
 use Rattle.optra_walk.specs.Families.{Rows, IsUsable, ListsRows}
 use Rattle.optra_node.specs.declared.Decision.{Decision}
 use Rattle.optra_node.specs.Nodes.{IsNode, IsFormedLeg, IsFormedDecision, IsUndecided, DecideApart, uses_at, yes_uses, yes_load}
-use Rattle.optra_node.specs.Summaries.{decisions_for, total_of, AreLoads, AreByBid}
+use Rattle.optra_node.specs.Summaries.{total_of, AreLoads, AreByBid}
 use Rattle.optra_node.proofs.NodeLemmas.{child_is_node}
-use Rattle.optra_node.proofs.SummaryLemmas.{all_for}
 use Rattle.optra_node.proofs.RowLemmas.{uses_few}
-use Rattle.optra_checker.specs.Opens.{IsOpen}
+use Rattle.optra_checker.specs.declared.decision_index.DecisionIndex.{DecisionIndex}
+use Rattle.optra_checker.specs.Opens.{IsIndexOf, IsOpen}
 
 last_of : (node : List Decision) (d e : Decision) → get_or (node ++ d ∷ []) (length node) e ≡ d
 last_of [] d e = refl
@@ -71,13 +71,6 @@ module _ {R : Type 0} (rows : Rows R) (bids : List Bid) where
       let rest = load_few ds row (All-tail P d ds h) in
       omega arith
 
--- whether a leg is undecided, by the bid's own decisions
-pub undecided_own : (bid : ℕ) (own node : List Decision) → own ≡ decisions_for node bid → (r : Bool) (leg : Leg) → (IsTrue r ↔ IsUndecided own bid leg) → IsTrue r ↔ IsUndecided node bid leg
-undecided_own bid own node is r leg h =
-    let h' = subst (λ o. IsTrue r ↔ IsUndecided o bid leg) is h in
-    let a = all_for (λ d. d.leg ≡ leg → ⊥) node bid in
-    (λ t. a.0 (h'.0 t), λ t. h'.1 (a.1 t))
-
 -- a decision's leg uses little of each row, by the laws of a family
 module _ {R : Type 0} (cmp : R → R → Ordering) (net : Net) (rows : Rows R) (used : TypeId → Leg → List R) (lists : (kind : TypeId) (leg : Leg) → IsUsable net kind leg → ListsRows cmp rows.is_row (rows.uses kind leg) (used kind leg)) (unusable : (kind : TypeId) (leg : Leg) (row : R) → (MayUse net leg.track kind → ⊥) → rows.uses kind leg row ≡ 0) (bids : List Bid) where
   leg_few : (kind : TypeId) (leg : Leg) (row : R) → IsFormedLeg net leg → rows.uses kind leg row ≤ 8192
@@ -102,26 +95,28 @@ module _ {R : Type 0} (cmp : R → R → Ordering) (net : Net) (rows : Rows R) (
   totals_few node formed row = load_few rows bids node row (λ k e l. decision_few row (get_or node k e) (formed k e l))
 
 module _ {R : Type 0} (cmp : R → R → Ordering) (net : Net) (rows : Rows R) (bids : List Bid) (d : Decision) where
-  pub open_push : (node node' : List Decision) (totals totals' : BTreeMap R ℕ) (lists lists' : List (List Decision)) → node' ≡ node ++ d ∷ []
-      → IsOpen cmp net rows bids node totals lists → IsFormedDecision net (length bids) d → IsUndecided node d.bid d.leg
+  pub open_push : (node node' : List Decision) (totals totals' : BTreeMap R ℕ) (lists lists' : List (List Decision)) (index index' : DecisionIndex) → node' ≡ node ++ d ∷ []
+      → IsOpen cmp net rows bids node totals lists index → IsFormedDecision net (length bids) d → IsUndecided node d.bid d.leg
       → ((q : R) → total_of cmp totals' q ≡ total_of cmp totals q + yes_uses rows bids q d) → ((q : R) → yes_uses rows bids q d ≤ 8192)
-      → AreByBid (length bids) (node ++ d ∷ []) lists' → IsOpen cmp net rows bids node' totals' lists'
-  open_push node node' totals totals' lists lists' is before formed fresh added little own = record {
+      → AreByBid (length bids) (node ++ d ∷ []) lists' → IsIndexOf (length bids) (node ++ d ∷ []) index' → IsOpen cmp net rows bids node' totals' lists' index'
+  open_push node node' totals totals' lists lists' index index' is before formed fresh added little own indexed = record {
     is_node = child_is_node net (length bids) node node' d is fresh before.is_node formed;
     loads = λ row. added row ∙ ap (λ n. n + yes_uses rows bids row d) (before.loads row) ∙ sym (load_push rows bids node d row) ∙ ap (λ n. yes_load rows bids n row) (sym is);
     few = λ row. let a = added row in let b = before.few row in let u = little row in let l : length node' ≡ length node + 1 = ap length is ∙ length-append node (d ∷ []) in omega arith;
     by_bid = subst (λ n. AreByBid (length bids) n lists') (sym is) own;
+    indexed = subst (λ n. IsIndexOf (length bids) n index') (sym is) indexed;
   }
 
-  pub open_pop : (node node' : List Decision) (totals totals' : BTreeMap R ℕ) (lists lists' : List (List Decision)) → node ≡ node' ++ d ∷ []
-      → IsOpen cmp net rows bids node totals lists → ((q : R) → yes_load rows bids node' q ≤ 8192 * length node')
+  pub open_pop : (node node' : List Decision) (totals totals' : BTreeMap R ℕ) (lists lists' : List (List Decision)) (index index' : DecisionIndex) → node ≡ node' ++ d ∷ []
+      → IsOpen cmp net rows bids node totals lists index → ((q : R) → yes_load rows bids node' q ≤ 8192 * length node')
       → ((q : R) → total_of cmp totals' q + yes_uses rows bids q d ≡ total_of cmp totals q)
-      → AreByBid (length bids) node' lists' → IsOpen cmp net rows bids node' totals' lists'
-  open_pop node node' totals totals' lists lists' is before small taken own = record {
+      → AreByBid (length bids) node' lists' → IsIndexOf (length bids) node' index' → IsOpen cmp net rows bids node' totals' lists' index'
+  open_pop node node' totals totals' lists lists' index index' is before small taken own indexed = record {
     is_node = (behind net (length bids) node' d (subst (IsNode net (length bids)) is before.is_node)).is_node;
     loads = same;
     few = λ row. let s = same row in let w = small row in omega arith;
     by_bid = own;
+    indexed = indexed;
   }
     where
       same : AreLoads cmp rows bids node' totals'

@@ -11,18 +11,18 @@ use Rattle.optra_node.specs.declared.Decision.{Decision}
 use Rattle.optra_node.specs.Nodes.{has_yes}
 use Rattle.optra_node.specs.Summaries.{is_for, decisions_for, AreByBid}
 
-is_for_same : (bid : ℕ) (d : Decision) → d.bid ≡ bid → is_for bid d ≡ true
+pub is_for_same : (bid : ℕ) (d : Decision) → d.bid ≡ bid → is_for bid d ≡ true
 is_for_same bid d e = grind (arith, nat_tests)
 
 not_both : false ≡ true → ⊥
 not_both e = cc
 
-read_written : {X : Type 0} (xs : List X) (i : ℕ) (v : X) → i < length xs → slice_get (set xs i v) i ≡ Some v
+pub read_written : {X : Type 0} (xs : List X) (i : ℕ) (v : X) → i < length xs → slice_get (set xs i v) i ≡ Some v
 read_written xs i v l =
     let within : i < length (set xs i v) = omega (arith, length-set xs i v) in
     slice_get-get_or (set xs i v) i v within ∙ ap Some (get_or-set_same xs i v v l)
 
-read_other : {X : Type 0} (xs : List X) (i j : ℕ) (v w : X) → j ≢ i → slice_get xs j ≡ Some w → slice_get (set xs i v) j ≡ Some w
+pub read_other : {X : Type 0} (xs : List X) (i j : ℕ) (v w : X) → j ≢ i → slice_get xs j ≡ Some w → slice_get (set xs i v) j ≡ Some w
 read_other xs i j v w ne e =
     let l = slice_get_within xs j w e in
     let within : j < length (set xs i v) = omega (arith, length-set xs i v) in

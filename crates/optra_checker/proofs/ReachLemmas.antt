@@ -26,18 +26,18 @@ use Rattle.optra_checker.specs.declared.ways.Way.{Way}
 use Rattle.optra_checker.specs.Rests.{FitsAction, IsMove, IsAfter, IsRest, done_after}
 use Rattle.optra_checker.specs.Ways.{IsWay, leg_by}
 
-track_there : (tracks : List Track) (n : ℕ) (s : StationId) → option_map (λ (t : Track). t.tail) (slice_get tracks n) ≡ Some s → (t : Track) × (slice_get tracks n ≡ Some t) × (t.tail ≡ s)
+pub track_there : (tracks : List Track) (n : ℕ) (s : StationId) → option_map (λ (t : Track). t.tail) (slice_get tracks n) ≡ Some s → (t : Track) × (slice_get tracks n ≡ Some t) × (t.tail ≡ s)
 track_there tracks n s e = by (slice_get tracks n) refl e
   where
     by : (o : Option Track) → slice_get tracks n ≡ o → option_map (λ (t : Track). t.tail) o ≡ Some s → (t : Track) × (slice_get tracks n ≡ Some t) × (t.tail ≡ s)
     by None at f = cc
     by (Some t) at f = (t, at, cc)
 
-head_is : (tracks : List Track) (n : ℕ) (s : StationId) (t : Track) → slice_get tracks n ≡ Some t → option_map (λ (t : Track). t.head) (slice_get tracks n) ≡ Some s → t.head ≡ s
+pub head_is : (tracks : List Track) (n : ℕ) (s : StationId) (t : Track) → slice_get tracks n ≡ Some t → option_map (λ (t : Track). t.head) (slice_get tracks n) ≡ Some s → t.head ≡ s
 head_is tracks n s t at e = cc
 
 -- an arrival is a running time after the departure
-ran : (net : Net) (kind : TypeId) (leg : Leg) (n : ℕ) → arrival_of net kind leg ≡ Some n
+pub ran : (net : Net) (kind : TypeId) (leg : Leg) (n : ℕ) → arrival_of net kind leg ≡ Some n
     → (times : Times) × (times_of net leg.track kind ≡ Some times) × (leg.depart + minutes_by leg.from_halt (not (is_pass leg.action)) times ≡ n)
 ran net kind leg n e = by (times_of net leg.track kind) refl e
   where
@@ -47,7 +47,7 @@ ran net kind leg n e = by (times_of net leg.track kind) refl e
     by (Some times) at f = (times, at, cc)
 
 -- the next departure is not before the arrival
-arrived : (net : Net) (kind : TypeId) (leg : Leg) (n : ℕ) → next_depart_of net kind leg ≡ Some n → (m : ℕ) × (arrival_of net kind leg ≡ Some m) × (m ≤ n)
+pub arrived : (net : Net) (kind : TypeId) (leg : Leg) (n : ℕ) → next_depart_of net kind leg ≡ Some n → (m : ℕ) × (arrival_of net kind leg ≡ Some m) × (m ≤ n)
 arrived net kind leg n e = by (arrival_of net kind leg) leg.action refl e
   where
     by : (o : Option ℕ) (a : Action) → arrival_of net kind leg ≡ o → after_action a o ≡ Some n → (m : ℕ) × (arrival_of net kind leg ≡ Some m) × (m ≤ n)

@@ -18,6 +18,7 @@ use Rattle.optra_checker.specs.Starts.{IsStartWorth, IsBestStart, IsAt, IsBefore
 use Rattle.optra_checker.specs.Tables.{IsFilled, rest_at, end_of}
 use Rattle.optra_checker.proofs.BestLemmas.{same_greatest, both_greatest, greater_has}
 use Rattle.optra_checker.proofs.FillLemmas.{rest_by, early_before}
+use Rattle.optra_checker.proofs.BehindLemmas.{time_start}
 use Rattle.optra_checker.proofs.ReachLemmas.{reached_start}
 use Rattle.optra_checker.proofs.RestLemmas.{rest_of_walk, walk_of_rest}
 use Rattle.optra_checker.proofs.ValueLemmas.{walk_sum}
@@ -38,7 +39,8 @@ module _ (w : Weights) (net : Net) (bid : Bid) where
       → IsBestRest w net bid (start_state bid.path minute) AnyLeg (rest_at table (start_state bid.path minute))
   start_rest table minute h within =
       rest_by w net bid table (start_state bid.path minute) h.reach h.setting
-      (λ early. h.each (start_state bid.path minute) (start_placed table minute h within (early_before table (start_state bid.path minute) early)) (omega arith) (reached_start net bid.path table.reach h.reach (start_state bid.path minute) refl within.0) early)
+      (λ early. h.each (start_state bid.path minute) (start_placed table minute h within (early_before table (start_state bid.path minute) early)) (omega arith) (reached_start net bid.path table.reach h.reach (start_state bid.path minute) refl within.0)
+      (time_start net bid.path table.reach h.reach minute within.0) early)
 
   -- a start and a rest behind it
   start_open : (minute : ℕ) → w.may_start minute ≡ true → IsFromTo bid.path.depart.from bid.path.depart.to minute → (leg : Leg) (rest : List Leg)

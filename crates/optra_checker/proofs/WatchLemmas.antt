@@ -1,10 +1,8 @@
 -- Watched rows: what splits use, what the legs of a walk are watched for, and a walk that nothing of a node bears on.
-use Rattle.std.proofs.Common.{◌≡◌, ℕ, zero, suc, ◌+◌, ◌<◌, ◌≤◌, Bool, true, false, not, cond, List, [], ◌∷◌, ◌++◌, map, length, get_or, take, sum_by, Option, None, Some, slice_get, IfSome, refl, sym, ap, ◌∙◌, subst, arith, inl, inr}
-use Rattle.std.specs.Prelude.{All, Contains, IsSomeAnd, option_map, nat_eq, ◌&&◌, ◌||◌}
-use Rattle.std.specs.Prelude.{ℤ, pos}
-use Rattle.std.specs.List.{list_any}
+use Rattle.std.proofs.Common.{◌≡◌, ℕ, zero, suc, ◌+◌, ◌<◌, ◌≤◌, Bool, true, false, cond, List, [], ◌∷◌, ◌++◌, map, length, get_or, take, Option, None, Some, slice_get, IfSome, refl, sym, ap, ◌∙◌, subst, arith, inl, inr}
+use Rattle.std.specs.Prelude.{All, Contains, option_map, nat_eq, ◌&&◌, ◌||◌}
 use Rattle.std.specs.declared.cmp.Ordering.{Ordering}
-use Rattle.std.proofs.lemmas.Bool.{cases_lt, cases_eq, false≢true}
+use Rattle.std.proofs.lemmas.Bool.{cases_lt, cases_eq}
 use Rattle.std.proofs.lemmas.Bool.Decides.{nat_tests}
 use Rattle.std.proofs.lemmas.List.{length-append, length-map, length-take, take_more}
 use Rattle.std.proofs.lemmas.List.Elements.{All-push, All-head, All-tail, All-append, All-contains, All-weaker, All-take}
@@ -20,16 +18,16 @@ use Rattle.optra_walk.proofs.UsableLemmas.{walk_usable}
 use Rattle.optra_node.specs.declared.Decision.{Decision}
 use Rattle.optra_node.specs.declared.Item.{Item}
 use Rattle.optra_node.specs.declared.Item.TheVariants.{Split, NoWalk, Forced, Priced}
-use Rattle.optra_node.specs.Nodes.{IsBlocked, kind_at, has_yes, is_yes_for, uses_at, yes_load, others_load}
+use Rattle.optra_node.specs.Nodes.{IsBlocked, kind_at, has_yes, uses_at, yes_load}
 use Rattle.optra_node.specs.Spans.{Lets}
-use Rattle.optra_node.specs.Summaries.{is_for, decisions_for}
+use Rattle.optra_node.specs.Summaries.{decisions_for}
 use Rattle.optra_node.specs.Duals.{PriceList, leg_price}
 use Rattle.optra_node.specs.Trees.{children, open_after, root, decide, decide_not}
 use Rattle.optra_node.proofs.SummaryLemmas.{load_split}
 use Rattle.optra_checker.specs.declared.frees.Free.{Free}
-use Rattle.optra_checker.specs.Frees.{AreFree, IsFreeLeg, IsStillFree}
+use Rattle.optra_checker.specs.Frees.{AreFree, IsStillFree}
 use Rattle.optra_checker.specs.Leaves.{leaf_weights}
-use Rattle.optra_checker.specs.Watches.{Spares, AreSplitLoads, IsWatched, AreWatched, AreWatches, IsLetBe}
+use Rattle.optra_checker.specs.Watches.{Spares, IsWatched, AreWatched, AreWatches, IsLetBe}
 use Rattle.optra_checker.proofs.LeafLemmas.{kind_is, slice_last, slice_before}
 use Rattle.optra_checker.proofs.TestLemmas.{start_tested, leg_tested}
 

@@ -20,3 +20,5 @@ pub mod Reaches
 pub mod Asks
 pub mod Frees
 pub mod Watches
+pub mod Loaded
+pub mod Keyed

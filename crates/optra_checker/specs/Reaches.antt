@@ -62,6 +62,26 @@ pub record AreAhead (net : Net) (path : Path) (levels : List (List ℕ)) (most :
 abbrev pub levels_of : Reach → List (List ℕ)
 levels_of reach = map (λ level. level.items) reach.ahead.items
 
+-- no more minutes from the origin to each station than trains take by way of the stops that are done, for each number of stops
+-- done up to one: they go to the last of these by way of the others, halt there, and go on
+pub record AreBehind (net : Net) (path : Path) (levels : List (List ℕ)) (most : ℕ) : Type 0 where
+  pub count : length levels ≡ most + 1
+  pub len : (done : ℕ) → done ≤ most → length (slice_index_or levels done []) ≡ length net.stations
+  pub each : (done : ℕ) → done ≤ most → (n : ℕ) → n < length net.tracks
+      → IsLeastAlong net path.kind false (slice_index_or levels done []) (track_id n)
+  pub start : slice_index (slice_index_or levels 0 []) path.origin.0 ≤ 0
+  pub halt : (done : ℕ) (stop : Stop) → slice_get path.stops done ≡ Some stop → done + 1 ≤ most
+      → slice_index (slice_index_or levels (done + 1) []) stop.station.0
+      ≤ stop.min_dwell + slice_index (slice_index_or levels done []) stop.station.0
+
+abbrev pub behind_of : Reach → List (List ℕ)
+behind_of reach = map (λ level. level.items) reach.behind.items
+
+-- there was time for a walk to come to the state by way of the stops that it has done
+abbrev pub WasTime : Path → Reach → State → Type 0
+WasTime path reach s =
+    path.depart.from + slice_index (slice_index_or (behind_of reach) s.done []) s.station.0 ≤ s.minute
+
 -- a walk may still end in time that has the stops left that the state has
 abbrev pub IsAhead : Path → Reach → State → Type 0
 IsAhead path reach s = s.minute + slice_index (slice_index_or (levels_of reach) (length path.stops - s.done) []) s.station.0 ≤ path.arrive.to
@@ -72,6 +92,7 @@ pub record IsReach (net : Net) (path : Path) (reach : Reach) : Type 0 where
   pub on : AreLeast net path.kind true path.destination 0 reach.to_destination.items
   pub far : SkipsFar path reach.from_origin.items reach.to_destination.items reach.skips.items
   pub ahead : AreAhead net path (levels_of reach) (length path.stops)
+  pub behind : AreBehind net path (behind_of reach) (length path.stops)
 
 -- a train may be there by then
 abbrev pub IsReached : Path → Reach → State → Type 0

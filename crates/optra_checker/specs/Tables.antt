@@ -1,13 +1,13 @@
 -- Tables of the best rests of states.
-use Rattle.std.specs.Prelude.{◌≡◌, ℕ, ◌+◌, ◌≤◌, ◌&&◌, nat_lt, nat_le, true, length, slice_index, slice_index_or, Option, None, if◌then◌else◌, Bool}
-use Rattle.std.specs.Prelude.{ℤ}
+use Rattle.std.specs.Prelude.{◌≡◌, ℕ, zero, suc, ◌+◌, ◌≤◌, ◌&&◌, nat_lt, nat_le, true, length, slice_index, slice_index_or, Option, None, Some, if◌then◌else◌, Bool, List, map}
+use Rattle.std.specs.Prelude.{ℤ, pos, negsuc}
 use Rattle.optra_network.specs.Net.{Net}
 use Rattle.optra_bid.specs.declared.bids.Bid.{Bid}
 use Rattle.optra_walk.specs.declared.Leg.{Leg}
 use Rattle.optra_checker.specs.Weights.{Weights}
 use Rattle.optra_checker.specs.Places.{IsPlaced, IsSmall, place_of, places_of}
 use Rattle.optra_checker.specs.Settings.{IsSetting}
-use Rattle.optra_checker.specs.Reaches.{IsReach, IsReached}
+use Rattle.optra_checker.specs.Reaches.{IsReach, IsReached, WasTime}
 use Rattle.optra_checker.specs.Rests.{IsBestRest, IsMove, IsAfter, AnyLeg}
 use Rattle.optra_checker.specs.declared.states.State.{State}
 use Rattle.optra_checker.specs.declared.rest_table.RestTable.{RestTable}
@@ -19,9 +19,19 @@ pub record IsTable (table : RestTable) : Type 0 where
   pub from : length table.reach.from_origin.items ≡ table.layout.stations
   pub on : length table.reach.to_destination.items ≡ table.layout.stations
 
+-- the rest that a number stands for; none for one above zero
+abbrev pub rest_in : ℤ → Option ℤ
+rest_in (pos zero) = Some (pos 0)
+rest_in (pos (suc n)) = None
+rest_in (negsuc n) = Some (negsuc n)
+
+-- the rests of all places
+abbrev pub rests_of : RestTable → List (Option ℤ)
+rests_of table = map rest_in table.rests.items
+
 -- what stands at a place
 abbrev pub entry_at : RestTable → ℕ → Option ℤ
-entry_at table place = slice_index_or table.rests.items place None
+entry_at table place = slice_index_or (rests_of table) place None
 
 -- the minute behind the last one of the table
 abbrev pub end_of : RestTable → ℕ
@@ -39,13 +49,14 @@ rest_at table s = if is_early table s then entry_at table (place_of table.layout
 abbrev pub HasBest : Weights → Net → Bid → RestTable → State → Type 0
 HasBest w net bid table s = IsBestRest w net bid s AnyLeg (entry_at table (place_of table.layout s))
 
--- a table for walks of the bid, with the best rests of the states from a place on in which a train may be and that are
--- not too late
+-- a table for walks of the bid, with the best rests of the states from a place on in which a train may be, by way of the
+-- stops that it has done, and that are not too late
 pub record IsFilled (w : Weights) (net : Net) (bid : Bid) (table : RestTable) (from : ℕ) : Type 0 where
   pub is_table : IsTable table
   pub setting : IsSetting net bid.path table.layout
   pub reach : IsReach net bid.path table.reach
-  pub each : (s : State) → IsPlaced table.layout s → from ≤ place_of table.layout s → IsReached bid.path table.reach s → is_early table s ≡ true → HasBest w net bid table s
+  pub each : (s : State) → IsPlaced table.layout s → from ≤ place_of table.layout s → IsReached bid.path table.reach s
+      → WasTime bid.path table.reach s → is_early table s ≡ true → HasBest w net bid table s
 
 -- the state has a place, and the table has the best rests of all states that come right after it
 pub record IsReadyFor (w : Weights) (net : Net) (bid : Bid) (table : RestTable) (s : State) : Type 0 where

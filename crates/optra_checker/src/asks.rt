@@ -14,7 +14,8 @@ pub(crate) struct Ask {
     pub cost: Option<i128>,
 }
 
-/// What the leg costs. Of each track the leg that was asked of last is kept, and a leg that is alike isn't asked of.
+/// What the leg costs. Of each track the leg that was asked of last is kept, and a leg that is
+/// alike isn't asked of.
 pub(crate) fn leg_cost<W: Weighing>(
     weighing: &W,
     asks: &mut [Option<Ask>],

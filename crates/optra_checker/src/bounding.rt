@@ -37,10 +37,13 @@ fn item_bound<F: RowFamily>(
 ) -> Result<Option<i128>, NoMemory>
     requires instance { IsInstance node.now.net node.now.bids }
     requires frees { AreFree node.now.net node.now.bids frees.now }
-    requires watches { AreWatches (F.rows_of node.now.family node.now.net) node.now.bids (yes_load (F.rows_of node.now.family node.now.net) node.now.bids node.now.node) frees.now (map (option_map (λ w. w.items)) watches.now) }
+    requires watches { AreWatches (F.rows_of node.now.family node.now.net) node.now.bids
+        (yes_load (F.rows_of node.now.family node.now.net) node.now.bids node.now.node) frees.now
+        (map (option_map (λ w. w.items)) watches.now) }
     requires formed { IsFormedItem F.Row.cmp node.now.net (length node.now.bids) item.now }
     requires prices { HasPrices (F.rows_of node.now.family node.now.net) item.now }
-    ensures { IfOk result (IsItemBound node.now.net (F.rows_of node.now.family node.now.net) node.now.bids node.now.node item.now) }
+    ensures { IfOk result (IsItemBound node.now.net (F.rows_of node.now.family node.now.net)
+        node.now.bids node.now.node item.now) }
 {
     match item {
         Item::Priced { prices } => {
@@ -51,7 +54,8 @@ fn item_bound<F: RowFamily>(
     }
 }
 
-/// The greatest bound of the leaves with prices, in whole cents; `None` where there is no such leaf.
+/// The greatest bound of the leaves with prices, in whole cents; `None` where there is no such
+/// leaf.
 fn greatest_bound<F: RowFamily>(
     alloc: Global,
     inst: Instance<'_>,
@@ -63,7 +67,8 @@ fn greatest_bound<F: RowFamily>(
     requires items { All (IsFormedItem F.Row.cmp inst.net.now (length inst.bids.now)) tree.now }
     requires splits { All (λ p. SplitsUndecided p.0 p.1) (places tree.now) }
     requires prices { All (HasPrices (F.rows_of rows.now inst.net.now)) tree.now }
-    ensures { IfOk result (IsGreatestOf inst.entry.net.now (F.rows_of rows.now inst.entry.net.now) inst.entry.bids.now (places tree.now)) }
+    ensures { IfOk result (IsGreatestOf inst.entry.net.now (F.rows_of rows.now inst.entry.net.now)
+        inst.entry.bids.now (places tree.now)) }
 {
     let mut node = OpenNode::new(alloc, inst, rows)?;
     let mut table = RestTable::new(alloc);
@@ -102,7 +107,9 @@ pub(crate) fn bound_holds<F: RowFamily>(
     requires items { All (IsFormedItem F.Row.cmp inst.net.now (length inst.bids.now)) tree.now }
     requires splits { All (λ p. SplitsUndecided p.0 p.1) (places tree.now) }
     requires prices { All (HasPrices (F.rows_of rows.now inst.net.now)) tree.now }
-    ensures { IfOk result (λ holds. IsTrue holds ↔ IsGreatestBound inst.entry.net.now (F.rows_of rows.now inst.entry.net.now) inst.entry.bids.now tree.now stated) }
+    ensures { IfOk result (λ holds. IsTrue holds
+        ↔ IsGreatestBound inst.entry.net.now (F.rows_of rows.now inst.entry.net.now)
+        inst.entry.bids.now tree.now stated) }
 {
     let greatest = greatest_bound(alloc, inst, rows, tree)?;
     Ok(is_stated(greatest, stated))

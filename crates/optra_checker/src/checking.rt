@@ -40,9 +40,13 @@ fn choice_fault<F: RowFamily>(
     cert: &Certificate<F::Row>,
 ) -> Result<Option<Reason>, NoMemory>
     requires instance { IsInstance inst.net.now inst.bids.now }
-    requires formed { IsFormed F.Row.cmp inst.net.now (length inst.bids.now) cert.now.choice cert.now.tree }
-    ensures { IfOk result (λ fault. MatchOption fault (ChoiceHolds inst.entry.net.now (F.KeepsRule rows.now inst.entry.net.now) inst.entry.bids.now cert.now)
-        (IsFirstReason inst.entry.net.now (F.rows_of rows.now inst.entry.net.now) (F.KeepsRule rows.now inst.entry.net.now) inst.entry.bids.now cert.now)) }
+    requires formed { IsFormed F.Row.cmp inst.net.now (length inst.bids.now) cert.now.choice
+        cert.now.tree }
+    ensures { IfOk result (λ fault. MatchOption fault
+        (ChoiceHolds inst.entry.net.now (F.KeepsRule rows.now inst.entry.net.now)
+        inst.entry.bids.now cert.now)
+        (IsFirstReason inst.entry.net.now (F.rows_of rows.now inst.entry.net.now)
+        (F.KeepsRule rows.now inst.entry.net.now) inst.entry.bids.now cert.now)) }
 {
     let walks = entries(cert);
     if !walks_hold(inst.net, inst.bids, walks) {
@@ -65,10 +69,15 @@ fn tree_fault<F: RowFamily>(
     cert: &Certificate<F::Row>,
 ) -> Result<Option<Reason>, NoMemory>
     requires instance { IsInstance inst.net.now inst.bids.now }
-    requires formed { IsFormed F.Row.cmp inst.net.now (length inst.bids.now) cert.now.choice cert.now.tree }
-    requires choice { ChoiceHolds inst.net.now (F.KeepsRule rows.now inst.net.now) inst.bids.now cert.now }
-    ensures { IfOk result (λ fault. MatchOption fault (TreeHolds inst.entry.net.now (F.rows_of rows.now inst.entry.net.now) inst.entry.bids.now cert.now)
-        (IsFirstReason inst.entry.net.now (F.rows_of rows.now inst.entry.net.now) (F.KeepsRule rows.now inst.entry.net.now) inst.entry.bids.now cert.now)) }
+    requires formed { IsFormed F.Row.cmp inst.net.now (length inst.bids.now) cert.now.choice
+        cert.now.tree }
+    requires choice { ChoiceHolds inst.net.now (F.KeepsRule rows.now inst.net.now) inst.bids.now
+        cert.now }
+    ensures { IfOk result (λ fault. MatchOption fault
+        (TreeHolds inst.entry.net.now (F.rows_of rows.now inst.entry.net.now) inst.entry.bids.now
+        cert.now)
+        (IsFirstReason inst.entry.net.now (F.rows_of rows.now inst.entry.net.now)
+        (F.KeepsRule rows.now inst.entry.net.now) inst.entry.bids.now cert.now)) }
 {
     let tree = items(cert);
     if !splits_hold(alloc, inst, rows, tree)? {
@@ -94,8 +103,10 @@ fn verdict_on<F: RowFamily>(
     cert: &Certificate<F::Row>,
 ) -> Result<Verdict, NoMemory>
     requires instance { IsInstance inst.net.now inst.bids.now }
-    requires formed { IsFormed F.Row.cmp inst.net.now (length inst.bids.now) cert.now.choice cert.now.tree }
-    ensures { IfOk result (IsVerdict inst.entry.net.now (F.rows_of rows.now inst.entry.net.now) (F.KeepsRule rows.now inst.entry.net.now) inst.entry.bids.now cert.now) }
+    requires formed { IsFormed F.Row.cmp inst.net.now (length inst.bids.now) cert.now.choice
+        cert.now.tree }
+    ensures { IfOk result (IsVerdict inst.entry.net.now (F.rows_of rows.now inst.entry.net.now)
+        (F.KeepsRule rows.now inst.entry.net.now) inst.entry.bids.now cert.now) }
 {
     if let Some(reason) = choice_fault(alloc, inst, rows, cert)? {
         return Ok(Verdict::No(reason));
@@ -109,11 +120,13 @@ fn verdict_on<F: RowFamily>(
     })
 }
 
-/// Whether a certificate of an instance is valid: Yes with its revenue and its bound exactly where it is, and else No with
-/// the first reason, K1 to K7, that holds somewhere in it. [`Reason`] says when each comes.
+/// Whether a certificate of an instance is valid: Yes with its revenue and its bound exactly where
+/// it is, and else No with the first reason, K1 to K7, that holds somewhere in it. [`Reason`] says
+/// when each comes.
 ///
-/// It needs an instance of at most 1,000 bids whose paths are on its network, and a formed certificate. What it computes
-/// rests on the laws of the family alone. `NoMemory` is its only refusal.
+/// It needs an instance of at most 1,000 bids whose paths are on its network, and a formed
+/// certificate. What it computes rests on the laws of the family alone. `NoMemory` is its only
+/// refusal.
 pub fn check<F: RowFamily>(
     alloc: Global,
     inst: Instance<'_>,
@@ -121,9 +134,16 @@ pub fn check<F: RowFamily>(
     cert: &Certificate<F::Row>,
 ) -> Result<Verdict, NoMemory>
     requires instance { IsInstance inst.net.now inst.bids.now }
-    requires formed { IsFormed F.Row.cmp inst.net.now (length inst.bids.now) cert.now.choice cert.now.tree }
-    ensures yes { IfOk result (λ verdict. (verdict ≡ Verdict.Yes cert.now.revenue cert.now.bound) ↔ IsValid inst.entry.net.now (F.rows_of rows.now inst.entry.net.now) (F.KeepsRule rows.now inst.entry.net.now) inst.entry.bids.now cert.now.revenue cert.now.bound cert.now.choice cert.now.tree) }
-    ensures verdict { IfOk result (IsVerdict inst.entry.net.now (F.rows_of rows.now inst.entry.net.now) (F.KeepsRule rows.now inst.entry.net.now) inst.entry.bids.now cert.now) }
+    requires formed { IsFormed F.Row.cmp inst.net.now (length inst.bids.now) cert.now.choice
+        cert.now.tree }
+    ensures yes { IfOk result
+        (λ verdict. (verdict ≡ Verdict.Yes cert.now.revenue cert.now.bound)
+        ↔ IsValid inst.entry.net.now (F.rows_of rows.now inst.entry.net.now)
+        (F.KeepsRule rows.now inst.entry.net.now) inst.entry.bids.now cert.now.revenue
+        cert.now.bound cert.now.choice cert.now.tree) }
+    ensures verdict { IfOk result
+        (IsVerdict inst.entry.net.now (F.rows_of rows.now inst.entry.net.now)
+        (F.KeepsRule rows.now inst.entry.net.now) inst.entry.bids.now cert.now) }
 {
     verdict_on(alloc, inst, rows, cert)
 }

@@ -1,7 +1,7 @@
 //! The best walks of bids where nothing is decided, nothing is used and nothing has a price.
 //!
-//! Such a walk that a node still allows, at no price, is the best that the node allows. So most bids need no search at
-//! most leaves.
+//! Such a walk that a node still allows, at no price, is the best that the node allows. So most
+//! bids need no search at most leaves.
 ghost use Rattle.std.specs.Prelude.{◌≡◌, ◌↔◌, IfOk, IsTrue, Some, pos, negsuc, ◌*ℤ◌};
 ghost use Rattle.optra_bid.specs.Specs.{IsPathOn, IsBetween};
 ghost use Rattle.optra_bid.specs.Instances.{IsInstance};

@@ -65,8 +65,8 @@ fn are_none<R>(prices: &[(R, i64)]) -> bool
     prices.is_empty()
 }
 
-/// The price of a leg that the type may use: over the rows that it touches, price times use. Where no row has a price, none
-/// is touched.
+/// The price of a leg that the type may use: over the rows that it touches, price times use. Where
+/// no row has a price, none is touched.
 pub(crate) fn leg_price<F: RowFamily>(
     inst: Instance<'_>,
     rows: &F,

@@ -2,32 +2,37 @@
 ghost use Rattle.std.specs.Prelude.{◌≡◌, ◌<◌, length};
 ghost use Rattle.optra_node.specs.Duals.{ArePrices};
 ghost use Rattle.optra_node.specs.Certificates.{AreAscending};
+ghost use Rattle.optra_checker.specs.Loaded.{AreRising, AreLoaded};
 
 use crate::open_node::OpenNode;
 use crate::weighing::Weighing;
 use optra_network::Minute;
 use optra_walk::{Leg, RowFamily};
 
-/// A bid at a node, with prices: a leg costs its price, and a walk may have the starts and the legs that the node allows.
+/// A bid at a node, with prices: a leg costs its price, and a walk may have the starts and the legs
+/// that the node allows.
 #[derive(Drop)]
 pub(crate) struct LeafWeights<'a, 'b, F: RowFamily> {
     pub(crate) node: &'a OpenNode<'b, F>,
     pub(crate) bid: u32,
     /// Proper prices, in thousandths of a cent, whose rows ascend.
     pub(crate) prices: &'a [(F::Row, i64)],
+    /// The rows of which the node's yes legs use something, ascending.
+    pub(crate) loaded: &'a [F::Row],
     ghost in_range: { bid < length node.now.bids },
     ghost ascending: { AreAscending F.Row.cmp prices.now },
+    ghost rising: { AreRising F.Row.cmp loaded.now },
+    ghost all: { AreLoaded F.Row.cmp (F.rows_of node.now.family node.now.net) node.now.bids node.now.node loaded.now },
     ghost proper: { ArePrices (F.rows_of node.now.family node.now.net) prices.now },
 }
 
 impl<'a, 'b, F: RowFamily> Weighing for LeafWeights<'a, 'b, F> {
-    ghost use Rattle.optra_node.specs.Nodes.{kind_at};
-    ghost use Rattle.optra_checker.specs.Leaves.{leaf_weights};
+    ghost use Rattle.optra_checker.specs.Leaves.{weights_at};
 
-    ghost weights = { λ s. leaf_weights s.node.now.net (F.rows_of s.node.now.family s.node.now.net) (F.rows_used s.node.now.family s.node.now.net) s.node.now.bids s.node.now.node s.bid s.prices.now (kind_at s.node.now.bids s.bid) };
+    ghost weights = { λ s. weights_at F.rows_of F.rows_used s.node.now s.bid s.prices.now };
 
     fn cost(&self, leg: Leg) -> Option<i128> {
-        if self.node.usable_leg_ok(self.bid, leg) {
+        if self.node.leg_ok_beside(self.loaded, self.bid, leg) {
             Some(self.node.leg_price(self.prices, self.bid, leg))
         } else {
             None

@@ -17,7 +17,10 @@ use std::alloc::Global;
 fn is_stuck<F: RowFamily>(alloc: Global, node: &OpenNode<'_, F>, bid: u32) -> Result<bool, NoMemory>
     requires instance { IsInstance node.now.net node.now.bids }
     requires bid { bid < length node.now.bids }
-    ensures { IfOk result (λ stuck. IsTrue stuck ↔ IsSomeAnd (slice_get node.now.bids bid) (λ b. IsStuck node.now.net (F.rows_of node.now.family node.now.net) node.now.bids node.now.node bid b)) }
+    ensures { IfOk result (λ stuck. IsTrue stuck
+        ↔ IsSomeAnd (slice_get node.now.bids bid)
+        (λ b. IsStuck node.now.net (F.rows_of node.now.family node.now.net) node.now.bids
+        node.now.node bid b)) }
 {
     let prices = Vec::new(alloc);
     let mut table = RestTable::new(alloc);
@@ -33,7 +36,9 @@ fn ends_dead<F: RowFamily>(
 ) -> Result<bool, NoMemory>
     requires instance { IsInstance node.now.net node.now.bids }
     requires formed { IsFormedItem F.Row.cmp node.now.net (length node.now.bids) item.now }
-    ensures { IfOk result (λ dead. IsTrue dead ↔ EndsDead node.now.net (F.rows_of node.now.family node.now.net) node.now.bids node.now.node item.now) }
+    ensures { IfOk result (λ dead. IsTrue dead
+        ↔ EndsDead node.now.net (F.rows_of node.now.family node.now.net) node.now.bids
+        node.now.node item.now) }
 {
     match item {
         Item::NoWalk { bid } => is_stuck(alloc, node, *bid),
@@ -53,7 +58,9 @@ pub(crate) fn leaves_hold<F: RowFamily>(
     requires whole { IsTree tree.now }
     requires items { All (IsFormedItem F.Row.cmp inst.net.now (length inst.bids.now)) tree.now }
     requires splits { All (λ p. SplitsUndecided p.0 p.1) (places tree.now) }
-    ensures { IfOk result (λ hold. IsTrue hold ↔ All (λ p. EndsDead inst.entry.net.now (F.rows_of rows.now inst.entry.net.now) inst.entry.bids.now p.0 p.1) (places tree.now)) }
+    ensures { IfOk result (λ hold. IsTrue hold
+        ↔ All (λ p. EndsDead inst.entry.net.now (F.rows_of rows.now inst.entry.net.now)
+        inst.entry.bids.now p.0 p.1) (places tree.now)) }
 {
     let mut node = OpenNode::new(alloc, inst, rows)?;
     'items: for item in tree {

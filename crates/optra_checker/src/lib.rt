@@ -1,14 +1,17 @@
-//! A separate check of certificates. It knows nothing of how a choice was found: it reads the walks, the tree and the
-//! prices of a certificate and computes each number again, by the rows of a family alone.
+//! A separate check of certificates. It knows nothing of how a choice was found: it reads the
+//! walks, the tree and the prices of a certificate and computes each number again, by the rows of a
+//! family alone.
 //!
-//! A certificate that is answered Yes shows, whoever wrote it, that its choice keeps the rule and earns the stated
-//! revenue, and that no choice that keeps the rule earns more than the stated bound: [`optra_node::bound_holds`].
+//! A certificate that is answered Yes shows, whoever wrote it, that its choice keeps the rule and
+//! earns the stated revenue, and that no choice that keeps the rule earns more than the stated
+//! bound: [`optra_node::bound_holds`].
 //!
-//! A bid's greatest offer at a leaf is found in two steps. Once a check, [`frees`] finds the best of all walks of each bid,
-//! where nothing is decided, used or priced, and keeps the legs of one. At a leaf that still allows that walk, at no price,
-//! nothing is better, so its few legs are all that is asked of. Only where the leaf doesn't, [`table`] searches the bid's
-//! walks by a table over minutes, stations and stops done, that is filled once from late to early: only where and when a
-//! train of the bid may be, and in room that stays from search to search.
+//! A bid's greatest offer at a leaf is found in two steps. Once a check, [`frees`] finds the best
+//! of all walks of each bid, where nothing is decided, used or priced, and keeps the legs of one.
+//! At a leaf that still allows that walk, at no price, nothing is better, so its few legs are all
+//! that is asked of. Only where the leaf doesn't, [`table`] searches the bid's walks by a table
+//! over minutes, stations and stops done, that is filled once from late to early: only where and
+//! when a train of the bid may be, and in room that stays from search to search.
 #![tactic(auto)]
 
 use optra_network::Cents;
@@ -16,11 +19,13 @@ use optra_network::Cents;
 mod asks;
 mod bounding;
 mod checking;
+mod decision_index;
 mod fitting;
 mod frees;
 mod leaf_prices;
 mod leaf_weights;
 mod leaves;
+mod loaded;
 mod open_node;
 mod own_lists;
 mod pricing;
@@ -61,11 +66,14 @@ pub enum Reason {
     Revenue,
     /// K4: a split's leg is already decided for its bid on the way from the root.
     Decision,
-    /// K5: a leaf without prices isn't dead. The bid of a leaf without walk has no yes leg there or has an allowed walk,
-    /// or the row of a forced leaf isn't a row or isn't overfilled by the yes legs.
+    /// K5: a leaf without prices isn't dead. The bid of a leaf without walk has no yes leg there or
+    /// has an allowed walk, or the row of a forced leaf isn't a row or isn't overfilled by the yes
+    /// legs.
     DeadLeaf,
-    /// K6: a listed price isn't 1 to 2,000,000,000,000 thousandths of a cent, or its row isn't a row.
+    /// K6: a listed price isn't 1 to 2,000,000,000,000 thousandths of a cent, or its row isn't a
+    /// row.
     Price,
-    /// K7: the stated bound isn't the greatest dual value of the leaves with prices, in whole cents and rounded down.
+    /// K7: the stated bound isn't the greatest dual value of the leaves with prices, in whole cents
+    /// and rounded down.
     Bound,
 }

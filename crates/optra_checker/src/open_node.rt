@@ -9,26 +9,28 @@ ghost use Rattle.optra_bid.specs.Specs.{IsBetween};
 ghost use Rattle.optra_walk.specs.Families.{IsUsable};
 ghost use Rattle.optra_node.specs.Duals.{PriceList, ArePrices, leg_price, capacity_price};
 ghost use Rattle.optra_node.specs.Certificates.{IsFormedItem, SplitsUndecided, AreAscending};
-ghost use Rattle.optra_checker.specs.Leaves.{leaf_weights};
+ghost use Rattle.optra_checker.specs.Leaves.{weights_at};
+ghost use Rattle.optra_checker.specs.Keyed.{yes_part};
+ghost use Rattle.optra_checker.specs.Loaded.{AreRising, AreLoaded, KeepsOff};
 ghost use Rattle.optra_checker.specs.Tests.{may_have_leg, may_start_at};
 ghost use Rattle.optra_checker.specs.Weights.{AreAlike};
 ghost use Rattle.optra_checker.specs.ToCome.{to_come, IsNextWay};
 
+use crate::decision_index::DecisionIndex;
 use crate::leaf_prices::{capacity_price, leg_price};
+use crate::loaded::{keeps_off, loaded_rows};
 use crate::own_lists::{add_own, drop_own, empty_lists};
 use crate::taking::take_decision;
 use optra_network::{Minute, NoMemory};
-use optra_node::{
-    Decision, Item, add_decision, is_blocked_beside, is_undecided, kind_at, let_by, start_ok, total,
-};
+use optra_node::{Decision, Item, add_decision, is_blocked_beside, kind_at, start_ok, total};
 use optra_walk::{Instance, Leg, RowFamily};
 use std::alloc::Global;
 use std::collections::BTreeMap;
 use std::marker::Model;
 
-/// A node of an instance whose last decision can be undone and which can be decided further, without a copy. It keeps how
-/// much of each row its yes legs use, and each bid's own decisions, and answers from them what the calls of
-/// [`optra_node::Node`] answer.
+/// A node of an instance whose last decision can be undone and which can be decided further,
+/// without a copy. It keeps how much of each row its yes legs use, and each bid's own decisions,
+/// and answers from them what the calls of [`optra_node::Node`] answer.
 #[derive(Drop)]
 pub(crate) struct OpenNode<'a, F: RowFamily> {
     inst: Instance<'a>,
@@ -36,6 +38,7 @@ pub(crate) struct OpenNode<'a, F: RowFamily> {
     decisions: Vec<Decision>,
     totals: BTreeMap<F::Row, u128>,
     own: Vec<Vec<Decision>>,
+    index: DecisionIndex,
 }
 
 impl<'a, F: RowFamily> Model for OpenNode<'a, F> {
@@ -47,7 +50,7 @@ impl<'a, F: RowFamily> Model for OpenNode<'a, F> {
 
     ghost view = { λ a. record { family = a.rows.now; net = a.inst.net.now; bids = a.inst.bids.now; node = a.decisions.items } };
 
-    ghost invariant = { λ a. IsOpen F.Row.cmp a.inst.net.now (F.rows_of a.rows.now a.inst.net.now) a.inst.bids.now a.decisions.items a.totals (map (λ v. v.items) a.own.items) };
+    ghost invariant = { λ a. IsOpen F.Row.cmp a.inst.net.now (F.rows_of a.rows.now a.inst.net.now) a.inst.bids.now a.decisions.items a.totals (map (λ v. v.items) a.own.items) a.index };
 }
 
 /// Whether one of the decisions is a yes.
@@ -74,23 +77,29 @@ impl<'a, F: RowFamily> OpenNode<'a, F> {
         inst: Instance<'a>,
         rows: &'a F,
     ) -> Result<OpenNode<'a, F>, NoMemory>
-        ensures { IfOk result (λ node. node ≡ summed rows.now inst.entry.net.now inst.entry.bids.now []) }
+        ensures { IfOk result (λ node. node
+            ≡ summed rows.now inst.entry.net.now inst.entry.bids.now []) }
     {
         let own = empty_lists(alloc, inst.bids.len())?;
+        let index = DecisionIndex::new(alloc, inst.bids.len())?;
         Ok(OpenNode {
             inst,
             rows,
             decisions: Vec::new(alloc),
             totals: BTreeMap::new(alloc),
             own,
+            index,
         })
     }
 
-    /// The node with one more decision, of a leg that is not decided yet for its bid. `NoMemory` is its only refusal.
+    /// The node with one more decision, of a leg that is not decided yet for its bid. `NoMemory` is
+    /// its only refusal.
     pub(crate) fn decide(self, decision: Decision) -> Result<OpenNode<'a, F>, NoMemory>
         requires formed { IsFormedDecision self.net (length self.bids) decision }
         requires undecided { IsUndecided self.node decision.bid decision.leg }
-        ensures { IfOk result (λ next. next ≡ summed self.entry.family self.entry.net self.entry.bids (self.entry.node ++ decision ∷ [])) }
+        ensures { IfOk result (λ next. next
+            ≡ summed self.entry.family self.entry.net self.entry.bids
+            (self.entry.node ++ decision ∷ [])) }
     {
         let OpenNode {
             inst,
@@ -98,9 +107,11 @@ impl<'a, F: RowFamily> OpenNode<'a, F> {
             mut decisions,
             mut totals,
             mut own,
+            mut index,
         } = self;
         add_decision(&mut totals, inst, rows, decision)?;
         add_own(&mut own, decision)?;
+        index.put(decision)?;
         decisions.push(decision)?;
         Ok(OpenNode {
             inst,
@@ -108,6 +119,7 @@ impl<'a, F: RowFamily> OpenNode<'a, F> {
             decisions,
             totals,
             own,
+            index,
         })
     }
 
@@ -125,6 +137,7 @@ impl<'a, F: RowFamily> OpenNode<'a, F> {
             mut decisions,
             mut totals,
             mut own,
+            mut index,
         } = self;
         let _ = inst.net.track_count();
         let Some(last) = decisions.pop() else {
@@ -132,12 +145,14 @@ impl<'a, F: RowFamily> OpenNode<'a, F> {
         };
         take_decision(&mut totals, inst, rows, last);
         drop_own(&mut own, last);
+        index.take_off(last);
         let before = OpenNode {
             inst,
             rows,
             decisions,
             totals,
             own,
+            index,
         };
         (before, last)
     }
@@ -149,7 +164,8 @@ impl<'a, F: RowFamily> OpenNode<'a, F> {
         self.decisions.is_empty()
     }
 
-    /// The nearest node that is still to come, or the root where none is. `NoMemory` is its only refusal.
+    /// The nearest node that is still to come, or the root where none is. `NoMemory` is its only
+    /// refusal.
     fn turn(self) -> Result<OpenNode<'a, F>, NoMemory>
         ensures same { IfOk result (AreSame self.entry) }
         ensures next { IfOk result (λ next. IsNextWay (to_come self.entry.node) next.node) }
@@ -165,13 +181,16 @@ impl<'a, F: RowFamily> OpenNode<'a, F> {
         Ok(node)
     }
 
-    /// The node that is open after an item of this node: below a split the one whose decision is yes, and after a leaf the
-    /// nearest that is still to come. Where none is, it is the root. `NoMemory` is its only refusal.
+    /// The node that is open after an item of this node: below a split the one whose decision is
+    /// yes, and after a leaf the nearest that is still to come. Where none is, it is the root.
+    /// `NoMemory` is its only refusal.
     pub(crate) fn pass(self, item: &Item<F::Row>) -> Result<OpenNode<'a, F>, NoMemory>
         requires formed { IsFormedItem F.Row.cmp self.net (length self.bids) item.now }
         requires undecided { SplitsUndecided self.node item.now }
         ensures same { IfOk result (AreSame self.entry) }
-        ensures next { IfOk result (λ next. IsNextWay (children self.entry.node item.now ++ to_come self.entry.node) next.node) }
+        ensures next { IfOk result
+            (λ next. IsNextWay (children self.entry.node item.now ++ to_come self.entry.node)
+            next.node) }
     {
         match item {
             Item::Split { bid, leg } => self.decide(Decision {
@@ -191,12 +210,20 @@ impl<'a, F: RowFamily> OpenNode<'a, F> {
         &self.own[bid as usize]
     }
 
+    /// The yes decisions for a bid, in the node's order.
+    fn yes(&self, bid: u32) -> &[Decision]
+        requires { bid < length self.now.bids }
+        ensures { result.now ≡ decisions_for (yes_part self.now.node) bid }
+    {
+        self.index.yes_of(bid)
+    }
+
     /// Whether the leg is not decided yet for the bid.
     pub(crate) fn is_undecided(&self, bid: u32, leg: Leg) -> bool
         requires { bid < length self.now.bids }
         ensures { IsTrue result ↔ IsUndecided self.now.node bid leg }
     {
-        is_undecided(self.own(bid), bid, leg)
+        self.index.is_undecided(bid, leg)
     }
 
     /// Whether the bid has a yes leg.
@@ -204,12 +231,13 @@ impl<'a, F: RowFamily> OpenNode<'a, F> {
         requires { bid < length self.now.bids }
         ensures { result ≡ has_yes self.now.node bid }
     {
-        any_yes(self.own(bid))
+        any_yes(self.yes(bid))
     }
 
     /// Whether the value is a row of which the yes legs use more than the capacity.
     pub(crate) fn is_overfull(&self, row: F::Row) -> bool
-        ensures { IsTrue result ↔ IsOverfull (F.rows_of self.now.family self.now.net) self.now.bids self.now.node row }
+        ensures { IsTrue result ↔ IsOverfull (F.rows_of self.now.family self.now.net) self.now.bids
+            self.now.node row }
     {
         let net = self.inst.net;
         self.rows.is_row(net, row) && u128::from(self.rows.cap(net, row)) < total(&self.totals, row)
@@ -220,30 +248,35 @@ impl<'a, F: RowFamily> OpenNode<'a, F> {
         requires { bid < length self.now.bids }
         ensures { IsTrue result ↔ IsStartOk self.now.node bid minute }
     {
-        start_ok(self.own(bid), bid, minute)
+        start_ok(self.yes(bid), bid, minute)
     }
 
     /// Whether each decision for the bid lets its walk have the leg.
     fn let_by(&self, bid: u32, leg: Leg) -> bool
         requires { bid < length self.now.bids }
-        ensures { IsTrue result ↔ IsLetBy self.now.net self.now.node bid (kind_at self.now.bids bid) leg }
+        ensures { IsTrue result ↔ IsLetBy self.now.net self.now.node bid
+            (kind_at self.now.bids bid) leg }
     {
+        if self.is_left_alone(bid) {
+            return true;
+        }
         let inst = self.inst;
-        let_by(inst.net, kind_at(inst, bid), self.own(bid), bid, leg)
+        self.index.let_by(inst.net, kind_at(inst, bid), bid, leg)
     }
 
     /// As [`optra_node::Node::blocked`] of the node.
     fn blocked(&self, bid: u32, leg: Leg) -> bool
         requires bid { bid < length self.now.bids }
         requires leg { IsFormedLeg self.now.net leg }
-        ensures { IsTrue result ↔ IsBlocked (F.rows_of self.now.family self.now.net) self.now.bids self.now.node bid (kind_at self.now.bids bid) leg }
+        ensures { IsTrue result ↔ IsBlocked (F.rows_of self.now.family self.now.net) self.now.bids
+            self.now.node bid (kind_at self.now.bids bid) leg }
     {
         let inst = self.inst;
         is_blocked_beside(
             inst,
             self.rows,
             &self.totals,
-            self.own(bid),
+            self.yes(bid),
             kind_at(inst, bid),
             leg,
         )
@@ -253,7 +286,8 @@ impl<'a, F: RowFamily> OpenNode<'a, F> {
     pub(crate) fn leg_ok(&self, bid: u32, leg: Leg) -> bool
         requires bid { bid < length self.now.bids }
         requires leg { IsFormedLeg self.now.net leg }
-        ensures { IsTrue result ↔ IsLegOk self.now.net (F.rows_of self.now.family self.now.net) self.now.bids self.now.node bid (kind_at self.now.bids bid) leg }
+        ensures { IsTrue result ↔ IsLegOk self.now.net (F.rows_of self.now.family self.now.net)
+            self.now.bids self.now.node bid (kind_at self.now.bids bid) leg }
     {
         self.let_by(bid, leg) && !self.blocked(bid, leg)
     }
@@ -268,7 +302,9 @@ impl<'a, F: RowFamily> OpenNode<'a, F> {
 
     /// Whether the yes legs use nothing of any of the rows.
     pub(crate) fn are_unused(&self, rows: &[F::Row]) -> bool
-        ensures { IsTrue result → All (λ row. yes_load (F.rows_of self.now.family self.now.net) self.now.bids self.now.node row ≡ 0) rows.now }
+        ensures { IsTrue result → All
+            (λ row. yes_load (F.rows_of self.now.family self.now.net) self.now.bids self.now.node
+            row ≡ 0) rows.now }
     {
         'rows: for row in rows {
             if total(&self.totals, *row) > 0 {
@@ -290,19 +326,74 @@ impl<'a, F: RowFamily> OpenNode<'a, F> {
     pub(crate) fn usable_leg_ok(&self, bid: u32, leg: Leg) -> bool
         requires bid { bid < length self.now.bids }
         requires usable { IsUsable self.now.net (kind_at self.now.bids bid) leg }
-        ensures { result ≡ may_have_leg self.now.net (F.rows_of self.now.family self.now.net) (F.rows_used self.now.family self.now.net) self.now.bids self.now.node bid (kind_at self.now.bids bid) leg }
+        ensures { result ≡ may_have_leg self.now.net (F.rows_of self.now.family self.now.net)
+            (F.rows_used self.now.family self.now.net) self.now.bids self.now.node bid
+            (kind_at self.now.bids bid) leg }
     {
         let _ = self.inst.net.track_count();
         self.leg_ok(bid, leg)
     }
 
-    /// Whether it is seen at once that a walk of the bid may have both legs, at one price, or neither. It is never true of
-    /// others.
+    /// The rows of which the yes legs use something, ascending. `NoMemory` is its only refusal.
+    pub(crate) fn loaded(&self, alloc: Global) -> Result<Vec<F::Row>, NoMemory>
+        ensures rising { IfOk result (λ loaded. AreRising F.Row.cmp loaded.items) }
+        ensures all { IfOk result
+            (λ loaded. AreLoaded F.Row.cmp (F.rows_of self.now.family self.now.net) self.now.bids
+            self.now.node loaded.items) }
+    {
+        loaded_rows(alloc, &self.totals)
+    }
+
+    /// As [`OpenNode::usable_leg_ok`], with the loaded rows of the node at hand.
+    pub(crate) fn leg_ok_beside(&self, loaded: &[F::Row], bid: u32, leg: Leg) -> bool
+        requires bid { bid < length self.now.bids }
+        requires usable { IsUsable self.now.net (kind_at self.now.bids bid) leg }
+        requires rising { AreRising F.Row.cmp loaded.now }
+        requires all { AreLoaded F.Row.cmp (F.rows_of self.now.family self.now.net) self.now.bids
+            self.now.node loaded.now }
+        ensures { result ≡ may_have_leg self.now.net (F.rows_of self.now.family self.now.net)
+            (F.rows_used self.now.family self.now.net) self.now.bids self.now.node bid
+            (kind_at self.now.bids bid) leg }
+    {
+        let _ = self.inst.net.track_count();
+        if !self.let_by(bid, leg) {
+            return false;
+        }
+        self.keeps_off(loaded, bid, leg) || self.has_room(bid, leg)
+    }
+
+    /// Whether the leg, on a track that the bid's type may use, is not blocked.
+    fn has_room(&self, bid: u32, leg: Leg) -> bool
+        requires bid { bid < length self.now.bids }
+        requires usable { IsUsable self.now.net (kind_at self.now.bids bid) leg }
+        ensures { IsTrue result ↔
+            (IsBlocked (F.rows_of self.now.family self.now.net) self.now.bids self.now.node bid
+            (kind_at self.now.bids bid) leg → ⊥) }
+    {
+        let _ = self.inst.net.track_count();
+        !self.blocked(bid, leg)
+    }
+
+    /// Whether the leg uses none of the rows, and no other row above its capacity.
+    fn keeps_off(&self, loaded: &[F::Row], bid: u32, leg: Leg) -> bool
+        requires bid { bid < length self.now.bids }
+        requires usable { IsUsable self.now.net (kind_at self.now.bids bid) leg }
+        requires rising { AreRising F.Row.cmp loaded.now }
+        ensures { IsTrue result → KeepsOff F.Row.cmp (F.rows_of self.now.family self.now.net)
+            (kind_at self.now.bids bid) loaded.now leg }
+    {
+        let inst = self.inst;
+        keeps_off(inst.net, self.rows, loaded, kind_at(inst, bid), leg)
+    }
+
+    /// Whether it is seen at once that a walk of the bid may have both legs, at one price, or
+    /// neither. It is never true of others.
     pub(crate) fn are_alike(&self, bid: u32, first: Leg, second: Leg) -> bool
         requires bid { bid < length self.now.bids }
         requires first { IsUsable self.now.net (kind_at self.now.bids bid) first }
         requires second { IsUsable self.now.net (kind_at self.now.bids bid) second }
-        ensures { result ≡ true → (prices : PriceList F.Row) → AreAlike (leaf_weights self.now.net (F.rows_of self.now.family self.now.net) (F.rows_used self.now.family self.now.net) self.now.bids self.now.node bid prices (kind_at self.now.bids bid)) first second }
+        ensures { result ≡ true → (prices : PriceList F.Row)
+            → AreAlike (weights_at F.rows_of F.rows_used self.now bid prices) first second }
     {
         let inst = self.inst;
         let kind = kind_at(inst, bid);
@@ -326,7 +417,8 @@ impl<'a, F: RowFamily> OpenNode<'a, F> {
         requires usable { IsUsable self.now.net (kind_at self.now.bids bid) leg }
         requires ascending { AreAscending F.Row.cmp prices.now }
         requires proper { ArePrices (F.rows_of self.now.family self.now.net) prices.now }
-        ensures value { result ≡ leg_price (F.rows_of self.now.family self.now.net) prices.now (kind_at self.now.bids bid) leg }
+        ensures value { result ≡ leg_price (F.rows_of self.now.family self.now.net) prices.now
+            (kind_at self.now.bids bid) leg }
         ensures range { IsBetween (pos 0) (pos 16384000000000000) result }
     {
         let inst = self.inst;
@@ -336,7 +428,8 @@ impl<'a, F: RowFamily> OpenNode<'a, F> {
     /// The price of all capacity.
     pub(crate) fn capacity_price(&self, prices: &[(F::Row, i64)]) -> i128
         requires { ArePrices (F.rows_of self.now.family self.now.net) prices.now }
-        ensures value { result ≡ capacity_price (F.rows_of self.now.family self.now.net) prices.now }
+        ensures value { result ≡ capacity_price (F.rows_of self.now.family self.now.net)
+            prices.now }
         ensures range { IsBetween (pos 0) (pos 2417851639229258349412352000000000000) result }
     {
         capacity_price(self.inst.net, self.rows, prices)

@@ -21,7 +21,9 @@ pub(crate) fn empty_lists(alloc: Global, count: usize) -> Result<Vec<Vec<Decisio
 /// Puts a decision behind those for its bid.
 pub(crate) fn add_own(lists: &mut Vec<Vec<Decision>>, decision: Decision) -> Result<(), NoMemory>
     requires { decision.bid < vec_len lists.old }
-    ensures { OnOk result ((bids : ℕ) (node : List Decision) → AreByBid bids node (map (λ list. list.items) lists.old.items) → AreByBid bids (node ++ decision ∷ []) (map (λ list. list.items) lists.new.items)) }
+    ensures { OnOk result ((bids : ℕ) (node : List Decision)
+        → AreByBid bids node (map (λ list. list.items) lists.old.items)
+        → AreByBid bids (node ++ decision ∷ []) (map (λ list. list.items) lists.new.items)) }
 {
     lists[decision.bid as usize].push(decision)?;
     Ok(())
@@ -30,7 +32,9 @@ pub(crate) fn add_own(lists: &mut Vec<Vec<Decision>>, decision: Decision) -> Res
 /// Takes the last decision for a bid off.
 pub(crate) fn drop_own(lists: &mut Vec<Vec<Decision>>, decision: Decision)
     requires { decision.bid < vec_len lists.old }
-    ensures { (bids : ℕ) (node : List Decision) → AreByBid bids (node ++ decision ∷ []) (map (λ list. list.items) lists.old.items) → AreByBid bids node (map (λ list. list.items) lists.new.items) }
+    ensures { (bids : ℕ) (node : List Decision)
+        → AreByBid bids (node ++ decision ∷ []) (map (λ list. list.items) lists.old.items)
+        → AreByBid bids node (map (λ list. list.items) lists.new.items) }
 {
     let _ = lists[decision.bid as usize].pop();
 }

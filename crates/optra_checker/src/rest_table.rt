@@ -1,7 +1,7 @@
 //! The best rests of states, in one dense table.
-ghost use Rattle.std.specs.Prelude.{◌≡◌, ◌+◌, ◌<◌, ◌≤◌, length, IfOk, IsTrue, OnOk, true, slice_index, slice_set};
+ghost use Rattle.std.specs.Prelude.{◌≡◌, ◌+◌, ◌<◌, ◌≤◌, length, IfOk, IsTrue, OnOk, true, slice_index, slice_set, IfSome, pos, ◌≤ℤ◌};
 ghost use Rattle.optra_checker.specs.Places.{IsPlaced, IsSmall, places_of};
-ghost use Rattle.optra_checker.specs.Tables.{IsTable, is_early, rest_at, end_of};
+ghost use Rattle.optra_checker.specs.Tables.{IsTable, is_early, rest_at, rest_in, rests_of, end_of};
 
 use crate::reach::Reach;
 use crate::states::{Layout, State};
@@ -9,15 +9,17 @@ use crate::ways::Way;
 use optra_network::NoMemory;
 use std::alloc::Global;
 
-/// What the best rest of a walk from each state on is worth, in thousandths of a cent, by the places of the states;
-/// `None` where there is no rest.
+/// What the best rest of a walk from each state on is worth, in thousandths of a cent, by the
+/// places of the states; a number above zero where there is no rest, since no rest is worth more
+/// than zero.
 ///
-/// One table serves search after search: its room stays, and what an earlier search left in it is never read.
+/// One table serves search after search: its room stays, and what an earlier search left in it is
+/// never read.
 #[derive(Drop)]
 pub(crate) struct RestTable {
     pub layout: Layout,
     pub reach: Reach,
-    pub rests: Vec<Option<i128>>,
+    pub rests: Vec<i128>,
 }
 
 /// A layout without a place.
@@ -27,6 +29,27 @@ const NO_PLACE: Layout = Layout {
     slots: 0,
     stations: 0,
 };
+
+/// What stands where there is no rest.
+const NO_REST: i128 = 1;
+
+/// What stands for a rest, or for none.
+fn cell_of(rest: Option<i128>) -> i128
+    requires { IfSome rest (λ n. n ≤ℤ pos 0) }
+    ensures { rest_in result ≡ rest }
+{
+    match rest {
+        Some(rest) => rest,
+        None => NO_REST,
+    }
+}
+
+/// The rest that a number stands for; none for one above zero.
+fn rest_in(cell: i128) -> Option<i128>
+    ensures { result ≡ rest_in cell }
+{
+    if cell > 0 { None } else { Some(cell) }
+}
 
 impl RestTable {
     /// A table for no state.
@@ -38,12 +61,14 @@ impl RestTable {
                 to_destination: Vec::new(alloc),
                 skips: Vec::new(alloc),
                 ahead: Vec::new(alloc),
+                behind: Vec::new(alloc),
             },
             rests: Vec::new(alloc),
         }
     }
 
-    /// Turns the table to states of a layout, between stations that are so far apart. `NoMemory` is its only refusal.
+    /// Turns the table to states of a layout, between stations that are so far apart. `NoMemory` is
+    /// its only refusal.
     pub(crate) fn turn_to(&mut self, layout: Layout, reach: Reach) -> Result<(), NoMemory>
         requires small { IsSmall layout }
         requires from { length reach.from_origin.items ≡ layout.stations }
@@ -54,7 +79,7 @@ impl RestTable {
     {
         let places = layout.places() as usize;
         if self.rests.len() < places {
-            self.rests.resize(places, None)?;
+            self.rests.resize(places, NO_REST)?;
         }
         self.layout = layout;
         self.reach = reach;
@@ -87,8 +112,12 @@ impl RestTable {
     pub(crate) fn is_late(&self, way: Way) -> bool
         requires table { IsTable self.now }
         requires head { way.head.0 < self.now.layout.stations }
-        ensures pass { IsTrue result → end_of self.now < way.pass + slice_index self.now.reach.to_destination.items way.head.0 }
-        ensures halt { IsTrue result → end_of self.now < way.halt + slice_index self.now.reach.to_destination.items way.head.0 }
+        ensures pass { IsTrue result
+            → end_of self.now < way.pass + slice_index self.now.reach.to_destination.items
+            way.head.0 }
+        ensures halt { IsTrue result
+            → end_of self.now < way.halt + slice_index self.now.reach.to_destination.items
+            way.head.0 }
     {
         let arrival = way.pass.min(way.halt);
         let on = u32::from(self.reach.to_destination[way.head.0 as usize]);
@@ -105,11 +134,11 @@ impl RestTable {
             return None;
         }
         let layout = self.layout;
-        self.rests[layout.place(state) as usize]
+        rest_in(self.rests[layout.place(state) as usize])
     }
 
-    /// What stands at the place of any state, and nothing where it has none. Of a state that a train may not be in it says
-    /// nothing.
+    /// What stands at the place of any state, and nothing where it has none. Of a state that a
+    /// train may not be in it says nothing.
     pub(crate) fn peek(&self, state: State) -> Option<i128> {
         let layout = self.layout;
         let station = state.station.0 as usize;
@@ -128,16 +157,20 @@ impl RestTable {
         let place = spot
             .wrapping_mul(u64::from(layout.slots))
             .wrapping_add(slot);
-        self.rests.get(place as usize).copied().flatten()
+        match self.rests.get(place as usize) {
+            Some(cell) => rest_in(*cell),
+            None => None,
+        }
     }
 
     /// Puts the best rest of the state at a place there.
     pub(crate) fn put(&mut self, place: u32, rest: Option<i128>)
-        requires { place < length self.old.rests.items }
-        ensures rests { self.new.rests.items ≡ slice_set self.old.rests.items place rest }
+        requires place { place < length self.old.rests.items }
+        requires rest { IfSome rest (λ n. n ≤ℤ pos 0) }
+        ensures rests { rests_of self.new ≡ slice_set (rests_of self.old) place rest }
         ensures layout { self.new.layout ≡ self.old.layout }
         ensures reach { self.new.reach ≡ self.old.reach }
     {
-        self.rests[place as usize] = rest;
+        self.rests[place as usize] = cell_of(rest);
     }
 }

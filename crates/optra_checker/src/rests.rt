@@ -42,7 +42,8 @@ fn less(rest: i128, share: i64, cost: i128) -> i128
     rest - i128::from(share) - cost
 }
 
-/// What the best rest that begins with the leg is worth, by the leg's share of the value and the best rest behind it.
+/// What the best rest that begins with the leg is worth, by the leg's share of the value and the
+/// best rest behind it.
 fn begin_with<W: Weighing>(
     weighing: &W,
     asks: &mut [Option<Ask>],
@@ -77,7 +78,8 @@ fn pass_rest<W: Weighing>(
     requires weights { AreWeightsFor (W.weights weighing.now) net.now bid.now.path }
     requires ready { IsReadyFor (W.weights weighing.now) net.now bid.now table.now way.from }
     requires way { IsWay net.now bid.now.path way.from way }
-    ensures best { IsBestRest (W.weights weighing.now) net.now bid.now way.from (IsLegBy way.from way.track Action.Pass) result }
+    ensures best { IsBestRest (W.weights weighing.now) net.now bid.now way.from
+        (IsLegBy way.from way.track Action.Pass) result }
     ensures asks { AreAsked (W.weights weighing.now) asks.new }
 {
     let rest = table.rest(State {
@@ -103,8 +105,10 @@ fn halt_rest<W: Weighing>(
     requires weights { AreWeightsFor (W.weights weighing.now) net.now bid.now.path }
     requires ready { IsReadyFor (W.weights weighing.now) net.now bid.now table.now way.from }
     requires way { IsWay net.now bid.now.path way.from way }
-    requires halt { IsMove net.now bid.now.path way.from (leg_by way.from way.track (Action.Halt dwell)) }
-    ensures best { IsBestRest (W.weights weighing.now) net.now bid.now way.from (IsLegBy way.from way.track (Action.Halt dwell)) result }
+    requires halt { IsMove net.now bid.now.path way.from
+        (leg_by way.from way.track (Action.Halt dwell)) }
+    ensures best { IsBestRest (W.weights weighing.now) net.now bid.now way.from
+        (IsLegBy way.from way.track (Action.Halt dwell)) result }
     ensures asks { AreAsked (W.weights weighing.now) asks.new }
 {
     let rest = table.rest(State {
@@ -130,8 +134,10 @@ fn wait_rest<W: Weighing>(
     requires weights { AreWeightsFor (W.weights weighing.now) net.now bid.now.path }
     requires ready { IsReadyFor (W.weights weighing.now) net.now bid.now table.now way.from }
     requires way { IsWay net.now bid.now.path way.from way }
-    requires wait { IsMove net.now bid.now.path way.from (leg_by way.from way.track (Action.Wait dwell)) }
-    ensures best { IsBestRest (W.weights weighing.now) net.now bid.now way.from (IsLegBy way.from way.track (Action.Wait dwell)) result }
+    requires wait { IsMove net.now bid.now.path way.from
+        (leg_by way.from way.track (Action.Wait dwell)) }
+    ensures best { IsBestRest (W.weights weighing.now) net.now bid.now way.from
+        (IsLegBy way.from way.track (Action.Wait dwell)) result }
     ensures asks { AreAsked (W.weights weighing.now) asks.new }
 {
     let rest = table.rest(State {
@@ -171,7 +177,8 @@ fn halts_rest<W: Weighing>(
     requires weights { AreWeightsFor (W.weights weighing.now) net.now bid.now.path }
     requires ready { IsReadyFor (W.weights weighing.now) net.now bid.now table.now way.from }
     requires way { IsWay net.now bid.now.path way.from way }
-    ensures best { IsBestRest (W.weights weighing.now) net.now bid.now way.from (IsHaltBy way.from way.track) result }
+    ensures best { IsBestRest (W.weights weighing.now) net.now bid.now way.from
+        (IsHaltBy way.from way.track) result }
     ensures asks { AreAsked (W.weights weighing.now) asks.new }
 {
     let stop = next_stop(bid, way.from.done)?;
@@ -206,7 +213,8 @@ fn waits_rest<W: Weighing>(
     requires weights { AreWeightsFor (W.weights weighing.now) net.now bid.now.path }
     requires ready { IsReadyFor (W.weights weighing.now) net.now bid.now table.now way.from }
     requires way { IsWay net.now bid.now.path way.from way }
-    ensures best { IsBestRest (W.weights weighing.now) net.now bid.now way.from (IsWaitBy way.from way.track) result }
+    ensures best { IsBestRest (W.weights weighing.now) net.now bid.now way.from
+        (IsWaitBy way.from way.track) result }
     ensures asks { AreAsked (W.weights weighing.now) asks.new }
 {
     let mut best = None;
@@ -228,8 +236,8 @@ fn may_finish(bid: &Bid, way: Way) -> bool
         && way.halt <= path.arrive.to
 }
 
-/// The rest that begins by the way and ends there, where all stops are done and it is the destination within the
-/// arrival window.
+/// The rest that begins by the way and ends there, where all stops are done and it is the
+/// destination within the arrival window.
 fn finish_rest<W: Weighing>(
     net: &Network,
     bid: &Bid,
@@ -242,7 +250,8 @@ fn finish_rest<W: Weighing>(
     requires weights { AreWeightsFor (W.weights weighing.now) net.now bid.now.path }
     requires ready { IsReadyFor (W.weights weighing.now) net.now bid.now table.now way.from }
     requires way { IsWay net.now bid.now.path way.from way }
-    ensures best { IsBestRest (W.weights weighing.now) net.now bid.now way.from (IsLegBy way.from way.track Action.Finish) result }
+    ensures best { IsBestRest (W.weights weighing.now) net.now bid.now way.from
+        (IsLegBy way.from way.track Action.Finish) result }
     ensures asks { AreAsked (W.weights weighing.now) asks.new }
 {
     if !may_finish(bid, way) {
@@ -265,7 +274,8 @@ fn way_rest<W: Weighing>(
     requires weights { AreWeightsFor (W.weights weighing.now) net.now bid.now.path }
     requires ready { IsReadyFor (W.weights weighing.now) net.now bid.now table.now way.from }
     requires way { IsWay net.now bid.now.path way.from way }
-    ensures best { IsBestRest (W.weights weighing.now) net.now bid.now way.from (IsOn way.track) result }
+    ensures best { IsBestRest (W.weights weighing.now) net.now bid.now way.from (IsOn way.track)
+        result }
     ensures asks { AreAsked (W.weights weighing.now) asks.new }
 {
     let pass = pass_rest(net, bid, weighing, asks, table, way);

@@ -1,4 +1,5 @@
-//! What starts and legs add to the worth of a walk, apart from the costs of legs, in thousandths of a cent.
+//! What starts and legs add to the worth of a walk, apart from the costs of legs, in thousandths of
+//! a cent.
 ghost use Rattle.std.specs.Prelude.{◌≡◌, ◌-◌, ◌<◌, ◌^◌, pos, ◌+ℤ◌, ◌-ℤ◌, ◌*ℤ◌};
 ghost use Rattle.optra_bid.specs.Specs.{IsRate, IsBetween};
 ghost use Rattle.optra_walk.specs.Values.{price_off};

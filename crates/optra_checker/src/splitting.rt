@@ -29,7 +29,8 @@ pub(crate) fn splits_hold<F: RowFamily>(
 ) -> Result<bool, NoMemory>
     requires whole { IsTree tree.now }
     requires items { All (IsFormedItem F.Row.cmp inst.net.now (length inst.bids.now)) tree.now }
-    ensures { IfOk result (λ hold. IsTrue hold ↔ All (λ p. SplitsUndecided p.0 p.1) (places tree.now)) }
+    ensures { IfOk result (λ hold. IsTrue hold
+        ↔ All (λ p. SplitsUndecided p.0 p.1) (places tree.now)) }
 {
     let mut node = OpenNode::new(alloc, inst, rows)?;
     'items: for item in tree {

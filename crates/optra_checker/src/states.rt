@@ -16,8 +16,8 @@ pub(crate) struct State {
     pub done: u16,
 }
 
-/// How the states of a bid are numbered: minute by minute, in each by station, then by stops done, then by mode.
-/// A state has one of `slots` for its stops and its mode.
+/// How the states of a bid are numbered: minute by minute, in each by station, then by stops done,
+/// then by mode. A state has one of `slots` for its stops and its mode.
 #[derive(Clone, Copy, Debug, PartialEq, Eq)]
 pub(crate) struct Layout {
     pub first: Minute,
@@ -26,7 +26,8 @@ pub(crate) struct Layout {
     pub stations: u16,
 }
 
-/// The states that a walk of the bid may come through: they depart before the end of the arrival window.
+/// The states that a walk of the bid may come through: they depart before the end of the arrival
+/// window.
 pub(crate) fn make_layout(net: &Network, bid: &Bid) -> Layout
     requires { IsPathOn net.now bid.now.path }
     ensures { IsSetting net.now bid.now.path result }

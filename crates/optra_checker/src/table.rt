@@ -1,10 +1,11 @@
-//! The best walk of a bid, by a table over the minutes that is filled in one pass from late to early.
+//! The best walk of a bid, by a table over the minutes that is filled in one pass from late to
+//! early.
 ghost use Rattle.std.specs.Prelude.{◌≡◌, ◌+◌, ◌-◌, ◌<◌, ◌≤◌, IfOk, IfSome, ◌+ℤ◌};
 ghost use Rattle.optra_bid.specs.Specs.{IsPathOn};
 ghost use Rattle.optra_network.specs.Net.{IsFromTo};
 ghost use Rattle.optra_checker.specs.Asks.{AreAsked};
-ghost use Rattle.optra_checker.specs.Places.{slot_of, spot_at};
-ghost use Rattle.optra_checker.specs.Reaches.{IsReach};
+ghost use Rattle.optra_checker.specs.Places.{IsPlaced, slot_of, place_of, spot_at};
+ghost use Rattle.optra_checker.specs.Reaches.{IsReach, IsReached};
 ghost use Rattle.optra_checker.specs.Rests.{start_state, IsBestRest, AnyLeg};
 ghost use Rattle.optra_checker.specs.Shares.{IsStartValue};
 ghost use Rattle.optra_checker.specs.Sizes.{IsWholeRest};
@@ -59,8 +60,37 @@ fn spot_rest<W: Weighing>(
     state_rest(net, bid, weighing, asks, table, state)
 }
 
-/// Fills the places of a station in a minute, behind which the table is filled; nothing where no train of the bid may be
-/// there then and still end its walk in time.
+/// Fills the place of a state, behind which the table is filled; nothing where there was no time to
+/// come to it by way of the stops that it has done.
+fn fill_place<W: Weighing>(
+    net: &Network,
+    bid: &Bid,
+    weighing: &W,
+    asks: &mut [Option<Ask>],
+    table: &mut RestTable,
+    state: State,
+)
+    requires asks { AreAsked (W.weights weighing.now) asks.old }
+    requires weights { AreWeightsFor (W.weights weighing.now) net.now bid.now.path }
+    requires placed { IsPlaced table.old.layout state }
+    requires reached { IsReached bid.now.path table.old.reach state }
+    requires filled { IsFilled (W.weights weighing.now) net.now bid.now table.old
+        (place_of table.old.layout state + 1) }
+    ensures filled { IsFilled (W.weights weighing.now) net.now bid.now table.new
+        (place_of table.old.layout state) }
+    ensures asks { AreAsked (W.weights weighing.now) asks.new }
+    ensures layout { table.new.layout ≡ table.old.layout }
+    ensures reach { table.new.reach ≡ table.old.reach }
+{
+    if !table.reach.was_time(net, bid, state) {
+        return;
+    }
+    let rest = spot_rest(net, bid, weighing, asks, table, state);
+    table.put(table.layout.place(state), rest);
+}
+
+/// Fills the places of a station in a minute, behind which the table is filled; nothing where no
+/// train of the bid may be there then and still end its walk in time.
 fn fill_spot<W: Weighing>(
     net: &Network,
     bid: &Bid,
@@ -75,8 +105,10 @@ fn fill_spot<W: Weighing>(
     requires minute { minute < end_of table.old }
     requires early { table.old.layout.first ≤ minute }
     requires station { station.0 < table.old.layout.stations }
-    requires filled { IsFilled (W.weights weighing.now) net.now bid.now table.old (spot_at table.old.layout (minute - table.old.layout.first) (station.0 + 1)) }
-    ensures filled { IsFilled (W.weights weighing.now) net.now bid.now table.new (spot_at table.old.layout (minute - table.old.layout.first) station.0) }
+    requires filled { IsFilled (W.weights weighing.now) net.now bid.now table.old
+        (spot_at table.old.layout (minute - table.old.layout.first) (station.0 + 1)) }
+    ensures filled { IsFilled (W.weights weighing.now) net.now bid.now table.new
+        (spot_at table.old.layout (minute - table.old.layout.first) station.0) }
     ensures asks { AreAsked (W.weights weighing.now) asks.new }
     ensures layout { table.new.layout ≡ table.old.layout }
 {
@@ -88,8 +120,7 @@ fn fill_spot<W: Weighing>(
     'slots: while left > 0 {
         left -= 1;
         let state = state_at(minute, station, left);
-        let rest = spot_rest(net, bid, weighing, asks, table, state);
-        table.put(table.layout.place(state), rest);
+        fill_place(net, bid, weighing, asks, table, state);
     }
 }
 
@@ -106,8 +137,10 @@ fn fill_minute<W: Weighing>(
     requires weights { AreWeightsFor (W.weights weighing.now) net.now bid.now.path }
     requires minute { minute < end_of table.old }
     requires early { table.old.layout.first ≤ minute }
-    requires filled { IsFilled (W.weights weighing.now) net.now bid.now table.old (spot_at table.old.layout (minute - table.old.layout.first) table.old.layout.stations) }
-    ensures filled { IsFilled (W.weights weighing.now) net.now bid.now table.new (spot_at table.old.layout (minute - table.old.layout.first) 0) }
+    requires filled { IsFilled (W.weights weighing.now) net.now bid.now table.old
+        (spot_at table.old.layout (minute - table.old.layout.first) table.old.layout.stations) }
+    ensures filled { IsFilled (W.weights weighing.now) net.now bid.now table.new
+        (spot_at table.old.layout (minute - table.old.layout.first) 0) }
     ensures asks { AreAsked (W.weights weighing.now) asks.new }
     ensures layout { table.new.layout ≡ table.old.layout }
 {
@@ -212,11 +245,12 @@ fn best_start<W: Weighing>(
     best
 }
 
-/// The greatest worth of a walk of the bid that has a start and legs that it may have: in thousandths of a cent, its value
-/// less what its legs cost. `None` exactly where there is no such walk. The table is left filled for the bid.
+/// The greatest worth of a walk of the bid that has a start and legs that it may have: in
+/// thousandths of a cent, its value less what its legs cost. `None` exactly where there is no such
+/// walk. The table is left filled for the bid.
 ///
-/// The bid's stations and its type must be positions of the network, and the weighing be one for legs of the bid's type on
-/// the network.
+/// The bid's stations and its type must be positions of the network, and the weighing be one for
+/// legs of the bid's type on the network.
 pub(crate) fn search<W: Weighing>(
     alloc: Global,
     net: &Network,

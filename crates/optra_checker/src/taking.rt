@@ -13,7 +13,8 @@ use std::collections::BTreeMap;
 /// Takes away from the total of one row.
 fn lower<R: Copy + Ord>(totals: &mut BTreeMap<R, u128>, row: R, by: u32)
     requires { by ≤ total_of R.cmp totals.old row }
-    ensures { (q : R) → total_of R.cmp totals.new q + (if is_eq (R.cmp row q) then by else 0) ≡ total_of R.cmp totals.old q }
+    ensures { (q : R) → total_of R.cmp totals.new q + (if is_eq (R.cmp row q) then by else 0)
+        ≡ total_of R.cmp totals.old q }
 {
     if let Some(total) = totals.get_mut(&row) {
         *total -= u128::from(by);
@@ -29,8 +30,10 @@ fn take_leg<F: RowFamily>(
     leg: Leg,
 )
     requires usable { IsUsable net.now kind leg }
-    requires enough { (q : F.Row) → (F.rows_of rows.now net.now).uses kind leg q ≤ total_of F.Row.cmp totals.old q }
-    ensures { (q : F.Row) → total_of F.Row.cmp totals.new q + (F.rows_of rows.now net.now).uses kind leg q ≡ total_of F.Row.cmp totals.old q }
+    requires enough { (q : F.Row)
+        → (F.rows_of rows.now net.now).uses kind leg q ≤ total_of F.Row.cmp totals.old q }
+    ensures { (q : F.Row) → total_of F.Row.cmp totals.new q + (F.rows_of rows.now net.now).uses
+        kind leg q ≡ total_of F.Row.cmp totals.old q }
 {
     let _ = net.track_count();
     for k in 0..8192 {
@@ -49,8 +52,12 @@ pub(crate) fn take_decision<F: RowFamily>(
     decision: Decision,
 )
     requires decision { IsFormedDecision inst.net.now (length inst.bids.now) decision }
-    requires enough { (q : F.Row) → yes_uses (F.rows_of rows.now inst.net.now) inst.bids.now q decision ≤ total_of F.Row.cmp totals.old q }
-    ensures { (q : F.Row) → total_of F.Row.cmp totals.new q + yes_uses (F.rows_of rows.now inst.entry.net.now) inst.entry.bids.now q decision ≡ total_of F.Row.cmp totals.old q }
+    requires enough { (q : F.Row)
+        → yes_uses (F.rows_of rows.now inst.net.now) inst.bids.now q decision
+        ≤ total_of F.Row.cmp totals.old q }
+    ensures { (q : F.Row) → total_of F.Row.cmp totals.new q + yes_uses
+        (F.rows_of rows.now inst.entry.net.now) inst.entry.bids.now q decision
+        ≡ total_of F.Row.cmp totals.old q }
 {
     let kind = kind_at(inst, decision.bid);
     if decision.yes && may_use(inst.net, decision.leg.track, kind) {

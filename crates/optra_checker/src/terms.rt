@@ -9,7 +9,7 @@ ghost use Rattle.optra_walk.specs.Families.{IsUsable};
 ghost use Rattle.optra_walk.specs.Values.{first_departure};
 ghost use Rattle.optra_node.specs.Nodes.{kind_at, yes_load};
 ghost use Rattle.optra_checker.specs.Frees.{IsFree, AreFree, IsFreeLeg};
-ghost use Rattle.optra_checker.specs.Leaves.{IsBestOffer, AreTerms, IsSumSize, leaf_weights, plus_of, dual_by};
+ghost use Rattle.optra_checker.specs.Leaves.{IsBestOffer, AreTerms, IsSumSize, plus_of, dual_by, weights_at};
 ghost use Rattle.optra_checker.specs.Tests.{may_start_at};
 ghost use Rattle.optra_checker.specs.Watches.{AreWatched, AreWatches, IsLetBe};
 ghost use Rattle.optra_checker.specs.Weights.{IsBestWorth, IsWorthSize};
@@ -53,7 +53,8 @@ fn leg_stays_free<F: RowFamily>(
     requires usable { IsUsable node.now.net (kind_at node.now.bids bid) leg }
     requires ascending { AreAscending F.Row.cmp prices.now }
     requires proper { ArePrices (F.rows_of node.now.family node.now.net) prices.now }
-    ensures { IsTrue result ↔ IsFreeLeg (leaf_weights node.now.net (F.rows_of node.now.family node.now.net) (F.rows_used node.now.family node.now.net) node.now.bids node.now.node bid prices.now (kind_at node.now.bids bid)) leg }
+    ensures { IsTrue result ↔ IsFreeLeg
+        (weights_at F.rows_of F.rows_used node.now bid prices.now) leg }
 {
     if !node.usable_leg_ok(bid, leg) {
         return false;
@@ -72,7 +73,8 @@ fn legs_stay_free<F: RowFamily>(
     requires usable { All (IsUsable node.now.net (kind_at node.now.bids bid)) legs.now }
     requires ascending { AreAscending F.Row.cmp prices.now }
     requires proper { ArePrices (F.rows_of node.now.family node.now.net) prices.now }
-    ensures { IsTrue result ↔ All (IsFreeLeg (leaf_weights node.now.net (F.rows_of node.now.family node.now.net) (F.rows_used node.now.family node.now.net) node.now.bids node.now.node bid prices.now (kind_at node.now.bids bid))) legs.now }
+    ensures { IsTrue result ↔ All
+        (IsFreeLeg (weights_at F.rows_of F.rows_used node.now bid prices.now)) legs.now }
 {
     'legs: for leg in legs {
         if !leg_stays_free(node, prices, bid, *leg) {
@@ -92,7 +94,8 @@ fn legs_of(free: &Free) -> &[Leg]
 /// Whether a walk of the bid may start at the first departure of the legs.
 fn start_stays_free<F: RowFamily>(node: &OpenNode<'_, F>, bid: u32, legs: &[Leg]) -> bool
     requires { bid < length node.now.bids }
-    ensures start { IsTrue result → may_start_at node.now.node bid (first_departure legs.now) ≡ true }
+    ensures start { IsTrue result
+        → may_start_at node.now.node bid (first_departure legs.now) ≡ true }
     ensures some { IsTrue result → 0 < length legs.now }
 {
     match legs.first() {
@@ -108,7 +111,8 @@ fn is_missing(best: Option<i128>) -> bool
     best.is_none()
 }
 
-/// Whether it is seen at once that the best of all walks of the bid is the best that the node allows, too.
+/// Whether it is seen at once that the best of all walks of the bid is the best that the node
+/// allows, too.
 fn stays_free<F: RowFamily>(
     node: &OpenNode<'_, F>,
     prices: &[(F::Row, i64)],
@@ -120,7 +124,9 @@ fn stays_free<F: RowFamily>(
     requires free { IsSomeAnd (slice_get node.now.bids bid) (λ b. IsFree node.now.net b free.now) }
     requires ascending { AreAscending F.Row.cmp prices.now }
     requires proper { ArePrices (F.rows_of node.now.family node.now.net) prices.now }
-    ensures { IsTrue result → (b : Asked) → slice_get node.now.bids bid ≡ Some b → IsBestWorth (leaf_weights node.now.net (F.rows_of node.now.family node.now.net) (F.rows_used node.now.family node.now.net) node.now.bids node.now.node bid prices.now (kind_at node.now.bids bid)) node.now.net b free.now.best }
+    ensures { IsTrue result → (b : Asked) → slice_get node.now.bids bid ≡ Some b
+        → IsBestWorth (weights_at F.rows_of F.rows_used node.now bid prices.now)
+        node.now.net b free.now.best }
 {
     if is_missing(free.best) {
         return true;
@@ -133,8 +139,9 @@ fn stays_free<F: RowFamily>(
     legs_stay_free(node, prices, bid, legs)
 }
 
-/// What the best walk of the bid is worth that the node allows, in thousandths of a cent; `None` exactly where there is
-/// none. Where the best of all walks is at hand and the node allows it, nothing is searched.
+/// What the best walk of the bid is worth that the node allows, in thousandths of a cent; `None`
+/// exactly where there is none. Where the best of all walks is at hand and the node allows it,
+/// nothing is searched.
 fn best_at<F: RowFamily>(
     alloc: Global,
     node: &OpenNode<'_, F>,
@@ -145,10 +152,14 @@ fn best_at<F: RowFamily>(
 ) -> Result<Option<i128>, NoMemory>
     requires instance { IsInstance node.now.net node.now.bids }
     requires bid { bid < length node.now.bids }
-    requires free { IfSome free (λ f. IsSomeAnd (slice_get node.now.bids bid) (λ b. IsFree node.now.net b f.now)) }
+    requires free { IfSome free
+        (λ f. IsSomeAnd (slice_get node.now.bids bid) (λ b. IsFree node.now.net b f.now)) }
     requires ascending { AreAscending F.Row.cmp prices.now }
     requires proper { ArePrices (F.rows_of node.now.family node.now.net) prices.now }
-    ensures best { IfOk result (λ best. (b : Asked) → slice_get node.now.bids bid ≡ Some b → IsBestWorth (leaf_weights node.now.net (F.rows_of node.now.family node.now.net) (F.rows_used node.now.family node.now.net) node.now.bids node.now.node bid prices.now (kind_at node.now.bids bid)) node.now.net b best) }
+    ensures best { IfOk result
+        (λ best. (b : Asked) → slice_get node.now.bids bid ≡ Some b
+        → IsBestWorth (weights_at F.rows_of F.rows_used node.now bid prices.now)
+        node.now.net b best) }
     ensures size { IfOk result (λ best. IfSome best IsWorthSize) }
 {
     if let Some(free) = free {
@@ -157,12 +168,19 @@ fn best_at<F: RowFamily>(
         }
     }
     let inst = node.inst();
-    let weights = LeafWeights { node, bid, prices };
+    let loaded = node.loaded(alloc)?;
+    let weights = LeafWeights {
+        node,
+        bid,
+        prices,
+        loaded: &loaded,
+    };
     search(alloc, inst.net, &inst.bids[bid as usize], &weights, table)
 }
 
-/// The greatest offer to a bid at the node and prices, in thousandths of a cent: the greatest reduced value of its allowed
-/// walks, and zero where it has no yes leg. `None` exactly where it has a yes leg and no allowed walk.
+/// The greatest offer to a bid at the node and prices, in thousandths of a cent: the greatest
+/// reduced value of its allowed walks, and zero where it has no yes leg. `None` exactly where it
+/// has a yes leg and no allowed walk.
 pub(crate) fn best_offer<F: RowFamily>(
     alloc: Global,
     node: &OpenNode<'_, F>,
@@ -173,10 +191,14 @@ pub(crate) fn best_offer<F: RowFamily>(
 ) -> Result<Option<i128>, NoMemory>
     requires instance { IsInstance node.now.net node.now.bids }
     requires bid { bid < length node.now.bids }
-    requires free { IfSome free (λ f. IsSomeAnd (slice_get node.now.bids bid) (λ b. IsFree node.now.net b f.now)) }
+    requires free { IfSome free
+        (λ f. IsSomeAnd (slice_get node.now.bids bid) (λ b. IsFree node.now.net b f.now)) }
     requires ascending { AreAscending F.Row.cmp prices.now }
     requires proper { ArePrices (F.rows_of node.now.family node.now.net) prices.now }
-    ensures best { IfOk result (λ best. (b : Asked) → slice_get node.now.bids bid ≡ Some b → IsBestOffer node.now.net (F.rows_of node.now.family node.now.net) node.now.bids node.now.node prices.now bid b best) }
+    ensures best { IfOk result
+        (λ best. (b : Asked) → slice_get node.now.bids bid ≡ Some b
+        → IsBestOffer node.now.net (F.rows_of node.now.family node.now.net) node.now.bids
+        node.now.node prices.now bid b best) }
     ensures size { IfOk result (λ best. IfSome best IsWorthSize) }
 {
     let inst = node.inst();
@@ -212,7 +234,8 @@ fn is_let_be<F: RowFamily>(
     watched: &Option<Vec<F::Row>>,
 ) -> bool
     requires { bid < length node.now.bids }
-    ensures { IsTrue result → IsLetBe (F.rows_of node.now.family node.now.net) node.now.bids node.now.node prices.now bid (option_map (λ w. w.items) watched.now) free.now.legs.items }
+    ensures { IsTrue result → IsLetBe (F.rows_of node.now.family node.now.net) node.now.bids
+        node.now.node prices.now bid (option_map (λ w. w.items) watched.now) free.now.legs.items }
 {
     let Some(watched) = watched else {
         return false;
@@ -229,8 +252,8 @@ fn is_let_be<F: RowFamily>(
     node.are_unused(watched)
 }
 
-/// As [`best_offer`]: where nothing of the node bears on the best of all walks of the bid, it is the best that the node
-/// allows.
+/// As [`best_offer`]: where nothing of the node bears on the best of all walks of the bid, it is
+/// the best that the node allows.
 fn offer_at<F: RowFamily>(
     alloc: Global,
     node: &OpenNode<'_, F>,
@@ -243,10 +266,16 @@ fn offer_at<F: RowFamily>(
     requires instance { IsInstance node.now.net node.now.bids }
     requires bid { bid < length node.now.bids }
     requires free { IsSomeAnd (slice_get node.now.bids bid) (λ b. IsFree node.now.net b free.now) }
-    requires watched { AreWatched (F.rows_of node.now.family node.now.net) (kind_at node.now.bids bid) (yes_load (F.rows_of node.now.family node.now.net) node.now.bids node.now.node) (option_map (λ w. w.items) watched.now) free.now.legs.items }
+    requires watched { AreWatched (F.rows_of node.now.family node.now.net)
+        (kind_at node.now.bids bid)
+        (yes_load (F.rows_of node.now.family node.now.net) node.now.bids node.now.node)
+        (option_map (λ w. w.items) watched.now) free.now.legs.items }
     requires ascending { AreAscending F.Row.cmp prices.now }
     requires proper { ArePrices (F.rows_of node.now.family node.now.net) prices.now }
-    ensures best { IfOk result (λ best. (b : Asked) → slice_get node.now.bids bid ≡ Some b → IsBestOffer node.now.net (F.rows_of node.now.family node.now.net) node.now.bids node.now.node prices.now bid b best) }
+    ensures best { IfOk result
+        (λ best. (b : Asked) → slice_get node.now.bids bid ≡ Some b
+        → IsBestOffer node.now.net (F.rows_of node.now.family node.now.net) node.now.bids
+        node.now.node prices.now bid b best) }
     ensures size { IfOk result (λ best. IfSome best IsWorthSize) }
 {
     let inst = node.inst();
@@ -280,10 +309,14 @@ fn term_sum<F: RowFamily>(
 ) -> Result<Option<i128>, NoMemory>
     requires instance { IsInstance node.now.net node.now.bids }
     requires frees { AreFree node.now.net node.now.bids frees.now }
-    requires watches { AreWatches (F.rows_of node.now.family node.now.net) node.now.bids (yes_load (F.rows_of node.now.family node.now.net) node.now.bids node.now.node) frees.now (map (option_map (λ w. w.items)) watches.now) }
+    requires watches { AreWatches (F.rows_of node.now.family node.now.net) node.now.bids
+        (yes_load (F.rows_of node.now.family node.now.net) node.now.bids node.now.node) frees.now
+        (map (option_map (λ w. w.items)) watches.now) }
     requires ascending { AreAscending F.Row.cmp prices.now }
     requires proper { ArePrices (F.rows_of node.now.family node.now.net) prices.now }
-    ensures terms { IfOk result (AreTerms node.now.net (F.rows_of node.now.family node.now.net) node.now.bids node.now.node prices.now (length node.now.bids)) }
+    ensures terms { IfOk result
+        (AreTerms node.now.net (F.rows_of node.now.family node.now.net) node.now.bids node.now.node
+        prices.now (length node.now.bids)) }
     ensures size { IfOk result (λ sum. IfSome sum (IsSumSize 1000)) }
 {
     let count = node.inst().bids.len() as u32;
@@ -326,10 +359,13 @@ pub(crate) fn leaf_bound<F: RowFamily>(
 ) -> Result<i128, NoMemory>
     requires instance { IsInstance node.now.net node.now.bids }
     requires frees { AreFree node.now.net node.now.bids frees.now }
-    requires watches { AreWatches (F.rows_of node.now.family node.now.net) node.now.bids (yes_load (F.rows_of node.now.family node.now.net) node.now.bids node.now.node) frees.now (map (option_map (λ w. w.items)) watches.now) }
+    requires watches { AreWatches (F.rows_of node.now.family node.now.net) node.now.bids
+        (yes_load (F.rows_of node.now.family node.now.net) node.now.bids node.now.node) frees.now
+        (map (option_map (λ w. w.items)) watches.now) }
     requires ascending { AreAscending F.Row.cmp prices.now }
     requires proper { ArePrices (F.rows_of node.now.family node.now.net) prices.now }
-    ensures { IfOk result (IsBoundOf node.now.net (F.rows_of node.now.family node.now.net) node.now.bids node.now.node prices.now) }
+    ensures { IfOk result (IsBoundOf node.now.net (F.rows_of node.now.family node.now.net)
+        node.now.bids node.now.node prices.now) }
 {
     let sum = term_sum(alloc, node, prices, frees, watches, table)?;
     let value = dual_by(node.capacity_price(prices), sum);

@@ -1,7 +1,7 @@
 //! A walk that a filled table leads along.
 //!
-//! The legs are a proposal: nothing is said of them here, and who uses them tests that they are a walk and what it is
-//! worth.
+//! The legs are a proposal: nothing is said of them here, and who uses them tests that they are a
+//! walk and what it is worth.
 
 use crate::rest_table::RestTable;
 use crate::shares::{end_price, start_value, wait_price};
@@ -15,7 +15,8 @@ use std::alloc::Global;
 /// A walk has fewer legs than there are minutes in the two days.
 const MOST_LEGS: u32 = 2880;
 
-/// A leg by which a walk may go on, what the rest from it on is worth, and the state behind it, where it does not finish.
+/// A leg by which a walk may go on, what the rest from it on is worth, and the state behind it,
+/// where it does not finish.
 #[derive(Clone, Copy)]
 struct Step {
     worth: i128,

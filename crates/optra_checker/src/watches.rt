@@ -1,5 +1,6 @@
-//! Which rows can bear on the best walks of bids: those of which a leg of the walk and the leg of some split both use
-//! something. A tree has few splits, so these rows are few, and at most leaves it is enough to look at them.
+//! Which rows can bear on the best walks of bids: those of which a leg of the walk and the leg of
+//! some split both use something. A tree has few splits, so these rows are few, and at most leaves
+//! it is enough to look at them.
 ghost use Rattle.std.specs.Prelude.{◌≡◌, ◌+◌, ◌<◌, ◌≤◌, ◌^◌, length, map, option_map, All, Contains, IsTrue, IfOk, OnOk};
 ghost use Rattle.optra_node.specs.Certificates.{IsFormedItem};
 ghost use Rattle.optra_node.specs.Summaries.{total_of};
@@ -24,9 +25,13 @@ fn add_split<F: RowFamily>(
 ) -> Result<(), NoMemory>
     requires item { IsFormedItem F.Row.cmp inst.net.now (length inst.bids.now) item.now }
     requires room { (q : F.Row) → total_of F.Row.cmp loads.old q < 2 ^ 100 }
-    ensures spares { OnOk result ((q : F.Row) → total_of F.Row.cmp loads.new q ≡ 0 → Spares (F.rows_of rows.now inst.entry.net.now) inst.entry.bids.now q item.now) }
-    ensures more { OnOk result ((q : F.Row) → total_of F.Row.cmp loads.old q ≤ total_of F.Row.cmp loads.new q) }
-    ensures few { OnOk result ((q : F.Row) → total_of F.Row.cmp loads.new q ≤ total_of F.Row.cmp loads.old q + 8192) }
+    ensures spares { OnOk result
+        ((q : F.Row) → total_of F.Row.cmp loads.new q ≡ 0
+        → Spares (F.rows_of rows.now inst.entry.net.now) inst.entry.bids.now q item.now) }
+    ensures more { OnOk result
+        ((q : F.Row) → total_of F.Row.cmp loads.old q ≤ total_of F.Row.cmp loads.new q) }
+    ensures few { OnOk result
+        ((q : F.Row) → total_of F.Row.cmp loads.new q ≤ total_of F.Row.cmp loads.old q + 8192) }
 {
     if let Item::Split { bid, leg } = item {
         let decision = Decision {
@@ -47,7 +52,8 @@ pub(crate) fn split_loads<F: RowFamily>(
     tree: &[Item<F::Row>],
 ) -> Result<BTreeMap<F::Row, u128>, NoMemory>
     requires { All (IsFormedItem F.Row.cmp inst.net.now (length inst.bids.now)) tree.now }
-    ensures { IfOk result (λ loads. AreSplitLoads (F.rows_of rows.now inst.entry.net.now) inst.entry.bids.now tree.now (total_of F.Row.cmp loads)) }
+    ensures { IfOk result (λ loads. AreSplitLoads (F.rows_of rows.now inst.entry.net.now)
+        inst.entry.bids.now tree.now (total_of F.Row.cmp loads)) }
 {
     let mut loads = BTreeMap::new(alloc);
     'items: for item in tree {
@@ -62,8 +68,10 @@ fn watch_row<R: Copy + Ord>(
     loads: &BTreeMap<R, u128>,
     row: R,
 ) -> Result<(), NoMemory>
-    ensures kept { OnOk result ((q : R) → Contains watched.old.items q → Contains watched.new.items q) }
-    ensures watched { OnOk result (0 < total_of R.cmp loads.now row → Contains watched.new.items row) }
+    ensures kept { OnOk result
+        ((q : R) → Contains watched.old.items q → Contains watched.new.items q) }
+    ensures watched { OnOk result
+        (0 < total_of R.cmp loads.now row → Contains watched.new.items row) }
 {
     if total(loads, row) > 0 {
         watched.push(row)?;
@@ -71,8 +79,8 @@ fn watch_row<R: Copy + Ord>(
     Ok(())
 }
 
-/// Puts the rows that a leg uses and that have a load to those that are watched. Whether the leg alone uses no row above its
-/// capacity.
+/// Puts the rows that a leg uses and that have a load to those that are watched. Whether the leg
+/// alone uses no row above its capacity.
 fn watch_leg<F: RowFamily>(
     watched: &mut Vec<F::Row>,
     net: &Network,
@@ -82,8 +90,11 @@ fn watch_leg<F: RowFamily>(
     leg: Leg,
 ) -> Result<bool, NoMemory>
     requires { IsUsable net.now kind leg }
-    ensures kept { IfOk result (λ _. (q : F.Row) → Contains watched.old.items q → Contains watched.new.items q) }
-    ensures watched { IfOk result (λ fits. IsTrue fits → IsWatched (F.rows_of rows.now net.now) kind (total_of F.Row.cmp loads.now) watched.new.items leg) }
+    ensures kept { IfOk result
+        (λ _. (q : F.Row) → Contains watched.old.items q → Contains watched.new.items q) }
+    ensures watched { IfOk result
+        (λ fits. IsTrue fits → IsWatched (F.rows_of rows.now net.now) kind
+        (total_of F.Row.cmp loads.now) watched.new.items leg) }
 {
     let _ = net.track_count();
     for k in 0..8192 {
@@ -98,7 +109,8 @@ fn watch_leg<F: RowFamily>(
     Ok(true)
 }
 
-/// The rows that the legs use and that have a load; none where a leg alone uses a row above its capacity.
+/// The rows that the legs use and that have a load; none where a leg alone uses a row above its
+/// capacity.
 fn watch_legs<F: RowFamily>(
     alloc: Global,
     net: &Network,
@@ -108,7 +120,8 @@ fn watch_legs<F: RowFamily>(
     legs: &[Leg],
 ) -> Result<Option<Vec<F::Row>>, NoMemory>
     requires { All (IsUsable net.now kind) legs.now }
-    ensures { IfOk result (λ watched. AreWatched (F.rows_of rows.now net.now) kind (total_of F.Row.cmp loads.now) (option_map (λ w. w.items) watched) legs.now) }
+    ensures { IfOk result (λ watched. AreWatched (F.rows_of rows.now net.now) kind
+        (total_of F.Row.cmp loads.now) (option_map (λ w. w.items) watched) legs.now) }
 {
     let mut watched = Vec::new(alloc);
     'legs: for leg in legs {
@@ -133,8 +146,8 @@ fn kind_of(bid: &Bid) -> TypeId
     bid.path.kind
 }
 
-/// For the best walk of each bid, the rows that its legs use and that have a load; none where a leg alone uses a row above
-/// its capacity.
+/// For the best walk of each bid, the rows that its legs use and that have a load; none where a leg
+/// alone uses a row above its capacity.
 pub(crate) fn find_watches<F: RowFamily>(
     alloc: Global,
     inst: Instance<'_>,
@@ -143,7 +156,9 @@ pub(crate) fn find_watches<F: RowFamily>(
     frees: &[Free],
 ) -> Result<Vec<Option<Vec<F::Row>>>, NoMemory>
     requires { AreFree inst.net.now inst.bids.now frees.now }
-    ensures { IfOk result (λ watches. AreWatches (F.rows_of rows.now inst.entry.net.now) inst.entry.bids.now (total_of F.Row.cmp loads.now) frees.now (map (option_map (λ w. w.items)) watches.items)) }
+    ensures { IfOk result (λ watches. AreWatches (F.rows_of rows.now inst.entry.net.now)
+        inst.entry.bids.now (total_of F.Row.cmp loads.now) frees.now
+        (map (option_map (λ w. w.items)) watches.items)) }
 {
     let mut watches = Vec::new(alloc);
     let _ = inst.net.track_count();

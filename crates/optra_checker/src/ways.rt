@@ -9,7 +9,8 @@ use optra_bid::Bid;
 use optra_network::{Minute, Network, StationId, TrackId, TypeId};
 use optra_walk::{Action, Leg};
 
-/// A track by which the train may leave a state, and when it arrives at its head, passing or halting there.
+/// A track by which the train may leave a state, and when it arrives at its head, passing or
+/// halting there.
 #[derive(Clone, Copy, Debug, PartialEq, Eq)]
 pub(crate) struct Way {
     pub from: State,
@@ -44,7 +45,8 @@ pub(crate) fn find_way(net: &Network, bid: &Bid, state: State, track: TrackId) -
     requires proper { IsProper net.now }
     requires tail { tail_of net.now (leg_by state track Action.Pass) ≡ Some state.station }
     requires minute { state.minute ≤ 2879 }
-    ensures { MatchOption result (¬ MayUse net.now track bid.now.path.kind) (λ way. (way.track ≡ track) × (way.from ≡ state) × IsWay net.now bid.now.path state way) }
+    ensures { MatchOption result (¬ MayUse net.now track bid.now.path.kind)
+        (λ way. (way.track ≡ track) × (way.from ≡ state) × IsWay net.now bid.now.path state way) }
 {
     let kind = kind_of(bid);
     let pass = net.run(track, kind, state.halted, false)?;

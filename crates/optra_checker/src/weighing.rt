@@ -18,15 +18,16 @@ pub(crate) trait Weighing {
         requires { IsUsable (weights self.now).net (weights self.now).kind leg }
         ensures { TellsCost (weights self.now) leg result };
 
-    /// Whether it sees at once that a walk may have every leg, at no cost. It is never true of others.
+    /// Whether it sees at once that a walk may have every leg, at no cost. It is never true of
+    /// others.
     fn is_free(&self) -> bool
         ensures { result ≡ true → AreAllFree (weights self.now) }
     {
         false
     }
 
-    /// Whether it sees at once that both legs cost the same, or that a walk may have neither. It is never true of others; a
-    /// weighing that doesn't see it says no, and is then asked of each leg.
+    /// Whether it sees at once that both legs cost the same, or that a walk may have neither. It is
+    /// never true of others; a weighing that doesn't see it says no, and is then asked of each leg.
     fn alike(&self, first: Leg, second: Leg) -> bool
         requires first { IsUsable (weights self.now).net (weights self.now).kind first }
         requires second { IsUsable (weights self.now).net (weights self.now).kind second }

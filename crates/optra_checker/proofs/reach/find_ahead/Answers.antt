@@ -1,4 +1,4 @@
-use Rattle.std.proofs.Common.{◌≡◌, ◌+◌, true, ◌<◌, ◌≤◌, ◌∙◌, ◌++◌, ◌∷◌, [], ℕ, map, length, slice_index, slice_index_or, List, Vec, Global, sym, ap, subst, arith}
+use Rattle.std.proofs.Common.{◌≡◌, ◌+◌, true, ◌∙◌, ◌++◌, ◌∷◌, [], ℕ, map, length, slice_index, slice_index_or, List, Vec, Global, sym, ap, subst, arith}
 use Rattle.std.proofs.lemmas.List.{map-append}
 use Rattle.optra_bid.specs.Specs.{Path}
 use Rattle.optra_checker.specs.Reaches.{AreLeast, AreAhead}

@@ -1,5 +1,5 @@
 -- The way by the track, where the train may use it.
-use Rattle.std.proofs.Common.{◌≡◌, ◌<◌, subst, sym, arith, Option, None, ℤ}
+use Rattle.std.proofs.Common.{subst, sym, arith, Option, None, ℤ}
 use Rattle.optra_network.specs.declared.TrackId.{TrackId}
 use Rattle.optra_checker.specs.declared.states.State.{State}
 use Rattle.optra_checker.specs.Rests.{IsBestRest}

@@ -1,11 +1,11 @@
 -- One more place of the spot.
-use Rattle.std.proofs.Common.{arith, ◌≡◌, ℕ, ◌+◌, ◌-◌, ◌<◌, ◌≤◌, sym, ap, ◌∙◌, subst, slice_set}
+use Rattle.std.proofs.Common.{arith, ◌≡◌, ℕ, ◌+◌, ◌-◌, ◌<◌, ◌≤◌, sym, ap, ◌∙◌, subst}
 use Rattle.optra_checker.specs.declared.reach.Reach.{Reach}
 use Rattle.optra_checker.specs.declared.states.Layout.{Layout}
 use Rattle.optra_checker.specs.Places.{spot_at}
 use Rattle.optra_checker.specs.Reaches.{IsReached}
 use Rattle.optra_checker.specs.Tables.{IsFilled, end_of}
-use Rattle.optra_checker.proofs.FillLemmas.{filled_skip, filled_ready, filled_more, same_spot, spot_placed, spot_place, spot_next}
+use Rattle.optra_checker.proofs.FillLemmas.{filled_skip, same_spot, spot_placed, spot_place, spot_next}
 use Rattle.optra_checker.proofs.table.fill_spot.Goals as goal
 
 pub returns-then-not-has-clause-filled : goal.returns-then-not-has-clause-filled
@@ -20,54 +20,53 @@ returns-then-not-has-clause-filled g c =
     let told = c.has.ensures.1 same in cc)
     c.requires.filled
 
-pub spot_rest-rest-requires-clause-ready : goal.spot_rest-rest-requires-clause-ready
-spot_rest-rest-requires-clause-ready g c =
-    let w = g.W.Weighing.weights c.args.weighing.now in
+pub fill_place-requires-clause-placed : goal.fill_place-requires-clause-placed
+fill_place-requires-clause-placed g c =
     let table = c.slots.table in
-    let state = c.state_at-state.result in
-    let has = c.has.ensures.0 c.if-not-has.false in
-    let some : 0 < c.slots.left = omega (arith, c.slots-test.true) in
     let lay = c.slots.invariant.layout in
     let first = ap (λ (l : Layout). l.first) lay in
     let minutes = ap (λ (l : Layout). l.minutes) lay in
     let stations = ap (λ (l : Layout). l.stations) lay in
+    let some : 0 < c.slots.left = omega (arith, c.slots-test.true) in
     let from : table.layout.first ≤ c.args.minute = let e = c.requires.early in omega arith in
     let to : c.args.minute < end_of table = let e = c.requires.minute in omega arith in
     let within : c.args.station.0 < table.layout.stations = let e = c.requires.station in omega arith in
     let is = c.state_at-state.ensures in
-    let placed = spot_placed table state c.args.minute c.args.station c.slots.left is.minute is.station is.slot some c.slots.invariant.few from to within in
-    let next = spot_next table state c.args.minute c.args.station c.slots.left is.minute is.station is.slot some in
-    let filled = subst (λ (n : ℕ). IsFilled w c.args.net.now c.args.bid.now table n) (sym next) c.slots.invariant.filled in
+    spot_placed table c.state_at-state.result c.args.minute c.args.station c.slots.left is.minute is.station is.slot some c.slots.invariant.few from to within
+
+pub fill_place-requires-clause-reached : goal.fill_place-requires-clause-reached
+fill_place-requires-clause-reached g c =
+    let state = c.state_at-state.result in
+    let has = c.has.ensures.0 c.if-not-has.false in
+    let is = c.state_at-state.ensures in
     let reached = (same_spot c.args.bid.now.path c.args.table.now.reach c.state_at-at.result state (c.state_at-at.ensures.minute ∙ sym is.minute) (ap (λ x. x.0) (c.state_at-at.ensures.station ∙ sym is.station)) has.0 has.1).0 in
-    filled_ready w c.args.net.now c.args.bid.now table state placed filled (subst (λ (r : Reach). IsReached c.args.bid.now.path r state) (sym c.slots.invariant.reach) reached)
+    subst (λ (r : Reach). IsReached c.args.bid.now.path r state) (sym c.slots.invariant.reach) reached
+
+pub fill_place-requires-clause-filled : goal.fill_place-requires-clause-filled
+fill_place-requires-clause-filled g c =
+    let w = g.W.Weighing.weights c.args.weighing.now in
+    let table = c.slots.table in
+    let some : 0 < c.slots.left = omega (arith, c.slots-test.true) in
+    let is = c.state_at-state.ensures in
+    let next = spot_next table c.state_at-state.result c.args.minute c.args.station c.slots.left is.minute is.station is.slot some in
+    subst (λ (n : ℕ). IsFilled w c.args.net.now c.args.bid.now table n) (sym next) c.slots.invariant.filled
 
 pub slots-preserved : goal.slots-preserved
 slots-preserved g c =
     let w = g.W.Weighing.weights c.args.weighing.now in
     let table = c.slots.table in
-    let after = c.put.new.self in
-    let state = c.state_at-state.result in
+    let after = c.fill_place.new.table in
     let some : 0 < c.slots.left = omega (arith, c.slots-test.true) in
-    let lay = c.slots.invariant.layout in
-    let first = ap (λ (l : Layout). l.first) lay in
-    let minutes = ap (λ (l : Layout). l.minutes) lay in
-    let stations = ap (λ (l : Layout). l.stations) lay in
-    let from : table.layout.first ≤ c.args.minute = let e = c.requires.early in omega arith in
-    let to : c.args.minute < end_of table = let e = c.requires.minute in omega arith in
-    let within : c.args.station.0 < table.layout.stations = let e = c.requires.station in omega arith in
     let is = c.state_at-state.ensures in
-    let placed = spot_placed table state c.args.minute c.args.station c.slots.left is.minute is.station is.slot some c.slots.invariant.few from to within in
-    let next = spot_next table state c.args.minute c.args.station c.slots.left is.minute is.station is.slot some in
-    let place = spot_place table state c.args.minute c.args.station c.slots.left is.minute is.station is.slot some in
-    let filled = subst (λ (n : ℕ). IsFilled w c.args.net.now c.args.bid.now table n) (sym next) c.slots.invariant.filled in
-    let rests = c.put.ensures.rests ∙ ap (λ (n : ℕ). slice_set table.rests.items n c.spot_rest-rest.result) c.place.ensures.value in
-    let more = filled_more w c.args.net.now c.args.bid.now table after state c.spot_rest-rest.result placed filled c.spot_rest-rest.ensures.best rests c.put.ensures.layout c.put.ensures.reach in
+    let made = c.fill_place.ensures in
+    let place = spot_place table c.state_at-state.result c.args.minute c.args.station c.slots.left is.minute is.station is.slot some in
     record {
-      filled = subst (λ (n : ℕ). IsFilled w c.args.net.now c.args.bid.now after n) (place ∙ ap (λ (l : Layout). spot_at l (c.args.minute - l.first) c.args.station.0 + (c.slots.left - 1)) (sym c.put.ensures.layout)) more;
-      asks = c.spot_rest-rest.ensures.asks;
-      few = let e = ap (λ (l : Layout). l.slots) c.put.ensures.layout in let f = c.slots.invariant.few in omega arith;
-      layout = c.put.ensures.layout ∙ c.slots.invariant.layout;
-      reach = c.put.ensures.reach ∙ c.slots.invariant.reach;
+      filled = subst (λ (n : ℕ). IsFilled w c.args.net.now c.args.bid.now after n)
+          (place ∙ ap (λ (l : Layout). spot_at l (c.args.minute - l.first) c.args.station.0 + (c.slots.left - 1)) (sym made.layout)) made.filled;
+      asks = made.asks;
+      few = let e = ap (λ (l : Layout). l.slots) made.layout in let f = c.slots.invariant.few in omega arith;
+      layout = made.layout ∙ c.slots.invariant.layout;
+      reach = made.reach ∙ c.slots.invariant.reach;
     }
 
 pub returns-clause-filled : goal.returns-clause-filled

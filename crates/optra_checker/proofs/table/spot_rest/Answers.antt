@@ -1,5 +1,4 @@
-use Rattle.std.proofs.Common.{◌≤◌, ◌*◌, ◌+◌, length, arith}
-use Rattle.optra_checker.specs.Places.{mode_of}
+use Rattle.std.proofs.Common.{arith}
 use Rattle.optra_checker.proofs.AtLemmas.{not_both}
 use Rattle.optra_checker.proofs.FillLemmas.{ahead_rest}
 use Rattle.optra_checker.proofs.table.spot_rest.Goals as goal

@@ -1,4 +1,4 @@
-use Rattle.std.proofs.Common.{◌≡◌, ◌<◌, ◌∙◌, List, Option, Some, Vec, Global, length, sym, subst}
+use Rattle.std.proofs.Common.{◌≡◌, ◌<◌, List, Option, Vec, Global, length, sym, subst}
 use Rattle.std.specs.Prelude.{All, IsSomeAnd, option_map}
 use Rattle.optra_walk.specs.declared.Leg.{Leg}
 use Rattle.optra_node.specs.Nodes.{yes_load}

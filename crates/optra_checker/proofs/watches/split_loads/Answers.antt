@@ -1,8 +1,7 @@
-use Rattle.std.proofs.Common.{◌≡◌, ◌+◌, List, take, subst, arith}
+use Rattle.std.proofs.Common.{List, subst, arith}
 use Rattle.std.specs.Prelude.{All}
 use Rattle.std.proofs.lemmas.List.{take_all}
 use Rattle.optra_node.specs.declared.Item.{Item}
-use Rattle.optra_node.specs.Summaries.{total_of}
 use Rattle.optra_checker.specs.Watches.{Spares}
 use Rattle.optra_checker.proofs.WatchLemmas.{spares_more}
 use Rattle.optra_checker.proofs.watches.split_loads.Goals as goal

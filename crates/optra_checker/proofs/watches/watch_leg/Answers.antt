@@ -1,6 +1,4 @@
-use Rattle.std.proofs.Common.{◌≡◌, ℕ, ◌+◌, ◌<◌, ◌≤◌, ◌∙◌, Option, Some, IfSome, slice_get, subst, sym, inl, inr, ap, arith}
-use Rattle.std.specs.Prelude.{Contains}
-use Rattle.std.proofs.lemmas.Bool.{cases_lt}
+use Rattle.std.proofs.Common.{◌∙◌, sym, arith}
 use Rattle.optra_node.specs.Summaries.{total_of}
 use Rattle.optra_checker.proofs.WatchLemmas.{watched_all, seen_more}
 use Rattle.optra_checker.proofs.watches.watch_leg.Goals as goal

@@ -16,5 +16,6 @@ invariant_of-result g c =
     let later = map (λ (v : Vec Decision Global). v.items) c.add_own.new.lists.items in
     let formed = subst (λ (v : Summed g.row.F.Denot). IsFormedDecision v.net (length v.bids) d) (sym c.self.view_is) c.requires.formed in
     let fresh = subst (λ (v : Summed g.row.F.Denot). IsUndecided v.node d.bid d.leg) (sym c.self.view_is) c.requires.undecided in
-    open_push g.F.Row.Ord.cmp net (g.F.RowFamily.rows_of inside.rows.now net) bids d node c.push.new.self.items inside.totals c.add_decision.new.totals lists later c.in_ok-push.ensures.items
+    open_push g.F.Row.Ord.cmp net (g.F.RowFamily.rows_of inside.rows.now net) bids d node c.push.new.self.items inside.totals c.add_decision.new.totals lists later inside.index c.put.new.self c.in_ok-push.ensures.items
     c.self.invariant formed fresh c.in_ok-add_decision.ensures.added c.in_ok-add_decision.ensures.few (c.in_ok-add_own.ensures (length bids) node c.self.invariant.by_bid)
+    (c.in_ok-put.ensures (length bids) node c.self.invariant.indexed)

@@ -1,5 +1,11 @@
-use Rattle.optra_checker.proofs.OpenLemmas.{undecided_own}
+use Rattle.std.proofs.Common.{◌↔◌, length, subst}
+use Rattle.std.specs.Prelude.{IsTrue}
+use Rattle.optra_node.specs.Nodes.{IsUndecided}
+use Rattle.optra_node.specs.Summaries.{Summed}
 use Rattle.optra_checker.proofs.open_node.OpenNode.is_undecided.Goals as goal
 
 pub returns : goal.returns
-returns g c = undecided_own c.args.bid c.own.result.now c.args.self.now.node c.own.ensures c.is_undecided.result c.args.leg c.is_undecided.ensures
+returns g c =
+    let inside = c.self.inside in
+    subst (λ (v : Summed g.row.F.Denot). IsTrue c.is_undecided.result ↔ IsUndecided v.node c.args.bid c.args.leg) c.self.view_is
+    (c.is_undecided.ensures (length inside.inst.bids.now) inside.decisions.items c.self.invariant.indexed)

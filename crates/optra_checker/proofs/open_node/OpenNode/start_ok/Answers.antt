@@ -1,5 +1,13 @@
-use Rattle.optra_node.proofs.SummaryLemmas.{start_own}
+use Rattle.std.proofs.Common.{sym, subst}
+use Rattle.optra_node.specs.Spans.{IsStartOk}
+use Rattle.optra_checker.proofs.IndexLemmas.{start_in}
 use Rattle.optra_checker.proofs.open_node.OpenNode.start_ok.Goals as goal
 
 pub returns : goal.returns
-returns g c = start_own c.args.bid c.own.result.now c.args.self.now.node c.own.ensures c.start_ok.result c.args.minute c.start_ok.ensures
+returns g c =
+    let bid = c.args.bid in
+    let minute = c.args.minute in
+    let both = start_in bid minute c.args.self.now.node in (
+      λ t. both.0 (subst (λ o. IsStartOk o bid minute) c.yes.ensures (c.start_ok.ensures.0 t)),
+      λ h. c.start_ok.ensures.1 (subst (λ o. IsStartOk o bid minute) (sym c.yes.ensures) (both.1 h)),
+    )

@@ -2,6 +2,7 @@ use Rattle.std.proofs.Common.{◌≡◌, ◌++◌, ◌∷◌, [], length, map, s
 use Rattle.optra_node.specs.declared.Decision.{Decision}
 use Rattle.optra_node.specs.Nodes.{IsNode, IsFormedDecision}
 use Rattle.optra_node.specs.Summaries.{Summed, AreByBid}
+use Rattle.optra_checker.specs.Opens.{IsIndexOf}
 use Rattle.optra_checker.proofs.OpenLemmas.{open_pop, totals_few, behind}
 use Rattle.optra_checker.proofs.open_node.OpenNode.undo.Goals as goal
 
@@ -23,8 +24,9 @@ invariant_of-before g c =
     let few =
     totals_few g.F.Row.Ord.cmp net rows (g.F.RowFamily.rows_used f net) (λ kind leg usable. g.met.F.RowFamily.lists_rows f net kind leg proper usable)
     (λ kind leg row not. g.met.F.RowFamily.unusable_uses_none f net kind leg row not) bids before formed in
-    open_pop g.F.Row.Ord.cmp net rows bids d node before inside.totals c.take_decision.new.totals lists earlier is c.self.invariant few c.take_decision.ensures
+    open_pop g.F.Row.Ord.cmp net rows bids d node before inside.totals c.take_decision.new.totals lists earlier inside.index c.take_off.new.self is c.self.invariant few c.take_decision.ensures
     (c.drop_own.ensures (length bids) before (subst (λ n. AreByBid (length bids) n lists) is c.self.invariant.by_bid))
+    (c.take_off.ensures (length bids) before (subst (λ n. IsIndexOf (length bids) n inside.index) is c.self.invariant.indexed))
 
 pub returns-clause-formed : goal.returns-clause-formed
 returns-clause-formed g c =

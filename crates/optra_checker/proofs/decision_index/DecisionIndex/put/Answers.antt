@@ -1,0 +1,13 @@
+use Rattle.std.proofs.Common.{sym}
+use Rattle.std.proofs.lemmas.Result.{on_ok_weaker}
+use Rattle.optra_node.specs.declared.Decision.{Decision}
+use Rattle.optra_checker.specs.Keyed.{bucket_of}
+use Rattle.optra_checker.proofs.decision_index.DecisionIndex.put.Goals as goal
+
+pub returns : goal.returns
+returns c =
+    on_ok_weaker c.add_at.result
+    (λ add bids node is. record {
+      yes = c.in_ok-put_yes.ensures bids node is.yes;
+      buckets = add (λ (d : Decision). bucket_of d.bid d.leg) 4096 node (sym c.bucket_of-bucket.ensures.bucket) is.buckets;
+    }) c.add_at.ensures

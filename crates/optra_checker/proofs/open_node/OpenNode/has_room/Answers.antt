@@ -1,0 +1,12 @@
+use Rattle.std.proofs.Common.{subst}
+use Rattle.optra_network.specs.Net.{IsProper}
+use Rattle.optra_node.specs.Nodes.{kind_at}
+use Rattle.optra_node.specs.Summaries.{Summed}
+use Rattle.optra_checker.proofs.UsedLemmas.{usable_is_formed}
+use Rattle.optra_checker.proofs.open_node.OpenNode.has_room.Goals as goal
+
+pub blocked-requires-clause-leg : goal.blocked-requires-clause-leg
+blocked-requires-clause-leg g c =
+    let self = c.args.self.now in
+    let proper = subst (λ (v : Summed g.row.F.Denot). IsProper v.net) c.self.view_is c.track_count.ensures.proper in
+    usable_is_formed self.net (kind_at self.bids c.args.bid) c.args.leg proper c.requires.usable

@@ -1,0 +1,31 @@
+use Rattle.std.proofs.Common.{◌≡◌, ◌+◌, ◌∙◌, ◌++◌, ◌∷◌, [], ℕ, false, map, length, slice_index, slice_index_or, List, Vec, Global, sym, ap, subst, arith}
+use Rattle.std.proofs.lemmas.List.{map-append}
+use Rattle.optra_bid.specs.Specs.{Path}
+use Rattle.optra_checker.specs.Reaches.{AreLeast, AreBehind}
+use Rattle.optra_checker.proofs.BehindLemmas.{behind_more, stop_is}
+use Rattle.optra_checker.proofs.reach.find_behind.Goals as goal
+
+pub start_at-start-requires : goal.start_at-start-requires
+start_at-start-requires c =
+    let stop = c.index-stop.result.now in
+    let count : c.len-count.result ≡ length c.path.inside.stops.items = (let e = c.len-count.ensures in grind arith) in
+    let there = stop_is c.args.net.now c.path.inside.stops.items c.args.bid.now.path.stops c.stops.done c.len-count.result stop (ap (λ p. p.stops) c.path.view_is) count c.stops-test.true c.index-stop.ensures c.requires.path.stops in
+    let e = ap length (c.level_of.ensures ∙ ap (λ (vs : List (Vec ℕ Global)). slice_index_or (map (λ level. level.items) vs) c.stops.done []) c.deref.ensures.value) in
+    let n = c.stops.invariant.len c.stops.done (omega arith) in
+    let l = there.2 in
+    omega (arith, e, n, l)
+
+pub stops-preserved : goal.stops-preserved
+stops-preserved c =
+    let path = c.args.bid.now.path in
+    let stop = c.index-stop.result.now in
+    let count : c.len-count.result ≡ length c.path.inside.stops.items = (let e = c.len-count.ensures in grind arith) in
+    let levels = map (λ (level : Vec ℕ Global). level.items) c.stops.levels.items in
+    let there = stop_is c.args.net.now c.path.inside.stops.items path.stops c.stops.done c.len-count.result stop (ap (λ p. p.stops) c.path.view_is) count c.stops-test.true c.index-stop.ensures c.requires.path.stops in
+    let e = ap (λ (xs : List ℕ). slice_index xs stop.station.0) (c.level_of.ensures ∙ ap (λ (vs : List (Vec ℕ Global)). slice_index_or (map (λ level. level.items) vs) c.stops.done []) c.deref.ensures.value) in
+    let from = c.start_at-start.ensures in
+    let made : map (λ (level : Vec ℕ Global). level.items) c.push-in-stops.new.self.items ≡ levels ++ c.in_ok-level.level.items ∷ [] =
+    ap (map (λ (level : Vec ℕ Global). level.items)) c.in_ok-push-2.ensures.items ∙ map-append (λ (level : Vec ℕ Global). level.items) c.stops.levels.items (c.in_ok-level.level ∷ []) in
+    subst (λ (ls : List (List ℕ)). AreBehind c.args.net.now path ls (c.stops.done + 1)) (sym made)
+    (behind_more c.args.net.now path levels c.stops.done c.start_at-start.result stop c.in_ok-level.level.items there.1
+    (subst (λ (p : Path). AreLeast c.args.net.now p.kind false stop.station c.start_at-start.result c.in_ok-level.level.items) c.path.view_is c.in_ok-level.ensures) (omega (arith, e, from)) c.stops.invariant)

@@ -1,0 +1,36 @@
+-- Lists of the rows that are loaded, and legs that keep off them.
+use Rattle.std.specs.Prelude.{◌≡◌, ℕ, ◌<◌, ◌≤◌, List, length, slice_index_or, Option, IfSome}
+use Rattle.std.specs.List.{AllPairs}
+use Rattle.std.specs.declared.cmp.Ordering.{Ordering}
+use Rattle.std.specs.declared.cmp.Ordering.TheVariants.{Less, Equal}
+use Rattle.optra_network.specs.declared.TypeId.{TypeId}
+use Rattle.optra_bid.specs.declared.bids.Bid.{Bid}
+use Rattle.optra_walk.specs.declared.Leg.{Leg}
+use Rattle.optra_walk.specs.Families.{Rows}
+use Rattle.optra_node.specs.declared.Decision.{Decision}
+use Rattle.optra_node.specs.Nodes.{yes_load}
+
+-- each row is before all that come after it
+abbrev pub AreRising : {R : Type 0} → (R → R → Ordering) → List R → Type 0
+AreRising cmp loaded = AllPairs (λ a b. cmp a b ≡ Less) loaded
+
+-- none of the rows is this one
+abbrev pub IsMissing : {R : Type 0} → (R → R → Ordering) → List R → R → Type 0
+IsMissing {R} cmp loaded row = (k : ℕ) (d : R) → k < length loaded → cmp (slice_index_or loaded k d) row ≡ Equal → ⊥
+
+-- the first rows up to a place are before this one
+abbrev pub ArePast : {R : Type 0} → (R → R → Ordering) → List R → ℕ → R → Type 0
+ArePast {R} cmp loaded place row = (k : ℕ) (d : R) → k < place → k < length loaded → cmp (slice_index_or loaded k d) row ≡ Less
+
+-- the yes legs use nothing of any other row
+abbrev pub AreLoaded : {R : Type 0} → (R → R → Ordering) → Rows R → List Bid → List Decision → List R → Type 0
+AreLoaded {R} cmp rows bids node loaded = (row : R) → IsMissing cmp loaded row → yes_load rows bids node row ≡ 0
+
+-- the row at a place of the rows that a leg uses is none of those, and the leg does not use it above its capacity
+abbrev pub KeepsOffAt : {R : Type 0} → (R → R → Ordering) → Rows R → TypeId → List R → Leg → Option R → Type 0
+KeepsOffAt cmp rows kind loaded leg at = IfSome at (λ row. IsMissing cmp loaded row × (rows.uses kind leg row ≤ rows.capacity row))
+
+-- the leg uses none of the rows, and no other row above its capacity
+pub record KeepsOff {R : Type 0} (cmp : R → R → Ordering) (rows : Rows R) (kind : TypeId) (loaded : List R) (leg : Leg) : Type 0 where
+  pub off : (row : R) → 0 < rows.uses kind leg row → IsMissing cmp loaded row
+  pub fits : (row : R) → 0 < rows.uses kind leg row → rows.uses kind leg row ≤ rows.capacity row
