@@ -1,4 +1,5 @@
-//! Crossings between tracks and limits of stations, from a builder into a network.
+//! Crossings between tracks and limits of stations, from a builder or from tables into a network.
+use crate::instances::{PLAIN, Rows, read};
 use optra_network::{Builder, NetFault, NetRefusal, Network, StationId, TrackId, TypeId, is_name};
 use std::alloc::Global;
 use std::process::Abort;
@@ -104,7 +105,7 @@ pub fn network(rt: &impl Abort, alloc: Global, added: &Added) -> Result<Network,
 }
 
 /// Crossings whose two directions differ, also of fr, which may use neither track.
-static CROSSED: Added = Added {
+pub static CROSSED: Added = Added {
     has_headways: true,
     others: &[],
     crossings: &[
@@ -125,9 +126,8 @@ static CROSSINGS: [(u16, u16, u16, u16, Option<u16>); 6] = [
     (0, 0, 0, 0, None),
 ];
 
-#[test]
-fn a_network_keeps_its_crossings_and_limits(rt: HostRuntime) -> Result<(), Fail> {
-    let net = network(&rt, rt.alloc(), &CROSSED)?;
+/// The network has the line's crossings and limits.
+fn check_crossed(rt: &impl Abort, net: &Network) {
     for (a, b, first, second, want) in &CROSSINGS {
         let minutes = net.crossing(TrackId(*a), TrackId(*b), TypeId(*first), TypeId(*second));
         assert_eq!(rt; minutes, *want, "{a} {b} {first} {second}");
@@ -135,6 +135,30 @@ fn a_network_keeps_its_crossings_and_limits(rt: HostRuntime) -> Result<(), Fail>
     assert!(rt; net.station_count() == 2);
     assert_eq!(rt; net.halt_max(StationId(0)), 0);
     assert_eq!(rt; net.halt_max(StationId(1)), 1);
+}
+
+#[test]
+fn a_network_keeps_its_crossings_and_limits(rt: HostRuntime) -> Result<(), Fail> {
+    let net = network(&rt, rt.alloc(), &CROSSED)?;
+    check_crossed(&rt, &net);
+    Ok(())
+}
+
+/// The tables of the same line, in version 2.
+static CROSSED_TABLES: Rows = Rows {
+    stations: "A,0\nB,1\n",
+    tracks: "ab,A,B\nba,B,A\n",
+    types: "ic\nfr\n",
+    running: "ab,ic,10,10,10,10\nba,ic,10,10,10,10\n",
+    headways: "ab,ic,ic,5\nba,ic,ic,5\n",
+    crossings: Some("ab,ba,ic,ic,12\nba,ab,ic,ic,7\nab,ba,ic,fr,120\nba,ab,fr,ic,1\n"),
+    ..PLAIN
+};
+
+#[test]
+fn tables_of_version_2_give_crossings_and_limits(rt: HostRuntime) -> Result<(), Fail> {
+    let held = read(rt.alloc(), &CROSSED_TABLES)?;
+    check_crossed(&rt, &held.net);
     Ok(())
 }
 

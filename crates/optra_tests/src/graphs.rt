@@ -22,6 +22,7 @@ static BIDS: Rows = Rows {
     types: "fast\nslow\n",
     running: "ab,fast,1,2,2,3\nab2,fast,1,2,2,3\nbc,fast,1,2,2,3\nba,fast,1,2,2,3\nab,slow,2,4,3,6\nbc,slow,2,4,3,6\n",
     headways: "ab,fast,fast,1\nab2,fast,fast,1\nbc,fast,fast,1\nba,fast,fast,1\nab,slow,slow,1\nab,slow,fast,1\nab,fast,slow,1\nbc,slow,slow,1\nbc,slow,fast,1\nbc,fast,slow,1\n",
+    crossings: None,
     bids: "straight,ann,fast,A,B,0,0,0,3,3,5,0,0,0,0,0,0,0,0\ntoo-early,ann,fast,A,B,0,0,0,0,0,2,0,0,0,0,0,0,0,0\ntoo-slow,ann,slow,A,B,0,0,0,0,0,5,0,0,0,0,0,0,0,0\nslow,ann,slow,A,B,0,0,1,0,0,6,0,0,0,0,0,0,0,0\nlate,ann,fast,A,B,0,0,9,4,4,6,0,0,0,0,0,0,0,0\nwaits,ann,slow,A,C,1,1,2,0,0,15,0,0,0,0,0,0,0,2\nhalts,ann,fast,A,C,0,0,1,0,0,9,0,0,0,0,0,0,0,0\nb-then-a,ann,fast,A,C,0,0,0,0,0,11,0,0,0,0,0,0,0,0\na-then-b,ann,fast,A,C,0,0,0,0,0,11,0,0,0,0,0,0,0,0\n",
     stops: "halts,B,1,2,3,5\nb-then-a,B,0,1,0,99\nb-then-a,A,0,2,0,6\na-then-b,A,0,2,0,6\na-then-b,B,0,1,0,99\n",
 };

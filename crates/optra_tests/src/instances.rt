@@ -1,11 +1,11 @@
 //! The small networks and their bids, read from the rows of their tables.
-ghost use Rattle.std.specs.Prelude.{◌≡◌, true, IfOk};
+ghost use Rattle.std.specs.Prelude.{◌≡◌, is_some, nat_eq, true, IfOk};
 ghost use Rattle.optra_bid.specs.Instances.{IsInstance};
 ghost use Rattle.optra_walk.specs.Choices.{IsChoice};
 
 use optra_bid::Bid;
 use optra_network::Network;
-use optra_tables::{NetFiles, ReadError, read_bids, read_network};
+use optra_tables::{NetFiles, ReadError, read_bids, read_network, version};
 use optra_walk::{Walk, follows};
 use std::alloc::{AllocError, Global};
 
@@ -17,6 +17,8 @@ pub struct Rows {
     pub types: &'static str,
     pub running: &'static str,
     pub headways: &'static str,
+    /// They are there in tables of version 2, whose stations have a limit each.
+    pub crossings: Option<&'static str>,
     pub bids: &'static str,
     pub stops: &'static str,
 }
@@ -29,6 +31,7 @@ pub const PLAIN: Rows = Rows {
     types: "ic\n",
     running: "ab,ic,10,11,12,14\n",
     headways: "ab,ic,ic,5\n",
+    crossings: None,
     bids: "",
     stops: "",
 };
@@ -57,8 +60,28 @@ fn table(alloc: Global, header: &str, rows: &str) -> Result<String, AllocError> 
     Ok(text)
 }
 
+/// The header of the stations, which tells the version.
+fn stations_header(rows: &Rows) -> &'static str {
+    match rows.crossings {
+        Some(_) => "station,halt_max",
+        None => "station",
+    }
+}
+
+/// The crossings of tables of a version.
+fn crossings_in(version: u8, crossings: &str) -> Option<&[u8]>
+    ensures { is_some result ≡ nat_eq version 2 }
+{
+    if version == 2 {
+        Some(crossings.as_bytes())
+    } else {
+        None
+    }
+}
+
+/// The network that the tables mean.
 pub fn network(alloc: Global, rows: &Rows) -> Result<Network, ReadError> {
-    let stations = table(alloc, "station", rows.stations)?;
+    let stations = table(alloc, stations_header(rows), rows.stations)?;
     let tracks = table(alloc, "track,from,to", rows.tracks)?;
     let types = table(alloc, "type", rows.types)?;
     let running = table(
@@ -67,17 +90,26 @@ pub fn network(alloc: Global, rows: &Rows) -> Result<Network, ReadError> {
         rows.running,
     )?;
     let headways = table(alloc, "track,first,second,minutes", rows.headways)?;
+    let crossings = table(
+        alloc,
+        "first_track,second_track,first,second,minutes",
+        rows.crossings.unwrap_or(""),
+    )?;
+    let version = version(alloc, stations.as_bytes())?;
+    let crossings = crossings_in(version, &crossings);
     let files = NetFiles {
         stations: stations.as_bytes(),
         tracks: tracks.as_bytes(),
         types: types.as_bytes(),
         running: running.as_bytes(),
         headways: headways.as_bytes(),
+        crossings,
     };
     read_network(alloc, &files)
 }
 
-fn bids(alloc: Global, net: &Network, rows: &Rows) -> Result<Vec<Bid>, ReadError>
+/// The bids that the tables mean on a network.
+pub fn bids(alloc: Global, net: &Network, rows: &Rows) -> Result<Vec<Bid>, ReadError>
     ensures { IfOk result (λ bids. IsInstance net.now bids.items) }
 {
     let header =

@@ -8,6 +8,8 @@
 #[cfg(test)]
 mod auctions;
 #[cfg(test)]
+mod crosses;
+#[cfg(test)]
 mod crossings;
 #[cfg(test)]
 mod decisions;
@@ -17,6 +19,8 @@ mod disks;
 mod graphs;
 #[cfg(test)]
 mod instances;
+#[cfg(test)]
+mod narrow_paths;
 #[cfg(test)]
 mod networks;
 #[cfg(test)]

@@ -1,4 +1,4 @@
-//! Bids as they are written, read again and copied.
+//! The version of tables, and bids as they are written, read again and copied.
 ghost use Rattle.std.specs.Prelude.{map};
 ghost use Rattle.optra_network.specs.Names.{AllDiffer};
 ghost use Rattle.optra_bid.specs.Instances.{IsInstance};
@@ -6,7 +6,7 @@ ghost use Rattle.optra_bid.specs.Instances.{IsInstance};
 use crate::instances::{PLAIN, Rows, network};
 use optra_bid::Bid;
 use optra_network::{Network, NoMemory};
-use optra_tables::{ReadError, bids_text, read_bids, stops_text};
+use optra_tables::{ReadError, bids_text, read_bids, stops_text, version};
 use std::alloc::Global;
 use std::process::Abort;
 use std::test::Fail;
@@ -16,6 +16,24 @@ static QUOTED: Rows = Rows {
     stations: "A\nB\n\"C, \"\"x\"\"\"\n",
     ..PLAIN
 };
+
+/// Tables of stations, and their version.
+static VERSIONS: [(&str, u8); 5] = [
+    ("station\nA\n", 1),
+    ("station,halt_max\nA,0\n", 2),
+    ("\u{FEFF}\r\n\"station\",halt_max", 2),
+    ("station,halt_max,x\nA,0,0\n", 1),
+    ("", 1),
+];
+
+#[test]
+fn the_header_of_the_stations_tells_the_version(rt: HostRuntime) -> Result<(), Fail> {
+    for (stations, want) in &VERSIONS {
+        let version = version(rt.alloc(), stations.as_bytes())?;
+        assert_eq!(rt; version, *want, "{stations}");
+    }
+    Ok(())
+}
 
 /// The tables of two bids and three stops: as they are handed in, and as they are written.
 static BIDS: [&str; 2] = [

@@ -26,6 +26,7 @@ static BIDS: Rows = Rows {
     types: "slow\nfast\n",
     running: "ab,slow,10,11,12,14\nbc,slow,20,21,22,24\nba,slow,5,6,7,8\nab,fast,1,1,1,1\n",
     headways: "ab,slow,slow,30\nab,slow,fast,4\nab,fast,slow,1\nab,fast,fast,1\nbc,slow,slow,1\nba,slow,slow,1\n",
+    crossings: None,
     bids: "early,ann,slow,A,B,2,5,8,0,20,2879,1000,10,20,30,40,1,7,5\nspan,ann,slow,A,B,0,5,20,16,20,23,1000,10,20,30,40,1,7,5\nfree,ann,slow,A,C,0,0,10,0,40,100,1000,10,20,30,40,1,7,5\nhalt,ann,slow,A,C,0,0,10,0,40,100,1000,10,20,30,40,1,7,5\nb-then-a,ann,slow,A,C,0,0,10,0,40,100,1000,10,20,30,40,1,7,5\na-then-b,ann,slow,A,C,0,0,10,0,40,100,1000,10,20,30,40,1,7,5\nb-alone,ann,slow,A,C,0,0,10,0,40,100,1000,10,20,30,40,1,7,5\n",
     stops: "halt,B,2,4,14,15\nb-then-a,B,2,4,0,100\nb-then-a,A,2,4,0,100\na-then-b,A,2,4,0,100\na-then-b,B,2,4,0,100\nb-alone,B,2,4,0,100\n",
 };

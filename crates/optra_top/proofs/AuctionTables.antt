@@ -32,6 +32,6 @@ Fails-actions contents tables rules unread.NoMemory is read fails = tt
 
 -- tables without a fault
 pub auction-read : (contents : Contents) (tables : Tables) (rules : declared_rules.Rules) (actions : List TimedAct) → meaning_of contents ≡ Ok tables → rules_of (table_content contents Rules) ≡ Ok rules → actions_of (table_content contents Actions) ≡ Ok actions
-    → auction_of contents ≡ Ok (record { net = tables.net; specs = tables.bids; rules = rules; actions = actions })
+    → auction_of contents ≡ Ok (record { version = tables.version; net = tables.net; specs = tables.bids; rules = rules; actions = actions })
 unfolding auction_of
 auction-read contents tables rules actions is read told = rw (is, read, told) refl

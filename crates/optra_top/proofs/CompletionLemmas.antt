@@ -5,14 +5,14 @@ use Rattle.optra_outside.specs.declared.shelves.ShelfError.TheVariants.{Absent a
 use Rattle.optra_top.specs.declared.faults.Fault.{Fault}
 use Rattle.optra_top.specs.declared.faults.Fault.TheVariants.{Refused, Read, Absent, TooLong, Write, NoMemory}
 use Rattle.optra_text.specs.declared.words.Words.TheVariants.{Plan, Check, Auction, Demo}
-use Rattle.optra_top.specs.AuctionCommand.{PrintsHeadwayPlay, auction_of}
-use Rattle.optra_top.specs.CheckCommand.{PrintsHeadwayVerdict, certificate_in}
+use Rattle.optra_top.specs.AuctionCommand.{PrintsTablesPlay, auction_of}
+use Rattle.optra_top.specs.CheckCommand.{PrintsTablesVerdict, certificate_in}
 use Rattle.optra_top.specs.Commands.{Command, MayReply}
 use Rattle.optra_top.specs.Ending.{Completes, IsValid, IsRefused, Holds, IsMissing, Replies, IsDone, NoFaults, NoReadFaults}
 use Rattle.optra_top.specs.Faults.{EndsBy, line_of, status_of, refusal_status, refusal_text}
 use Rattle.optra_top.specs.Files.{Contents}
 use Rattle.optra_top.specs.Outside.{Outside, Says}
-use Rattle.optra_top.specs.PlanCommand.{PrintsHeadwayPlan}
+use Rattle.optra_top.specs.PlanCommand.{PrintsTablesPlan}
 use Rattle.optra_top.specs.Replies.{Reply, refused, answered}
 use Rattle.optra_top.specs.Statuses.{usage_status, memory_status}
 use Rattle.optra_top.specs.TableFiles.{meaning_of}
@@ -28,11 +28,11 @@ reply-held command before now contents others reply holds replied =
 -- contents that are refused have no other reply
 refused-alone : (command : Command) (contents : Contents) (before now now' : DiskState) (status : ℕ) (line : List ℕ) (reply : Reply) → MayReply command contents before now (refused status line) → MayReply command contents before now' reply → reply ≡ refused status line
 refused-alone (Plan net bids stops steps budget cert) contents before now now' status line reply refuses replies =
-    tables-refused-alone (PrintsHeadwayPlan (record { steps = steps; budget = budget; cert = cert })) (meaning_of contents) status line reply refuses replies
+    tables-refused-alone (PrintsTablesPlan (record { steps = steps; budget = budget; cert = cert })) (meaning_of contents) status line reply refuses replies
 refused-alone (Check net bids stops cert) contents before now now' status line reply refuses replies =
-    tables-refused-alone (PrintsHeadwayVerdict (certificate_in contents)) (meaning_of contents) status line reply refuses replies
+    tables-refused-alone (PrintsTablesVerdict (certificate_in contents)) (meaning_of contents) status line reply refuses replies
 refused-alone (Auction net bids stops rules actions certs) contents before now now' status line reply refuses replies =
-    tables-refused-alone (PrintsHeadwayPlay certs) (auction_of contents) status line reply refuses replies
+    tables-refused-alone (PrintsTablesPlay certs) (auction_of contents) status line reply refuses replies
 refused-alone (Demo seed size) contents before now now' status line reply refuses replies = absurd refuses
 
 not_both : (due : ℕ) (line : List ℕ) (status : ℕ) (text : List ℕ) (puts : List (List ℕ × List ℕ)) → answered status text puts ≡ refused due line → ⊥

@@ -6,8 +6,6 @@ use Rattle.optra_cert.specs.CertLaws.{IsTextOf, TextHasNoFault, TextTellsCert}
 use Rattle.optra_cert.specs.CertTexts.{cert_text}
 use Rattle.optra_cert.specs.Certs.{IsWritable}
 use Rattle.optra_cert.specs.Headways.{headway_texts}
-use Rattle.optra_cert.specs.Writables.{AreFew}
-use Rattle.optra_rows.specs.FewRows.{AreFewHeadways}
 use Rattle.optra_rows.specs.Headways.{headway_rows, KeepsHeadwayRule}
 use Rattle.optra_rows.specs.TouchedLemmas.{row_cmp}
 use Rattle.optra_rows.specs.declared.HRow.{HRow}
@@ -33,8 +31,4 @@ plan-confirmed net bids tells faultless steps budget plan bytes verdict is writa
       writable = writable;
       text = text;
     } in
-    verdict-yes net bids tells faultless bytes (certificate_of plan) verdict is_text is.certified.valid found
-
--- rows of headways can be counted in 18 digits
-pub few-counted : (net : Net) → AreFewHeadways net → AreFew row_cmp (headway_rows net)
-few-counted net few list ascending all = let l = few list ascending all in omega arith
+    verdict-yes (headway_family net) (KeepsHeadwayRule net) net bids tells faultless (omega arith) bytes (certificate_of plan) verdict is_text is.certified.valid found

@@ -1,5 +1,5 @@
 -- The tables of a demo are accepted: they mean its network and its bids.
-use Rattle.std.proofs.Common.{◌≡◌, ℕ, ◌+◌, ◌≤◌, List, [], ◌∷◌, map, length, Ok, Err, refl, sym, ap, ◌∙◌, subst, arith}
+use Rattle.std.proofs.Common.{◌≡◌, ℕ, ◌+◌, ◌≤◌, List, [], ◌∷◌, map, length, nat_eq, None, Ok, Err, refl, sym, ap, ◌∙◌, subst, arith}
 use Rattle.std.specs.Prelude.{codes}
 use Rattle.std.specs.List.{range_with_len}
 use Rattle.std.proofs.lemmas.List.FromFn.{length-map-range_with_len}
@@ -7,7 +7,7 @@ use Rattle.optra_records.specs.Reading.{Record}
 use Rattle.optra_records.specs.Texts.{records_text}
 use Rattle.optra_network.specs.Net.{Net}
 use Rattle.optra_tables.specs.Bids as tables
-use Rattle.optra_tables.specs.Networks.{Files, network_of}
+use Rattle.optra_tables.specs.Networks.{Files, HasItsVersion, network_of, version_of}
 use Rattle.optra_tables.specs.Stops.{bids_of}
 use Rattle.optra_tables.specs.Written.{bids_table, stops_table, bid_record}
 use Rattle.optra_tables.specs.declared.TableFault.{TableFault}
@@ -23,7 +23,8 @@ use Rattle.optra_top.specs.DemoCommand.{IsAcceptedDemo, demo_bids_file, demo_mea
 use Rattle.optra_top.specs.MadeTables.{made_net_files}
 use Rattle.optra_top.proofs.DemoBids.{are_written, bids_table_is, minutes_fit, parts_of, stops_table_is}
 use Rattle.optra_top.proofs.DemoNets.{Fits, demo_parts, demo_proper, headways_written, running_written, stations_written, tracks_written}
-use Rattle.optra_top.proofs.NetsWritten.{net_of, network_means, tables_of}
+use Rattle.optra_top.proofs.NetsWritten.{net_of, network_means, tables_of, tables_version}
+use Rattle.optra_top.specs.declared.versions.Version.TheVariants.{First}
 
 -- the network and the bids of a demo
 abbrev pub demo_net : ℕ → ℕ → Net
@@ -40,6 +41,7 @@ net_files minutes = record {
   types = records_text type_records;
   running = records_text (running_records minutes);
   headways = records_text (headway_records (length minutes));
+  crossings = None;
 }
 
 running_head : Record
@@ -60,6 +62,7 @@ module _ (minutes : List ℕ) (fits : Fits minutes) where
         types = records_text type_records;
         running = ap (λ (rows : List Record). records_text (running_head ∷ rows)) (running_written minutes) i;
         headways = ap (λ (rows : List Record). records_text (headways_head ∷ rows)) (headways_written (length minutes)) i;
+        crossings = None;
       }
 
   bids_mean : 3 ≤ length minutes → (x count : ℕ) → count ≤ 180
@@ -95,6 +98,7 @@ module _ (seed size : ℕ) (least : 1 ≤ size) (most : size ≤ 9) where
         types = records_text type_records;
         running = records_text (running_records (minutes_of seed size));
         headways = records_text (headway_records (segments_are i));
+        crossings = None;
       }
 
   bids_accepted : bids_of (demo_net seed size) (demo_bids_file seed size) (demo_stops_file seed size) ≡ Ok (demo_bids seed size)
@@ -111,7 +115,7 @@ module _ (seed size : ℕ) (least : 1 ≤ size) (most : size ≤ 9) where
   -- the tables by the rule are accepted
   pub accepted : IsAcceptedDemo seed size
   unfolding demo_meaning
-  accepted = (record { net = demo_net seed size; bids = demo_bids seed size }, rw (net_accepted, bids_accepted) refl)
+  accepted = (record { version = First; net = demo_net seed size; bids = demo_bids seed size }, rw (net_accepted, bids_accepted) refl)
 
   module _ (made : DemoTables) (are : AreDemo seed size made) where
     net_made : made_net_files made ≡ demo_net_files seed size
@@ -121,7 +125,18 @@ module _ (seed size : ℕ) (least : 1 ≤ size) (most : size ≤ 9) where
       types = are.types i;
       running = are.running i;
       headways = (are.headways ∙ ap (λ (n : ℕ). records_text (headway_records n)) segments_are) i;
+      crossings = None;
     }
+
+    -- they are of version 1
+    pub made_version : HasItsVersion (made_net_files made)
+    made_version =
+        let written : version_of (records_text (station_records (length (minutes_of seed size) + 1))) ≡ 1 =
+        ap (λ (rows : List Record). version_of (records_text ((codes "station" ∷ []) ∷ rows))) (stations_written (range_with_len 1 (length (minutes_of seed size) + 1)))
+        ∙ tables_version (demo_parts (minutes_of seed size)) (demo_proper (minutes_of seed size) fits) in
+        let is : version_of made.stations.items ≡ 1 =
+        ap version_of are.stations ∙ ap (λ (n : ℕ). version_of (records_text (station_records n))) (sym stations_are) ∙ written in
+        sym (ap (λ (n : ℕ). nat_eq n 2) is)
 
     net_is : network_of (made_net_files made) ≡ Ok (demo_net seed size)
     net_is = ap network_of net_made ∙ net_accepted
@@ -143,7 +158,7 @@ module _ (seed size : ℕ) (least : 1 ≤ size) (most : size ≤ 9) where
 
     -- what was read of what was made is what the tables by the rule mean
     pub demo_read : (net : Net) (bids : List tables.Parts) → network_of (made_net_files made) ≡ Ok net → bids_of net made.bids.items made.stops.items ≡ Ok bids
-        → demo_meaning seed size ≡ Ok (record { net = net; bids = bids })
+        → demo_meaning seed size ≡ Ok (record { version = First; net = net; bids = bids })
     unfolding demo_meaning
     demo_read net bids is read =
         let n : network_of (demo_net_files seed size) ≡ Ok net = sym (ap network_of net_made) ∙ is in

@@ -5,6 +5,7 @@ mod PutLemmas
 mod RefusalLemmas
 mod EndingLemmas
 mod CompletionLemmas
+mod FamilyLemmas
 mod PlanLemmas
 mod DecidedFacts
 mod FiniteLists

@@ -1,6 +1,9 @@
 -- A network that is written as tables is read again as the same network.
-use Rattle.std.proofs.Common.{◌≡◌, ◌≢◌, ◌+◌, ◌^◌, ◌<◌, ◌≤◌, ◌++◌, ℕ, suc, Bool, true, false, not, List, [], ◌∷◌, length, map, get_or, take, drop, None, Some, Ok, refl, sym, ap, ◌∙◌, subst, inl, inr, arith, nat_le, nat_eq}
-use Rattle.std.specs.Prelude.{IsTrue, All}
+use Rattle.std.proofs.Common.{◌≡◌, ◌≢◌, ◌+◌, ◌^◌, ◌<◌, ◌≤◌, ◌++◌, ℕ, suc, Bool, true, false, not, List, [], ◌∷◌, length, map, get_or, take, drop, None, Some, Ok, Err, is_ok, bytes_eq, ◌&&◌, cond, refl, sym, ap, ◌∙◌, subst, inl, inr, arith, nat_le, nat_eq}
+use Rattle.std.specs.Prelude.{IsTrue, All, codes, if◌then◌else◌}
+use Rattle.optra_tables.specs.Outcomes.{fault}
+use Rattle.optra_tables.specs.declared.Kind.TheVariants as kinds
+use Rattle.std.specs.Cmp.Lexicographic.{pointwise}
 use Rattle.std.specs.Fmt.{decimal}
 use Rattle.std.specs.Map.{keys_of, lookup}
 use Rattle.std.proofs.lemmas.Bool.{cases_Bool, le-leb, lt-leb, eqb-true, ne_eqb}
@@ -11,10 +14,10 @@ use Rattle.optra_network.specs.Net.{AreEnds, IsFromTo, IsHeadwayRow, IsProper, I
 use Rattle.optra_network.specs.Refusals.{is_from_to}
 use Rattle.optra_network.specs.declared.Track.{Track}
 use Rattle.optra_network.specs.declared.Times.{Times}
-use Rattle.optra_records.specs.Reading.{Field, Record}
+use Rattle.optra_records.specs.Reading.{Field, Record, table_records}
 use Rattle.optra_records.specs.Texts.{AreShown, is_shown, records_text}
-use Rattle.optra_records.specs.Tables.{is_row, rows_from}
-use Rattle.optra_tables.specs.Networks.{Files, headway_row, headways_header, network_of, running_header, running_row, station_row, stations_header, track_row, tracks_header, type_row, types_header}
+use Rattle.optra_records.specs.Tables.{and_then, is_row, rows_from, rows_under, table_of}
+use Rattle.optra_tables.specs.Networks.{Files, after_stations, first_network_of, headway_row, limited_stations_header, version_of, headways_header, network_of, running_header, running_row, station_row, stations_header, track_row, tracks_header, type_row, types_header}
 use Rattle.optra_tables.specs.Rows.{table_read}
 use Rattle.optra_tables.specs.Written.{named}
 use Rattle.optra_tables.specs.declared.Table.TheVariants.{Headways, Running, Stations, Tracks, Types}
@@ -74,6 +77,7 @@ tables_of parts = record {
   types = records_text (types_header ∷ map station_record parts.types);
   running = records_text (running_header ∷ map (running_record (track_names parts.tracks) parts.types) parts.running);
   headways = records_text (headways_header ∷ map (headway_record (track_names parts.tracks) parts.types) parts.headways);
+  crossings = None;
 }
 
 -- ---- names
@@ -354,7 +358,7 @@ headways_back net all none tracks types rows differ =
 
 -- the tables that are written of a network mean it
 pub network_means : (parts : Parts) → IsProper (net_of parts) → network_of (tables_of parts) ≡ Ok (net_of parts)
-unfolding network_of stations_seen tracks_seen types_seen running_seen headways_seen
+unfolding first_network_of after_stations stations_seen tracks_seen types_seen running_seen headways_seen
 network_means parts proper =
     let built = proper.built in
     let names = built.names.names_of_tracks in
@@ -368,3 +372,40 @@ network_means parts proper =
     let five = headways_back (running_seen (types_seen (tracks_seen parts.stations parts.tracks) parts.types) parts.running) parts.headways refl names built.names.type_names headways built.headways.once in
     let whole = complete_from (net_of parts) proper.complete in
     rw (one, two, three, four, five, whole) refl
+
+-- ---- its version
+
+-- the header of version 1 isn't that of version 2
+one_field : (first : Record) → pointwise bytes_eq first stations_header ≡ true → pointwise bytes_eq first limited_stations_header ≡ false
+one_field [] e = refl
+one_field (x ∷ []) e = short (bytes_eq x (codes "station"))
+  where
+    short : (b : Bool) → (b && false) ≡ false
+    short true = refl
+    short false = refl
+one_field (x ∷ y ∷ more) e = long (bytes_eq x (codes "station")) e
+  where
+    long : {X : Type 0} (b : Bool) → (b && false) ≡ true → X
+    long true h = absurd (cc h)
+    long false h = absurd (cc h)
+
+-- stations that are read under the header of version 1 are of version 1
+first_version : (bytes : List ℕ) (known net : Net) → table_read station_row Stations stations_header known bytes ≡ Ok net → version_of bytes ≡ 1
+unfolding table_of rows_under
+first_version bytes known net is = go (table_records bytes) is
+  where
+    go : (rows : List Record) → and_then (rows_under (fault Stations 1 kinds.Header) stations_header rows) (λ rest. rows_from station_row known 2 rest) ≡ Ok net
+        → ◌≡◌ {A = ℕ} (if is_ok (rows_under (tt {0}) limited_stations_header rows) then 2 else 1) 1
+    go [] e = refl
+    go (first ∷ rest) e = by (pointwise bytes_eq first stations_header) refl e
+      where
+        by : (b : Bool) → pointwise bytes_eq first stations_header ≡ b
+            → and_then (if b then Ok rest else Err (fault Stations 1 kinds.Header)) (λ rest. rows_from station_row known 2 rest) ≡ Ok net
+            → ◌≡◌ {A = ℕ} (if is_ok (rows_under (tt {0}) limited_stations_header (first ∷ rest)) then 2 else 1) 1
+        by true is e = rw (one_field first is) refl
+        by false is e = absurd (cc e)
+
+pub tables_version : (parts : Parts) → IsProper (net_of parts) → version_of (tables_of parts).stations ≡ 1
+tables_version parts proper =
+    first_version (tables_of parts).stations empty_net (stations_seen parts.stations)
+    (stations_back parts.stations proper.built.names.station_names proper.built.counts.few_stations)

@@ -1,26 +1,68 @@
 -- The plan of the search is the plan of its bids, by any rows whose rule is freedom of conflict.
-use Rattle.std.proofs.Common.{◌≤ℤ◌, ℕ, ℤ, List, Option, sym, ◌∙◌, subst}
+use Rattle.std.proofs.Common.{◌≡◌, ◌≤ℤ◌, ℕ, ℤ, nat_eq, List, [], Option, None, Some, unwrap_or, sym, ap, ◌∙◌, subst, arith}
+use Rattle.std.specs.Map.{lookup}
 use Rattle.std.specs.declared.cmp.Ordering.{Ordering}
-use Rattle.optra_network.specs.Net.{Net}
+use Rattle.optra_network.specs.Net.{Net, CrossingRow, IsProper, halt_max_of, same_quadruple}
+use Rattle.optra_network.specs.declared.TrackUse.{TrackUse}
 use Rattle.optra_bid.specs.declared.bids.Bid.{Bid}
 use Rattle.optra_walk.specs.declared.Leg.{Leg}
-use Rattle.optra_walk.specs.Choices.{KeepsHeadways, IsConflictFree, revenue_of}
-use Rattle.optra_walk.specs.Families.{Rows, Entry}
+use Rattle.optra_walk.specs.Choices.{KeepsHeadways, IsConflictFree, revenue_of, uses_of}
+use Rattle.optra_walk.specs.Families.{Rows, Entry, entries_of}
+use Rattle.optra_walk.specs.Rules.{KeepsCrossings, KeepsHalts}
 use Rattle.optra_rows.specs.Headways.{KeepsHeadwayRule}
 use Rattle.optra_rows.specs.RuleLemmas.{uses_of_entries}
+use Rattle.optra_cross.specs.CrossLemmas.{once_from_headways}
 use Rattle.optra_node.specs.Certificates.{IsValid}
 use Rattle.optra_node.specs.Laws.{BoundHolds}
 use Rattle.optra_node.specs.Trees.{IsTree}
 use Rattle.optra_node.specs.declared.Item.{Item}
 use Rattle.optra_search.specs.Planner.{Planned, IsPlainPlan}
 use Rattle.optra_search.specs.Laws.{PlansAreCertified, PlansHaveNumbers, SufficientBudget}
+use Rattle.optra_tables.specs.Networks.{HasHeadwaysAlone}
+use Rattle.optra_top.specs.Families.{KeepsAllRules}
 use Rattle.optra_top.specs.Plans.{TellsConflicts, KeepsPromise, IsPlanOf}
 
+-- ---- without crossings and limits of stations
+
+-- every uses keep the crossings of a network that has none
+no-crossings : (net : Net) (uses : List TrackUse) → net.crossings ≡ [] → KeepsCrossings net uses
+no-crossings net uses none i j a b apart at_i at_j minutes there =
+    let nothing : None ≡ Some minutes = ap (λ (rows : List CrossingRow). lookup (same_quadruple (a.track.0, b.track.0, a.kind.0, b.kind.0)) rows) (sym none) ∙ there in
+    absurd (cc nothing)
+
+-- every legs keep the limits of a network that has none
+no-limits : (net : Net) (entries : List Entry) → net.limits ≡ [] → KeepsHalts net entries
+no-limits net entries none station minute limit day =
+    let zero_is : halt_max_of net station ≡ 0 = ap (λ (limits : List (ℕ × ℕ)). unwrap_or (lookup (nat_eq station.0) limits) 0) none in
+    absurd (omega (arith, zero_is, limit))
+
 -- a choice keeps the headways exactly where its legs keep the rule of the rows
-pub headways-tell : (net : Net) (bids : List Bid) → TellsConflicts net bids (KeepsHeadwayRule net)
-headways-tell net bids walks choice = (
-  (λ rule. record { choice = choice; headways = subst (KeepsHeadways net) (uses_of_entries bids walks) rule }),
+pub headways-tell : (net : Net) (bids : List Bid) → HasHeadwaysAlone net → TellsConflicts net bids (KeepsHeadwayRule net)
+headways-tell net bids alone walks choice = (
+  (λ rule. record {
+    choice = choice;
+    headways = subst (KeepsHeadways net) (uses_of_entries bids walks) rule;
+    crossings = no-crossings net (uses_of bids walks) alone.crossings;
+    halts = no-limits net (entries_of bids walks) alone.limits;
+  }),
   (λ free. subst (KeepsHeadways net) (sym (uses_of_entries bids walks)) free.headways),
+)
+
+-- ---- with them
+
+-- a choice keeps the headways, the crossings and the limits exactly where its legs keep the rules of the rows
+pub all-tell : (net : Net) (bids : List Bid) → IsProper net → TellsConflicts net bids (KeepsAllRules net)
+all-tell net bids proper walks choice = (
+  (λ rules. record {
+    choice = choice;
+    headways = subst (KeepsHeadways net) (uses_of_entries bids walks) rules.0.0;
+    crossings = subst (KeepsCrossings net) (uses_of_entries bids walks) rules.0.1.crossings;
+    halts = rules.1;
+  }),
+  (λ free.
+      let headways = subst (KeepsHeadways net) (sym (uses_of_entries bids walks)) free.headways in
+      let crossings = subst (KeepsCrossings net) (sym (uses_of_entries bids walks)) free.crossings in
+      ((headways, record { crossings = crossings; once = once_from_headways net _ proper headways }), free.halts)),
 )
 
 module _ {R : Type 0} (cmp : R → R → Ordering) (net : Net) (rows : Rows R) (Keeps : List Entry → Type 0) (bids : List Bid) (tells : TellsConflicts net bids Keeps) (holds : BoundHolds net rows Keeps bids) where

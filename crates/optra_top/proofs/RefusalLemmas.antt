@@ -13,7 +13,7 @@ use Rattle.optra_text.specs.FaultLines.{refusal_line}
 use Rattle.optra_tables.specs.declared.Table.TheVariants.{Bids, Stops}
 use Rattle.optra_top.specs.Faults.{unread_fault, EndsReply}
 use Rattle.optra_top.specs.Files.{Contents}
-use Rattle.optra_top.specs.TableFiles.{AnswerTo, ReplyTo, meaning_of, net_files, table_content}
+use Rattle.optra_top.specs.TableFiles.{AnswerTo, ReplyTo, meaning_of, net_files, table_content, version_in}
 use Rattle.optra_top.specs.Puts.{texts_of}
 use Rattle.optra_top.specs.declared.replies.Answer.{Answer}
 use Rattle.optra_top.specs.Replies.{Reply, refused, answered, reply_of}
@@ -47,7 +47,7 @@ Fails-bids contents net (unread.Fault first) is fails = rw (is, fails) refl
 Fails-bids contents net unread.NoMemory is fails = tt
 
 -- a network and bids without a fault are what the tables mean
-pub meaning-read : (contents : Contents) (net : Net) (bids : List Parts) → network_of (net_files contents) ≡ Ok net → bids_of net (table_content contents Bids) (table_content contents Stops) ≡ Ok bids → meaning_of contents ≡ Ok (record { net = net; bids = bids })
+pub meaning-read : (contents : Contents) (net : Net) (bids : List Parts) → network_of (net_files contents) ≡ Ok net → bids_of net (table_content contents Bids) (table_content contents Stops) ≡ Ok bids → meaning_of contents ≡ Ok (record { version = version_in contents; net = net; bids = bids })
 unfolding meaning_of
 meaning-read contents net bids is read = rw (is, read) refl
 

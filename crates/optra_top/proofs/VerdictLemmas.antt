@@ -1,11 +1,10 @@
 -- The verdict on bytes; and that what a plan puts is confirmed.
-use Rattle.std.proofs.Common.{◌≡◌, ℕ, List, [], ◌∷◌, length, Option, None, Some, refl, sym, ap, ◌∙◌, subst, arith}
+use Rattle.std.proofs.Common.{◌≡◌, ◌≤◌, ℕ, List, [], ◌∷◌, length, Option, None, Some, refl, sym, ap, ◌∙◌, subst, arith}
 use Rattle.optra_network.specs.Net.{Net}
 use Rattle.optra_bid.specs.declared.bids.Bid.{Bid}
 use Rattle.optra_cert.specs.CertLaws.{IsTextOf, TextTellsCert, TextHasNoFault}
 use Rattle.optra_cert.specs.CertTexts.{cert_text}
 use Rattle.optra_cert.specs.Certs.{Cert, IsWritable}
-use Rattle.optra_cert.specs.Headways.{headway_texts}
 use Rattle.optra_checker.specs.Verdicts.{IsFirstReason, IsVerdict}
 use Rattle.optra_checker.specs.declared.Reason.{Reason}
 use Rattle.optra_checker.specs.declared.Reason.TheVariants.{Walk, Conflict, Revenue, Decision, DeadLeaf, Price, Bound}
@@ -13,16 +12,15 @@ use Rattle.optra_checker.specs.declared.Verdict.{Verdict}
 use Rattle.optra_checker.specs.declared.Verdict.TheVariants as verdicts
 use Rattle.optra_node.specs.Certificates.{IsValid}
 use Rattle.optra_node.specs.Laws.{BoundHolds}
-use Rattle.optra_rows.specs.Headways.{headway_rows, KeepsHeadwayRule}
-use Rattle.optra_rows.specs.TouchedLemmas.{row_cmp}
-use Rattle.optra_rows.specs.declared.HRow.{HRow}
 use Rattle.optra_text.specs.VerdictTexts.{verdict_text_of}
 use Rattle.optra_text.specs.declared.verdicts.VerdictView.{VerdictView}
 use Rattle.optra_text.specs.declared.verdicts.VerdictView.TheVariants.{Yes, No, Unreadable}
 use Rattle.optra_walk.specs.Families.{Rows, Entry}
 use Rattle.optra_top.specs.CheckCommand.{IsVerdictOn, verdict_status, view_of}
-use Rattle.optra_top.specs.CheckLaws.{ConfirmsPlan}
-use Rattle.optra_top.specs.Families.{FamilyOf, headway_family}
+use Rattle.optra_top.specs.CheckLaws.{ConfirmsBy, ConfirmsPlan}
+use Rattle.optra_top.specs.Families.{FamilyOf, KeepsAllRules, all_family, headway_family}
+use Rattle.optra_rows.specs.Headways.{KeepsHeadwayRule}
+use Rattle.optra_top.specs.declared.versions.Version.TheVariants as versions
 use Rattle.optra_top.specs.PlanCommand.{certificate_of, certificate_puts}
 use Rattle.optra_top.specs.Plans.{KeepsPromise, TellsConflicts}
 use Rattle.optra_top.proofs.PlanLemmas.{promise-from_valid}
@@ -60,47 +58,53 @@ valid-no_reason net rows Keeps bids cert DeadLeaf valid fails = fails.2 valid.de
 valid-no_reason net rows Keeps bids cert Price valid fails = fails.3 valid.prices
 valid-no_reason net rows Keeps bids cert Bound valid fails = fails.4 valid.bound_is
 
-module _ (net : Net) (bids : List Bid) (tells : TextTellsCert row_cmp headway_texts net (length bids)) (faultless : TextHasNoFault row_cmp headway_texts net (length bids)) where
-  abbrev pub ValidHere : Cert HRow → Type 0
-  ValidHere cert = IsValid net (headway_rows net) (KeepsHeadwayRule net) bids cert.revenue cert.bound cert.choice cert.tree
+module _ {R : Type 0} (family : FamilyOf R) (Keeps : List Entry → Type 0) (net : Net) (bids : List Bid) (tells : TextTellsCert family.cmp family.texts net (length bids)) (faultless : TextHasNoFault family.cmp family.texts net (length bids))
+    (from : 1 ≤ family.texts.version) where
+  abbrev pub ValidHere : Cert R → Type 0
+  ValidHere cert = IsValid net family.rows Keeps bids cert.revenue cert.bound cert.choice cert.tree
 
   -- the verdict on the text of a valid certificate is Yes, with its numbers
-  pub verdict-yes : (bytes : List ℕ) (cert : Cert HRow) (verdict : VerdictView) → IsTextOf row_cmp headway_texts net (length bids) bytes cert → ValidHere cert
-      → IsVerdictOn (headway_family net) (KeepsHeadwayRule net) net bids bytes verdict → verdict ≡ Yes cert.revenue cert.bound
+  pub verdict-yes : (bytes : List ℕ) (cert : Cert R) (verdict : VerdictView) → IsTextOf family.cmp family.texts net (length bids) bytes cert → ValidHere cert
+      → IsVerdictOn family Keeps net bids bytes verdict → verdict ≡ Yes cert.revenue cert.bound
   verdict-yes bytes cert (Yes revenue bound) text valid found =
       let same : found.cert ≡ cert = tells bytes found.cert cert found.text text in
-      let r = found.revenue_is ∙ ap (λ (c : Cert HRow). c.revenue) same in
-      let b = found.bound_is ∙ ap (λ (c : Cert HRow). c.bound) same in
+      let r = found.revenue_is ∙ ap (λ (c : Cert R). c.revenue) same in
+      let b = found.bound_is ∙ ap (λ (c : Cert R). c.bound) same in
       λ i. Yes (r i) (b i)
   verdict-yes bytes cert (No number) text valid found =
       let same : cert ≡ found.cert = tells bytes cert found.cert text found.text in
-      absurd (valid-no_reason net (headway_rows net) (KeepsHeadwayRule net) bids found.cert found.reason (subst ValidHere same valid) found.fails)
+      absurd (valid-no_reason net family.rows Keeps bids found.cert found.reason (subst ValidHere same valid) found.fails)
   verdict-yes bytes cert (Unreadable row number) text valid found = absurd (faultless bytes cert found.fault text found.first)
 
   abbrev text_put : List (List ℕ × List ℕ) → List ℕ
   text_put [] = []
   text_put (put ∷ puts) = put.1
 
-  put-text : (path : Option (List ℕ)) (name bytes : List ℕ) (cert : Cert HRow) → (name, bytes) ∷ [] ≡ certificate_puts headway_texts net path cert → bytes ≡ cert_text headway_texts net headway_texts.version cert
+  put-text : (path : Option (List ℕ)) (name bytes : List ℕ) (cert : Cert R) → (name, bytes) ∷ [] ≡ certificate_puts family.texts net path cert → bytes ≡ cert_text family.texts net family.texts.version cert
   put-text None name bytes cert e = absurd (cc e)
   put-text (Some path) name bytes cert e = ap text_put e
 
   -- the verdict on what a plan puts is Yes
-  pub confirms : ConfirmsPlan net bids
+  pub confirms : ConfirmsBy family Keeps net bids
   confirms asks name bytes status status' text text' puts p v =
       let cert = certificate_of p.plan in
       let planned : p.bids ≡ bids = bids-from_parts p.bids bids p.are_those in
       let checked : v.bids ≡ bids = bids-from_parts v.bids bids v.are_those in
-      let is_text : IsTextOf row_cmp headway_texts net (length bids) bytes cert = record {
-        version = headway_texts.version;
-        least = omega arith;
+      let is_text : IsTextOf family.cmp family.texts net (length bids) bytes cert = record {
+        version = family.texts.version;
+        least = from;
         most = omega arith;
-        writable = subst (λ (b : List Bid). IsWritable row_cmp headway_texts net (length b) headway_texts.version cert) planned p.writable;
+        writable = subst (λ (b : List Bid). IsWritable family.cmp family.texts net (length b) family.texts.version cert) planned p.writable;
         text = put-text asks.cert name bytes cert p.put;
       } in
-      let valid : ValidHere cert = subst (λ (b : List Bid). IsValid net (headway_rows net) (KeepsHeadwayRule net) b cert.revenue cert.bound cert.choice cert.tree) planned p.is_plan.certified.valid in
-      let found = subst (λ (b : List Bid). IsVerdictOn (headway_family net) (KeepsHeadwayRule net) net b bytes v.verdict) checked v.finds in
+      let valid : ValidHere cert = subst (λ (b : List Bid). IsValid net family.rows Keeps b cert.revenue cert.bound cert.choice cert.tree) planned p.is_plan.certified.valid in
+      let found = subst (λ (b : List Bid). IsVerdictOn family Keeps net b bytes v.verdict) checked v.finds in
       let yes = verdict-yes bytes cert v.verdict is_text valid found in (
         v.ends ∙ ap verdict_status yes,
         v.printed ∙ ap verdict_text_of yes,
       )
+
+-- so it is by the rows of each version
+pub confirms-each : (net : Net) (bids : List Bid) → ConfirmsBy (headway_family net) (KeepsHeadwayRule net) net bids → ConfirmsBy (all_family net) (KeepsAllRules net) net bids → ConfirmsPlan net bids
+confirms-each net bids first second versions.First = first
+confirms-each net bids first second versions.Second = second

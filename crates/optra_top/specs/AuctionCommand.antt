@@ -3,7 +3,6 @@ use Rattle.std.specs.Prelude.{◌≡◌, ◌+◌, ℕ, List, length, map, Option
 use Rattle.optra_network.specs.Net.{Net}
 use Rattle.optra_bid.specs.declared.bids.Bid.{Bid}
 use Rattle.optra_auction.specs.declared.Rules as declared_rules
-use Rattle.optra_rows.specs.Headways.{KeepsHeadwayRule}
 use Rattle.optra_tables.specs.Actions.{actions_of}
 use Rattle.optra_tables.specs.Bids.{Parts, parts_of}
 use Rattle.optra_tables.specs.Outcomes.{◌>>=◌}
@@ -12,11 +11,12 @@ use Rattle.optra_tables.specs.declared.Table.TheVariants.{Rules, Actions}
 use Rattle.optra_tables.specs.declared.TableFault.{TableFault}
 use Rattle.optra_tables.specs.declared.TimedAct.{TimedAct}
 use Rattle.optra_top.specs.declared.files.Role.TheVariants as roles
-use Rattle.optra_top.specs.Families.{FamilyOf, headway_family}
+use Rattle.optra_top.specs.Families.{FamilyOf, OfVersion}
 use Rattle.optra_top.specs.Files.{Contents, File}
 use Rattle.optra_top.specs.Play.{IsPlayedOut}
 use Rattle.optra_top.specs.Replies.{Reply}
 use Rattle.optra_top.specs.TableFiles.{ReplyTo, all_tables, meaning_of, next_table_file, table_content}
+use Rattle.optra_top.specs.declared.versions.Version.{Version}
 use Rattle.optra_walk.specs.Families.{Entry}
 
 -- ---- its files
@@ -30,14 +30,15 @@ actions_file actions = record { role = roles.Table Actions; name = actions }
 -- the next file after these; none once all are got
 abbrev pub next_auction_file : List ℕ → List ℕ → List ℕ → List ℕ → List ℕ → Contents → Option File
 next_auction_file net bids stops rules actions contents =
-    if nat_eq (length contents) (length all_tables) then Some (rules_file rules)
-    else if nat_eq (length contents) (length all_tables + 1) then Some (actions_file actions)
+    if nat_eq (length contents) (length (all_tables contents)) then Some (rules_file rules)
+    else if nat_eq (length contents) (length (all_tables contents) + 1) then Some (actions_file actions)
     else next_table_file net bids stops contents
 
 -- ---- what they mean
 
--- a network, the specifications of an auction on it, its rules and its actions
+-- the version of the tables, a network, the specifications of an auction on it, its rules and its actions
 pub record AuctionTables : Type 0 where
+  pub version : Version
   pub net : Net
   pub specs : List Parts
   pub rules : declared_rules.Rules
@@ -49,7 +50,7 @@ auction_of contents = do
   tables ← meaning_of contents
   rules ← rules_of (table_content contents Rules)
   actions ← actions_of (table_content contents Actions)
-  Ok (record { net = tables.net; specs = tables.bids; rules = rules; actions = actions })
+  Ok (record { version = tables.version; net = tables.net; specs = tables.bids; rules = rules; actions = actions })
 
 -- ---- the reply
 
@@ -61,10 +62,11 @@ pub record PrintsPlay {R : Type 0} (family : FamilyOf R) (Keeps : List Entry →
   pub are_those : map parts_of specs ≡ tables.specs
   pub plays : IsPlayedOut family Keeps tables.net certs specs tables.rules tables.actions status text puts
 
--- the play by the rows of headways
-abbrev pub PrintsHeadwayPlay : Option (List ℕ) → AuctionTables → ℕ → List ℕ → List (List ℕ × List ℕ) → Type 0
-PrintsHeadwayPlay certs tables status text puts = PrintsPlay (headway_family tables.net) (KeepsHeadwayRule tables.net) certs tables status text puts
+-- the play by the rows of the tables' version
+abbrev pub PrintsTablesPlay : Option (List ℕ) → AuctionTables → ℕ → List ℕ → List (List ℕ × List ℕ) → Type 0
+PrintsTablesPlay certs tables status text puts =
+    OfVersion tables.version tables.net (λ R family Keeps. PrintsPlay family Keeps certs tables status text puts)
 
 -- the reply to the contents of the files
 abbrev pub AuctionReplies : Option (List ℕ) → Contents → Reply → Type 0
-AuctionReplies certs contents reply = ReplyTo (PrintsHeadwayPlay certs) (auction_of contents) reply
+AuctionReplies certs contents reply = ReplyTo (PrintsTablesPlay certs) (auction_of contents) reply

@@ -14,13 +14,12 @@ use Rattle.optra_checker.specs.declared.Reason.TheVariants as reasons
 use Rattle.optra_checker.specs.declared.Verdict.{Verdict}
 use Rattle.optra_checker.specs.declared.Verdict.TheVariants as verdicts
 use Rattle.optra_node.specs.Certificates.{IsValid}
-use Rattle.optra_rows.specs.Headways.{KeepsHeadwayRule}
-use Rattle.optra_tables.specs.Bids.{parts_of}
+use Rattle.optra_tables.specs.Bids.{Parts, parts_of}
 use Rattle.optra_text.specs.VerdictTexts.{verdict_text_of}
 use Rattle.optra_text.specs.declared.verdicts.VerdictView.{VerdictView}
 use Rattle.optra_text.specs.declared.verdicts.VerdictView.TheVariants.{Yes, No, Unreadable}
 use Rattle.optra_top.specs.declared.files.Role.TheVariants.{Certificate}
-use Rattle.optra_top.specs.Families.{FamilyOf, headway_family}
+use Rattle.optra_top.specs.Families.{FamilyOf, OfVersion}
 use Rattle.optra_top.specs.Files.{Contents, File, content_of}
 use Rattle.optra_top.specs.Plans.{KeepsPromise}
 use Rattle.optra_top.specs.Replies.{Reply}
@@ -37,7 +36,7 @@ certificate_file cert = record { role = Certificate; name = cert }
 -- the next file after these; none once all are got
 abbrev pub next_check_file : List ℕ → List ℕ → List ℕ → List ℕ → Contents → Option File
 next_check_file net bids stops cert contents =
-    if nat_eq (length contents) (length all_tables) then Some (certificate_file cert) else next_table_file net bids stops contents
+    if nat_eq (length contents) (length (all_tables contents)) then Some (certificate_file cert) else next_table_file net bids stops contents
 
 -- the bytes of the certificate among the files
 abbrev pub certificate_in : Contents → List ℕ
@@ -110,19 +109,20 @@ verdict_status (No reason) = denied_status
 verdict_status (Unreadable row fault) = denied_status
 
 -- The verdict on the bytes is printed, and nothing is put.
-pub record PrintsVerdict {R : Type 0} (family : FamilyOf R) (Keeps : List Entry → Type 0) (bytes : List ℕ) (tables : Tables) (status : ℕ) (text : List ℕ) (puts : List (List ℕ × List ℕ)) : Type 0 where
+pub record PrintsVerdict {R : Type 0} (family : FamilyOf R) (Keeps : List Entry → Type 0) (bytes : List ℕ) (net : Net) (parts : List Parts) (status : ℕ) (text : List ℕ) (puts : List (List ℕ × List ℕ)) : Type 0 where
   pub bids : List Bid
-  pub are_those : map parts_of bids ≡ tables.bids
+  pub are_those : map parts_of bids ≡ parts
   pub verdict : VerdictView
-  pub finds : IsVerdictOn family Keeps tables.net bids bytes verdict
+  pub finds : IsVerdictOn family Keeps net bids bytes verdict
   pub printed : text ≡ verdict_text_of verdict
   pub ends : status ≡ verdict_status verdict
   pub put : puts ≡ []
 
--- the verdict by the rows of headways
-abbrev pub PrintsHeadwayVerdict : List ℕ → Tables → ℕ → List ℕ → List (List ℕ × List ℕ) → Type 0
-PrintsHeadwayVerdict bytes tables status text puts = PrintsVerdict (headway_family tables.net) (KeepsHeadwayRule tables.net) bytes tables status text puts
+-- the verdict by the rows of the tables' version
+abbrev pub PrintsTablesVerdict : List ℕ → Tables → ℕ → List ℕ → List (List ℕ × List ℕ) → Type 0
+PrintsTablesVerdict bytes tables status text puts =
+    OfVersion tables.version tables.net (λ R family Keeps. PrintsVerdict family Keeps bytes tables.net tables.bids status text puts)
 
 -- the reply to the contents of the files
 abbrev pub CheckReplies : Contents → Reply → Type 0
-CheckReplies contents reply = ReplyTo (PrintsHeadwayVerdict (certificate_in contents)) (meaning_of contents) reply
+CheckReplies contents reply = ReplyTo (PrintsTablesVerdict (certificate_in contents)) (meaning_of contents) reply

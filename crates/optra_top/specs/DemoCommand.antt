@@ -1,5 +1,5 @@
 -- The demo command: what it replies.
-use Rattle.std.specs.Prelude.{◌≡◌, ℕ, List, [], length, map, Result, Ok}
+use Rattle.std.specs.Prelude.{◌≡◌, ℕ, List, [], length, map, None, Result, Ok}
 use Rattle.optra_bid.specs.declared.bids.Bid.{Bid}
 use Rattle.optra_demo.specs.Bids.{bid_records, stop_records}
 use Rattle.optra_demo.specs.Demos as demos
@@ -8,7 +8,8 @@ use Rattle.optra_demo.specs.Networks.{headway_records, running_records, segment_
 use Rattle.optra_records.specs.Texts.{records_text}
 use Rattle.optra_rows.specs.Headways.{KeepsHeadwayRule}
 use Rattle.optra_search.specs.Planner.{Planned}
-use Rattle.optra_tables.specs.Bids.{parts_of}
+use Rattle.optra_network.specs.Net.{Net}
+use Rattle.optra_tables.specs.Bids.{Parts, parts_of}
 use Rattle.optra_tables.specs.Networks as networks
 use Rattle.optra_tables.specs.Outcomes.{◌>>=◌}
 use Rattle.optra_tables.specs.Stops.{bids_of}
@@ -21,6 +22,7 @@ use Rattle.optra_top.specs.PlanCommand.{IsStatusOf}
 use Rattle.optra_top.specs.Plans.{IsPlanOf}
 use Rattle.optra_top.specs.Replies.{Reply, refused, answered}
 use Rattle.optra_top.specs.TableFiles.{Tables}
+use Rattle.optra_top.specs.declared.versions.Version.TheVariants.{First}
 
 -- ---- its tables
 
@@ -32,6 +34,7 @@ demo_net_files seed size = record {
   types = records_text type_records;
   running = records_text (running_records (minutes_of seed size));
   headways = records_text (headway_records (segment_count size));
+  crossings = None;
 }
 
 -- the table of the bids by the rule, and that of their stops
@@ -46,7 +49,7 @@ unfoldable pub demo_meaning : ℕ → ℕ → Result Tables TableFault
 demo_meaning seed size = do
   net ← networks.network_of (demo_net_files seed size)
   bids ← bids_of net (demo_bids_file seed size) (demo_stops_file seed size)
-  Ok (record { net = net; bids = bids })
+  Ok (record { version = First; net = net; bids = bids })
 
 -- they are accepted
 abbrev pub IsAcceptedDemo : ℕ → ℕ → Type 0
@@ -56,18 +59,18 @@ IsAcceptedDemo seed size = (tables : Tables) × (demo_meaning seed size ≡ Ok t
 
 -- The text and the status are those of the plan of these bids with 20 price steps and a budget of 5, by rows that state the
 -- rule, and the plan's certificate is valid: the last record of the text is the verdict Yes with the plan's revenue and bound.
-pub record PrintsDemo {R : Type 0} (family : FamilyOf R) (Keeps : List Entry → Type 0) (seed size : ℕ) (tables : Tables) (status : ℕ) (text : List ℕ) (puts : List (List ℕ × List ℕ)) : Type 0 where
+pub record PrintsDemo {R : Type 0} (family : FamilyOf R) (Keeps : List Entry → Type 0) (seed size : ℕ) (net : Net) (parts : List Parts) (status : ℕ) (text : List ℕ) (puts : List (List ℕ × List ℕ)) : Type 0 where
   pub bids : List Bid
-  pub are_those : map parts_of bids ≡ tables.bids
+  pub are_those : map parts_of bids ≡ parts
   pub plan : Planned R
-  pub is_plan : IsPlanOf family.cmp tables.net family.rows Keeps bids 20 5 plan
-  pub printed : text ≡ demo_text_of seed size tables.net (length bids) plan.revenue plan.bound plan.nodes (Yes plan.revenue plan.bound)
+  pub is_plan : IsPlanOf family.cmp net family.rows Keeps bids 20 5 plan
+  pub printed : text ≡ demo_text_of seed size net (length bids) plan.revenue plan.bound plan.nodes (Yes plan.revenue plan.bound)
   pub ends : IsStatusOf plan.revenue plan.bound status
   pub put : puts ≡ []
 
 -- by the rows of headways
 abbrev pub PrintsHeadwayDemo : ℕ → ℕ → Tables → ℕ → List ℕ → List (List ℕ × List ℕ) → Type 0
-PrintsHeadwayDemo seed size tables status text puts = PrintsDemo (headway_family tables.net) (KeepsHeadwayRule tables.net) seed size tables status text puts
+PrintsHeadwayDemo seed size tables status text puts = PrintsDemo (headway_family tables.net) (KeepsHeadwayRule tables.net) seed size tables.net tables.bids status text puts
 
 -- the reply: the tables by the rule are accepted, so it is never a refusal
 abbrev pub DemoReplies : ℕ → ℕ → Reply → Type 0

@@ -4,7 +4,7 @@ use Rattle.std.specs.List.{AllByRecursion}
 use Rattle.std.specs.FinMap.{get}
 use Rattle.optra_outside.specs.Shelf.{ShelfState}
 use Rattle.optra_tables.specs.declared.Table.{Table}
-use Rattle.optra_tables.specs.declared.Table.TheVariants.{Stations, Tracks, Types, Running, Headways, Bids, Stops, Rules, Actions}
+use Rattle.optra_tables.specs.declared.Table.TheVariants.{Stations, Tracks, Types, Running, Headways, Crossings, Bids, Stops, Rules, Actions}
 use Rattle.optra_top.specs.declared.files.Role.{Role}
 use Rattle.optra_top.specs.declared.files.Role.TheVariants as roles
 use Rattle.optra_top.specs.declared.files.Asked as asked_file
@@ -41,10 +41,11 @@ table_number Tracks = 1
 table_number Types = 2
 table_number Running = 3
 table_number Headways = 4
-table_number Bids = 5
-table_number Stops = 6
-table_number Rules = 7
-table_number Actions = 8
+table_number Crossings = 5
+table_number Bids = 6
+table_number Stops = 7
+table_number Rules = 8
+table_number Actions = 9
 
 abbrev pub same_role : Role → Role → Bool
 same_role (roles.Table a) (roles.Table b) = nat_eq (table_number a) (table_number b)

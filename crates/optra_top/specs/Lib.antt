@@ -4,6 +4,7 @@ pub mod Files
 pub mod Puts
 pub mod Replies
 pub mod Plans
+pub mod Versions
 pub mod Families
 pub mod TableFiles
 pub mod PlanCommand

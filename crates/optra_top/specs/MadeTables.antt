@@ -1,4 +1,5 @@
 -- The tables of a demo, as they were made.
+use Rattle.std.specs.Prelude.{None}
 use Rattle.optra_demo.specs.declared.demo_tables.DemoTables.{DemoTables}
 use Rattle.optra_tables.specs.Networks.{Files}
 
@@ -10,4 +11,5 @@ made_net_files made = record {
   types = made.types.items;
   running = made.running.items;
   headways = made.headways.items;
+  crossings = None;
 }

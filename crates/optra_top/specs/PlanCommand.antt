@@ -7,11 +7,10 @@ use Rattle.optra_cert.specs.CertTexts.{cert_text}
 use Rattle.optra_cert.specs.Certs.{Cert, IsWritable}
 use Rattle.optra_cert.specs.RowTexts.{RowTexts}
 use Rattle.optra_walk.specs.Families.{Entry}
-use Rattle.optra_rows.specs.Headways.{KeepsHeadwayRule}
 use Rattle.optra_search.specs.Planner.{Planned}
-use Rattle.optra_tables.specs.Bids.{parts_of}
+use Rattle.optra_tables.specs.Bids.{Parts, parts_of}
 use Rattle.optra_text.specs.PlanTexts.{plan_text_of}
-use Rattle.optra_top.specs.Families.{FamilyOf, headway_family}
+use Rattle.optra_top.specs.Families.{FamilyOf, OfVersion}
 use Rattle.optra_top.specs.Files.{Contents}
 use Rattle.optra_top.specs.Plans.{IsPlanOf}
 use Rattle.optra_top.specs.Replies.{Reply}
@@ -47,20 +46,21 @@ pub record PlanAsked : Type 0 where
 -- The text, the status and what is put are those of the plan of these bids, by rows that state the rule. There is one
 -- such plan, so all of this is a function of the tables and of what is asked. The plan is a valid certificate that can
 -- be written.
-pub record PrintsPlan {R : Type 0} (family : FamilyOf R) (Keeps : List Entry → Type 0) (asks : PlanAsked) (tables : Tables) (status : ℕ) (text : List ℕ) (puts : List (List ℕ × List ℕ)) : Type 0 where
+pub record PrintsPlan {R : Type 0} (family : FamilyOf R) (Keeps : List Entry → Type 0) (asks : PlanAsked) (net : Net) (parts : List Parts) (status : ℕ) (text : List ℕ) (puts : List (List ℕ × List ℕ)) : Type 0 where
   pub bids : List Bid
-  pub are_those : map parts_of bids ≡ tables.bids
+  pub are_those : map parts_of bids ≡ parts
   pub plan : Planned R
-  pub is_plan : IsPlanOf family.cmp tables.net family.rows Keeps bids asks.steps asks.budget plan
-  pub printed : text ≡ plan_text_of tables.net bids plan.choice plan.revenue plan.bound plan.nodes
+  pub is_plan : IsPlanOf family.cmp net family.rows Keeps bids asks.steps asks.budget plan
+  pub printed : text ≡ plan_text_of net bids plan.choice plan.revenue plan.bound plan.nodes
   pub ends : IsStatusOf plan.revenue plan.bound status
-  pub writable : IsWritable family.cmp family.texts tables.net (length bids) family.texts.version (certificate_of plan)
-  pub put : puts ≡ certificate_puts family.texts tables.net asks.cert (certificate_of plan)
+  pub writable : IsWritable family.cmp family.texts net (length bids) family.texts.version (certificate_of plan)
+  pub put : puts ≡ certificate_puts family.texts net asks.cert (certificate_of plan)
 
--- the plan by the rows of headways is printed and put
-abbrev pub PrintsHeadwayPlan : PlanAsked → Tables → ℕ → List ℕ → List (List ℕ × List ℕ) → Type 0
-PrintsHeadwayPlan asks tables status text puts = PrintsPlan (headway_family tables.net) (KeepsHeadwayRule tables.net) asks tables status text puts
+-- the plan by the rows of the tables' version is printed and put
+abbrev pub PrintsTablesPlan : PlanAsked → Tables → ℕ → List ℕ → List (List ℕ × List ℕ) → Type 0
+PrintsTablesPlan asks tables status text puts =
+    OfVersion tables.version tables.net (λ R family Keeps. PrintsPlan family Keeps asks tables.net tables.bids status text puts)
 
 -- the reply to the contents of the files
 abbrev pub PlanReplies : PlanAsked → Contents → Reply → Type 0
-PlanReplies asks contents reply = ReplyTo (PrintsHeadwayPlan asks) (meaning_of contents) reply
+PlanReplies asks contents reply = ReplyTo (PrintsTablesPlan asks) (meaning_of contents) reply

@@ -1,9 +1,9 @@
 -- The tables that a command over a network and its bids gets, what they mean, and a reply by their meaning.
-use Rattle.std.specs.Prelude.{◌≡◌, ℕ, List, [], ◌∷◌, ◌++◌, length, Option, slice_get, Result, Ok, Err, codes}
+use Rattle.std.specs.Prelude.{◌≡◌, ℕ, List, [], ◌++◌, length, Option, None, Some, slice_get, Result, Ok, Err, codes}
 use Rattle.std.specs.Option.{option_map}
 use Rattle.optra_network.specs.Net.{Net}
 use Rattle.optra_tables.specs.declared.Table.{Table}
-use Rattle.optra_tables.specs.declared.Table.TheVariants.{Stations, Tracks, Types, Running, Headways, Bids, Stops, Rules, Actions}
+use Rattle.optra_tables.specs.declared.Table.TheVariants.{Stations, Tracks, Types, Running, Headways, Crossings, Bids, Stops, Rules, Actions}
 use Rattle.optra_tables.specs.declared.TableFault.{TableFault}
 use Rattle.optra_tables.specs.Outcomes.{◌>>=◌}
 use Rattle.optra_tables.specs.Networks as networks
@@ -14,12 +14,11 @@ use Rattle.optra_top.specs.declared.files.Role.TheVariants as roles
 use Rattle.optra_top.specs.Files.{File, Contents, content_of}
 use Rattle.optra_top.specs.Replies.{Reply, refused, answered}
 use Rattle.optra_top.specs.Statuses.{refused_status}
+use Rattle.optra_top.specs.Versions.{tables_in, version_told}
+use Rattle.optra_top.specs.declared.versions.Version.{Version}
+use Rattle.optra_top.specs.declared.versions.Version.TheVariants.{First, Second}
 
 -- ---- their files
-
--- the tables, in the order in which they are got
-abbrev pub all_tables : List Table
-all_tables = Stations ∷ Tracks ∷ Types ∷ Running ∷ Headways ∷ Bids ∷ Stops ∷ []
 
 -- the name of a table's file, where the words name the network's folder, the bids and the stops; the tables of an auction have none
 abbrev pub table_file_name : List ℕ → List ℕ → List ℕ → Table → List ℕ
@@ -28,6 +27,7 @@ table_file_name net bids stops Tracks = net ++ codes "/tracks.csv"
 table_file_name net bids stops Types = net ++ codes "/types.csv"
 table_file_name net bids stops Running = net ++ codes "/running.csv"
 table_file_name net bids stops Headways = net ++ codes "/headways.csv"
+table_file_name net bids stops Crossings = net ++ codes "/crossings.csv"
 table_file_name net bids stops Bids = bids
 table_file_name net bids stops Stops = stops
 table_file_name net bids stops Rules = []
@@ -37,20 +37,34 @@ table_file_name net bids stops Actions = []
 abbrev pub table_file : List ℕ → List ℕ → List ℕ → Table → File
 table_file net bids stops table = record { role = roles.Table table; name = table_file_name net bids stops table }
 
--- the file of the next table after these files; none once all are got
-abbrev pub next_table_file : List ℕ → List ℕ → List ℕ → Contents → Option File
-next_table_file net bids stops contents = option_map (table_file net bids stops) (slice_get all_tables (length contents))
-
 -- the content of a table's file
 abbrev pub table_content : Contents → Table → List ℕ
 table_content contents table = content_of contents (roles.Table table)
 
+-- the version of the tables among these files: that of their stations, and version 1 as long as there are none
+abbrev pub version_in : Contents → Version
+version_in contents = version_told (networks.version_of (table_content contents Stations))
+
+-- the tables that are got, in order: those of the version
+abbrev pub all_tables : Contents → List Table
+all_tables contents = tables_in (version_in contents)
+
+-- the file of the next table after these files; none once all are got
+abbrev pub next_table_file : List ℕ → List ℕ → List ℕ → Contents → Option File
+next_table_file net bids stops contents = option_map (table_file net bids stops) (slice_get (all_tables contents) (length contents))
+
 -- ---- what they mean
 
--- a network and its bids
+-- a network and its bids, and the version of their tables
 pub record Tables : Type 0 where
+  pub version : Version
   pub net : Net
   pub bids : List Parts
+
+-- the crossings among the files, in version 2
+abbrev pub crossings_in : Version → Contents → Option (List ℕ)
+crossings_in First contents = None
+crossings_in Second contents = Some (table_content contents Crossings)
 
 -- the network's tables among the files
 abbrev pub net_files : Contents → networks.Files
@@ -60,6 +74,7 @@ net_files contents = record {
   types = table_content contents Types;
   running = table_content contents Running;
   headways = table_content contents Headways;
+  crossings = crossings_in (version_in contents) contents;
 }
 
 -- what the contents of the files mean, or their first fault
@@ -67,7 +82,7 @@ unfoldable pub meaning_of : Contents → Result Tables TableFault
 meaning_of contents = do
   net ← networks.network_of (net_files contents)
   bids ← bids_of net (table_content contents Bids) (table_content contents Stops)
-  Ok (record { net = net; bids = bids })
+  Ok (record { version = version_in contents; net = net; bids = bids })
 
 -- ---- a reply by their meaning
 

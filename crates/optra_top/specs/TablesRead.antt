@@ -4,6 +4,6 @@ use Rattle.optra_tables.specs.Bids.{parts_of}
 use Rattle.optra_top.specs.TableFiles as meaning
 use Rattle.optra_top.specs.declared.table_files.Tables.{Tables}
 
--- the network and the bids that were read
+-- the version, the network and the bids that were read
 abbrev pub tables_seen : Tables → meaning.Tables
-tables_seen tables = record { net = tables.net; bids = map parts_of tables.bids.items }
+tables_seen tables = record { version = tables.version; net = tables.net; bids = map parts_of tables.bids.items }

@@ -1,27 +1,32 @@
 //! The auction command: the files that it gets after the tables of a network and its bids, and what it replies to the contents of
 //! its files.
-ghost use Rattle.std.specs.Prelude.{◌≡◌, ◌<◌, length, option_map, Some, All, IfOk, IfErr, IfSome};
+ghost use Rattle.std.specs.Prelude.{◌≡◌, ◌+◌, ◌≤◌, length, option_map, Some, All, IfOk, IfErr, IfSome};
 ghost use Rattle.optra_bid.specs.Specs.{IsPathOn};
 ghost use Rattle.optra_auction.specs.Machine.{AreRules, AreSpecs};
 ghost use Rattle.optra_tables.specs.Actions.{AreActions};
+ghost use Rattle.optra_tables.specs.Networks.{HasHeadwaysAlone};
 ghost use Rattle.optra_tables.specs.Outcomes.{Gives};
 ghost use Rattle.optra_top.specs.declared.files.Role.TheVariants.{Table as table_role};
 ghost use Rattle.optra_top.specs.AuctionCommand.{AuctionReplies, auction_of, next_auction_file};
 ghost use Rattle.optra_top.specs.AuctionRead.{auction_seen};
+ghost use Rattle.optra_top.specs.Families.{OfVersion};
 ghost use Rattle.optra_top.specs.Faults.{EndsReply};
 ghost use Rattle.optra_top.specs.Files.{file_asked, files_got};
+ghost use Rattle.optra_top.specs.Play.{IsPlayedOut};
+ghost use Rattle.optra_top.specs.Puts.{texts_of};
 ghost use Rattle.optra_top.specs.Replies.{reply_of};
 
+use crate::families::{all_rows, all_rows_are_told, headway_rows_are_told};
 use crate::faults::Fault;
 use crate::files::{Asked, Got, Role};
 use crate::playing::play;
 use crate::replies::Answer;
-use crate::table_files::{TABLES, next_table_file, read_tables, table_content};
+use crate::table_files::{next_table_file, read_tables, table_content, version_in};
+use crate::versions::{MOST_TABLES, Version};
 use optra_auction::Rules;
 use optra_bid::Bid;
-use optra_cert::headway_kinds_are_apart;
-use optra_network::Network;
-use optra_rows::{HeadwayRows, headway_rows_are_few};
+use optra_network::{Network, NoMemory};
+use optra_rows::HeadwayRows;
 use optra_tables::{ReadError, Table, TimedAct, read_actions, read_rules};
 use optra_text::PathText;
 use std::alloc::{AllocError, Global};
@@ -39,12 +44,13 @@ pub fn next_auction_file(
 ) -> Result<Option<Asked>, AllocError>
     ensures next { IfOk result (λ next. option_map file_asked next
         ≡ next_auction_file net.now bids.now stops.now rules.now actions.now (files_got got.now)) }
-    ensures few { IfOk result (λ next. IfSome next (λ _. length got.now < 9)) }
+    ensures few { IfOk result (λ next. IfSome next (λ _. length got.now ≤ MOST_TABLES + 1)) }
 {
-    if got.len() == TABLES {
+    let tables = version_in(alloc, got)?.table_count();
+    if got.len() == tables {
         return asked(alloc, Table::Rules, rules);
     }
-    if got.len() == TABLES + 1 {
+    if got.len() == tables + 1 {
         return asked(alloc, Table::Actions, actions);
     }
     next_table_file(alloc, net, bids, stops, got)
@@ -59,9 +65,10 @@ fn asked(alloc: Global, table: Table, name: &str) -> Result<Option<Asked>, Alloc
     Ok(Some(Asked { role, name }))
 }
 
-/// A network, the specifications of an auction on it, its rules and its actions.
+/// The version of the tables, a network, the specifications of an auction on it, its rules and its actions.
 #[derive(Drop)]
 pub struct AuctionTables {
+    pub version: Version,
     pub net: Network,
     pub specs: Vec<Bid>,
     pub rules: Rules,
@@ -77,25 +84,56 @@ pub fn reply(alloc: Global, files: &[Got], certs: &Option<PathText>) -> Result<A
 {
     let tables = read_auction(alloc, files)?;
     let AuctionTables {
+        version,
         net,
         specs,
         rules,
         actions,
     } = tables;
-    headway_rows_are_few(&net);
-    headway_kinds_are_apart();
-    let Ok(answer) = play(
-        alloc,
-        &net,
-        &HeadwayRows::new(),
-        specs,
-        rules,
-        actions,
-        certs,
-    ) else {
+    let Ok(answer) = play_by(alloc, version, &net, specs, rules, actions, certs) else {
         return Err(Fault::NoMemory);
     };
     Ok(answer)
+}
+
+/// Plays the auction by the rows of the tables' version.
+fn play_by(
+    alloc: Global,
+    version: Version,
+    net: &Network,
+    specs: Vec<Bid>,
+    rules: Rules,
+    actions: Vec<TimedAct>,
+    certs: &Option<PathText>,
+) -> Result<Answer, NoMemory>
+    requires specs { AreSpecs specs.items }
+    requires paths { All (λ spec. IsPathOn net.now spec.path) specs.items }
+    requires rules { AreRules rules }
+    requires actions { AreActions actions.items }
+    requires alone { version ≡ Version.First → HasHeadwaysAlone net.now }
+    ensures { IfOk result (λ answer. OfVersion version net.entry.now (λ R family Keeps.
+        IsPlayedOut family Keeps net.entry.now certs.now specs.items rules actions.items
+        answer.status answer.text.items (texts_of answer.puts.items))) }
+{
+    match version {
+        Version::First => {
+            headway_rows_are_told(net);
+            play(
+                alloc,
+                net,
+                &HeadwayRows::new(),
+                specs,
+                rules,
+                actions,
+                certs,
+            )
+        }
+        Version::Second => {
+            let _ = net.track_count();
+            all_rows_are_told(net);
+            play(alloc, net, &all_rows(), specs, rules, actions, certs)
+        }
+    }
 }
 
 /// The tables that the files mean. It errs by their first fault, or by want of memory.
@@ -105,6 +143,7 @@ fn read_auction(alloc: Global, files: &[Got]) -> Result<AuctionTables, ReadError
     ensures paths { IfOk result (λ tables. All (λ spec. IsPathOn tables.net spec.path) tables.specs.items) }
     ensures rules { IfOk result (λ tables. AreRules tables.rules) }
     ensures actions { IfOk result (λ tables. AreActions tables.actions.items) }
+    ensures alone { IfOk result (λ tables. tables.version ≡ Version.First → HasHeadwaysAlone tables.net) }
 {
     let tables = read_tables(alloc, files)?;
     let rules_text = table_content(files, Table::Rules);
@@ -112,6 +151,7 @@ fn read_auction(alloc: Global, files: &[Got]) -> Result<AuctionTables, ReadError
     let actions_text = table_content(files, Table::Actions);
     let actions = read_actions(alloc, actions_text)?;
     Ok(AuctionTables {
+        version: tables.version,
         net: tables.net,
         specs: tables.bids,
         rules,

@@ -1,23 +1,27 @@
 //! The check command: the file that it gets after the tables, and what it replies to the contents of its files.
-ghost use Rattle.std.specs.Prelude.{◌≡◌, ◌<◌, [], length, map, option_map, IfOk, IfErr, IfSome};
+ghost use Rattle.std.specs.Prelude.{◌≡◌, ◌≤◌, [], length, map, option_map, IfOk, IfErr, IfSome};
 ghost use Rattle.optra_bid.specs.Instances.{IsInstance};
 ghost use Rattle.optra_cert.specs.RowTexts.{AreApart};
 ghost use Rattle.optra_checker.specs.Verdicts.{IsVerdict};
-ghost use Rattle.optra_top.specs.CheckCommand.{CheckReplies, IsVerdictOn, PrintsVerdict, fault_number, next_check_file, reason_number, verdict_status, view_of};
+ghost use Rattle.optra_tables.specs.Bids.{parts_of};
+ghost use Rattle.optra_tables.specs.Networks.{HasHeadwaysAlone};
+ghost use Rattle.optra_top.specs.CheckCommand.{CheckReplies, IsVerdictOn, PrintsTablesVerdict, PrintsVerdict, fault_number, next_check_file, reason_number, verdict_status, view_of};
 ghost use Rattle.optra_top.specs.Faults.{EndsReply};
 ghost use Rattle.optra_top.specs.Files.{file_asked, files_got};
-ghost use Rattle.optra_top.specs.PlanLaws.{tables_of};
 ghost use Rattle.optra_top.specs.Plans.{TellsConflicts};
 ghost use Rattle.optra_top.specs.Puts.{texts_of};
 ghost use Rattle.optra_top.specs.Replies.{reply_of};
+ghost use Rattle.optra_top.specs.TablesRead.{tables_seen};
 
+use crate::families::{all_rows, all_rows_are_told, headway_rows_are_told};
 use crate::faults::Fault;
 use crate::files::{Asked, Got, Role, content_of};
-use crate::laws::headways_tell_conflicts;
+use crate::laws::{all_rows_tell_conflicts, headways_tell_conflicts};
 use crate::replies::Answer;
 use crate::statuses;
-use crate::table_files::{TABLES, next_table_file, read_tables};
-use optra_cert::{CertCode, CertError, RowText, headway_kinds_are_apart, read_certificate};
+use crate::table_files::{Tables, next_table_file, read_tables, version_in};
+use crate::versions::{MOST_TABLES, Version};
+use optra_cert::{CertCode, CertError, RowText, read_certificate};
 use optra_checker::{Reason, Verdict, check};
 use optra_network::NoMemory;
 use optra_node::bound_holds;
@@ -38,9 +42,9 @@ pub fn next_check_file(
 ) -> Result<Option<Asked>, AllocError>
     ensures next { IfOk result (λ next.
         option_map file_asked next ≡ next_check_file net.now bids.now stops.now cert.now (files_got got.now)) }
-    ensures few { IfOk result (λ next. IfSome next (λ _. length got.now < 8)) }
+    ensures few { IfOk result (λ next. IfSome next (λ _. length got.now ≤ MOST_TABLES)) }
 {
-    if got.len() == TABLES {
+    if got.len() == version_in(alloc, got)?.table_count() {
         let name = String::from_str(alloc, cert)?;
         let role = Role::Certificate;
         return Ok(Some(Asked { role, name }));
@@ -56,17 +60,35 @@ pub fn reply(alloc: Global, files: &[Got]) -> Result<Answer, Fault>
         EndsReply (λ reply. CheckReplies (files_got files.now) reply) fault) }
 {
     let tables = read_tables(alloc, files)?;
+    let Ok(answer) = answer_to(alloc, &tables, content_of(files, Role::Certificate)) else {
+        return Err(Fault::NoMemory);
+    };
+    Ok(answer)
+}
+
+/// Prints the verdict on bytes, by the rows of the tables' version.
+fn answer_to(alloc: Global, tables: &Tables, bytes: &[u8]) -> Result<Answer, NoMemory>
+    requires instance { IsInstance tables.now.net tables.now.bids.items }
+    requires alone { tables.now.version ≡ Version.First → HasHeadwaysAlone tables.now.net }
+    ensures { IfOk result (λ answer. PrintsTablesVerdict bytes.now (tables_seen tables.now)
+        answer.status answer.text.items (texts_of answer.puts.items)) }
+{
     let inst = Instance {
         net: &tables.net,
         bids: &tables.bids,
     };
-    headways_tell_conflicts(inst);
-    headway_kinds_are_apart();
-    let bytes = content_of(files, Role::Certificate);
-    let Ok(answer) = answer_by(alloc, inst, &HeadwayRows::new(), bytes) else {
-        return Err(Fault::NoMemory);
-    };
-    Ok(answer)
+    match tables.version {
+        Version::First => {
+            headways_tell_conflicts(inst);
+            headway_rows_are_told(inst.net);
+            answer_by(alloc, inst, &HeadwayRows::new(), bytes)
+        }
+        Version::Second => {
+            all_rows_tell_conflicts(inst);
+            all_rows_are_told(inst.net);
+            answer_by(alloc, inst, &all_rows(), bytes)
+        }
+    }
 }
 
 /// Prints the verdict on bytes, by a family of rows. Nothing is put.
@@ -84,7 +106,7 @@ fn answer_by<F: RowText>(
           cmp = F.Row.cmp;
           rows = F.rows_of rows.now net;
           texts = F.texts_of rows.now;
-        }) (F.KeepsRule rows.now net) bytes.now (tables_of net inst.entry.bids.now)
+        }) (F.KeepsRule rows.now net) bytes.now net (map parts_of inst.entry.bids.now)
         answer.status answer.text.items (texts_of answer.puts.items)) }
 {
     let view = verdict_on(alloc, inst, rows, bytes)?;

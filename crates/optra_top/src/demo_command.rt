@@ -1,7 +1,7 @@
 //! The demo command: tables that are drawn from a seed and a size, their plan, and the check of its certificate.
 ghost use Rattle.std.specs.Prelude.{◌≡◌, ◌≤◌, IfOk, IfErr};
 ghost use Rattle.optra_bid.specs.Instances.{IsInstance};
-ghost use Rattle.optra_tables.specs.Networks.{network_of};
+ghost use Rattle.optra_tables.specs.Networks.{HasHeadwaysAlone, HasItsVersion, network_of};
 ghost use Rattle.optra_tables.specs.Outcomes.{Gives};
 ghost use Rattle.optra_top.specs.DemoCommand.{DemoReplies, PrintsHeadwayDemo, demo_meaning};
 ghost use Rattle.optra_top.specs.Faults.{EndsReply};
@@ -12,19 +12,18 @@ ghost use Rattle.optra_top.specs.MadeTables.{made_net_files};
 ghost use Rattle.optra_top.specs.TablesRead.{tables_seen};
 
 use crate::check_command::verdict_on;
+use crate::families::headway_rows_are_told;
 use crate::faults::Fault;
 use crate::laws::headways_tell_conflicts;
 use crate::plan_command::{certificate_of, status};
 use crate::plans::plan_by;
 use crate::replies::Answer;
 use crate::table_files::Tables;
-use optra_cert::{
-    headway_kinds_are_apart, text_has_no_fault, text_tells_cert, valid_is_writable,
-    write_certificate,
-};
+use crate::versions::Version;
+use optra_cert::{text_has_no_fault, text_tells_cert, valid_is_writable, write_certificate};
 use optra_demo::{DemoTables, make};
 use optra_network::{Network, NoMemory};
-use optra_rows::{HeadwayRows, headway_rows_are_few};
+use optra_rows::HeadwayRows;
 use optra_search::Limits;
 use optra_tables::{NetFiles, ReadError, read_bids, read_network};
 use optra_text::{PlanView, demo_text};
@@ -63,6 +62,7 @@ fn read_demo(alloc: Global, seed: u32, size: u8) -> Result<Tables, NoMemory>
     requires most { size ≤ 9 }
     ensures read { IfOk result (λ tables. demo_meaning seed size ≡ Ok (tables_seen tables)) }
     ensures instance { IfOk result (λ tables. IsInstance tables.net tables.bids.items) }
+    ensures alone { IfOk result (λ tables. HasHeadwaysAlone tables.net) }
 {
     let made = make(alloc, seed, size)?;
     let net = match read_made_net(alloc, &made) {
@@ -75,12 +75,18 @@ fn read_demo(alloc: Global, seed: u32, size: u8) -> Result<Tables, NoMemory>
         Err(ReadError::NoMemory) => return Err(AllocError),
         Err(ReadError::Fault(_)) => unreachable!(),
     };
-    Ok(Tables { net, bids })
+    Ok(Tables {
+        version: Version::First,
+        net,
+        bids,
+    })
 }
 
 /// The network that its tables mean.
 fn read_made_net(alloc: Global, made: &DemoTables) -> Result<Network, ReadError>
-    ensures { Gives (λ net. net) result (network_of (made_net_files made.now)) }
+    requires { HasItsVersion (made_net_files made.now) }
+    ensures gives { Gives (λ net. net) result (network_of (made_net_files made.now)) }
+    ensures alone { IfOk result (λ net. HasHeadwaysAlone net) }
 {
     let files = NetFiles {
         stations: &made.stations,
@@ -88,20 +94,21 @@ fn read_made_net(alloc: Global, made: &DemoTables) -> Result<Network, ReadError>
         types: &made.types,
         running: &made.running,
         headways: &made.headways,
+        crossings: None,
     };
     read_network(alloc, &files)
 }
 
 /// Plans the bids on their network, checks the plan's certificate as it is written, and prints how both ended.
 fn answer(alloc: Global, seed: u32, size: u8, inst: Instance<'_>) -> Result<Answer, NoMemory>
-    requires { IsInstance inst.net.now inst.bids.now }
-    ensures { IfOk result (λ answer. PrintsHeadwayDemo seed size (tables_of inst.entry.net.now inst.entry.bids.now)
+    requires instance { IsInstance inst.net.now inst.bids.now }
+    requires alone { HasHeadwaysAlone inst.net.now }
+    ensures { IfOk result (λ answer. PrintsHeadwayDemo seed size (tables_of Version.First inst.entry.net.now inst.entry.bids.now)
         answer.status answer.text.items (texts_of answer.puts.items)) }
 {
     let rows = HeadwayRows::new();
     headways_tell_conflicts(inst);
-    headway_rows_are_few(inst.net);
-    headway_kinds_are_apart();
+    headway_rows_are_told(inst.net);
     let limits = Limits {
         steps: STEPS,
         budget: BUDGET,

@@ -2,20 +2,33 @@
 ghost use Rattle.std.specs.Prelude.{◌≤◌, length};
 ghost use Rattle.optra_rows.specs.Headways.{KeepsHeadwayRule};
 ghost use Rattle.optra_top.specs.CheckLaws.{ConfirmsPlan};
+ghost use Rattle.optra_tables.specs.Networks.{HasHeadwaysAlone};
 ghost use Rattle.optra_top.specs.DemoCommand.{IsAcceptedDemo};
+ghost use Rattle.optra_top.specs.Families.{KeepsAllRules};
 ghost use Rattle.optra_top.specs.PlanLaws.{OneText};
 ghost use Rattle.optra_top.specs.Plans.{HasPairs, TellsConflicts};
 
-use optra_cert::{headway_kinds_are_apart, text_has_no_fault, text_tells_cert};
+use crate::families::{all_rows, all_rows_are_told, headway_rows_are_told};
+use optra_cert::{text_has_no_fault, text_tells_cert};
 use optra_rows::HeadwayRows;
 use optra_search::plan_laws;
 use optra_walk::Instance;
 
-/// A law, and no work: a choice of an instance keeps the rule of the headway rows exactly where it is free of conflict.
+/// A law, and no work: on a network without crossings and limits of stations, a choice of an instance keeps the rule of the
+/// headway rows exactly where it is free of conflict.
 pub fn headways_tell_conflicts(inst: Instance<'_>)
+    requires { HasHeadwaysAlone inst.net.now }
     ensures { TellsConflicts inst.entry.net.now inst.entry.bids.now (KeepsHeadwayRule inst.entry.net.now) }
 {
     let _ = inst;
+}
+
+/// A law, and no work: a choice of an instance keeps the rule of the rows of headways, of crossings and of platforms
+/// exactly where it is free of conflict.
+pub fn all_rows_tell_conflicts(inst: Instance<'_>)
+    ensures { TellsConflicts inst.entry.net.now inst.entry.bids.now (KeepsAllRules inst.entry.net.now) }
+{
+    let _ = inst.net.track_count();
 }
 
 /// A law, and no work: the different pairs of a bid and a leg of one of its walks stand in a list. So their number, by which a
@@ -32,6 +45,8 @@ pub fn one_text(inst: Instance<'_>)
     ensures { OneText inst.entry.net.now inst.entry.bids.now }
 {
     plan_laws(inst, &HeadwayRows::new());
+    plan_laws(inst, &all_rows());
+    all_rows_are_told(inst.net);
 }
 
 /// A law, and no work: what the plan command puts as its certificate, the check command answers Yes of, with the printed
@@ -40,9 +55,12 @@ pub fn check_confirms_plan(inst: Instance<'_>)
     requires { length inst.bids.now ≤ 1000 }
     ensures { ConfirmsPlan inst.entry.net.now inst.entry.bids.now }
 {
-    headway_kinds_are_apart();
+    headway_rows_are_told(inst.net);
     text_tells_cert(inst, &HeadwayRows::new());
     text_has_no_fault(inst, &HeadwayRows::new());
+    all_rows_are_told(inst.net);
+    text_tells_cert(inst, &all_rows());
+    text_has_no_fault(inst, &all_rows());
 }
 
 /// A law, and no work: the tables by the rule of a demo are accepted, for every seed and every size.

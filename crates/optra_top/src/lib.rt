@@ -6,6 +6,7 @@ mod check_command;
 mod commands;
 mod demo_command;
 mod entry;
+mod families;
 mod family_repairer;
 mod faults;
 mod files;
@@ -17,8 +18,10 @@ mod playing;
 mod replies;
 mod statuses;
 mod table_files;
+mod versions;
 
 pub use entry::run;
 pub use laws::{
-    check_confirms_plan, demo_is_accepted, headways_tell_conflicts, one_text, pairs_are_listed,
+    all_rows_tell_conflicts, check_confirms_plan, demo_is_accepted, headways_tell_conflicts,
+    one_text, pairs_are_listed,
 };

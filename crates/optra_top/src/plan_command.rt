@@ -5,27 +5,29 @@ ghost use Rattle.optra_bid.specs.Instances.{IsInstance};
 ghost use Rattle.optra_cert.specs.Certs.{IsWritable};
 ghost use Rattle.optra_cert.specs.RowTexts.{AreApart};
 ghost use Rattle.optra_cert.specs.Writables.{AreFew};
+ghost use Rattle.optra_tables.specs.Bids.{parts_of};
+ghost use Rattle.optra_tables.specs.Networks.{HasHeadwaysAlone};
 ghost use Rattle.optra_top.specs.Faults.{EndsReply};
 ghost use Rattle.optra_top.specs.Files.{files_got};
-ghost use Rattle.optra_top.specs.PlanCommand.{IsStatusOf, PlanReplies, PrintsPlan, certificate_of, certificate_puts};
-ghost use Rattle.optra_top.specs.PlanLaws.{tables_of};
+ghost use Rattle.optra_top.specs.PlanCommand.{IsStatusOf, PlanReplies, PrintsPlan, PrintsTablesPlan, certificate_of, certificate_puts};
 ghost use Rattle.optra_top.specs.Plans.{TellsConflicts};
 ghost use Rattle.optra_top.specs.PlansAsked.{plan_asked};
 ghost use Rattle.optra_top.specs.Puts.{texts_of};
 ghost use Rattle.optra_top.specs.Replies.{reply_of};
+ghost use Rattle.optra_top.specs.TablesRead.{tables_seen};
 
+use crate::families::{all_rows, all_rows_are_told, headway_rows_are_told};
 use crate::faults::Fault;
 use crate::files::{FileText, Got};
-use crate::laws::headways_tell_conflicts;
+use crate::laws::{all_rows_tell_conflicts, headways_tell_conflicts};
 use crate::plans::plan_by;
 use crate::replies::Answer;
 use crate::statuses;
-use crate::table_files::read_tables;
-use optra_cert::{
-    Certificate, RowText, headway_kinds_are_apart, valid_is_writable, write_certificate,
-};
+use crate::table_files::{Tables, read_tables};
+use crate::versions::Version;
+use optra_cert::{Certificate, RowText, valid_is_writable, write_certificate};
 use optra_network::{Cents, NoMemory};
-use optra_rows::{HeadwayRows, headway_rows_are_few};
+use optra_rows::HeadwayRows;
 use optra_search::{Limits, Plan};
 use optra_text::{PathText, PlanView, plan_text};
 use optra_walk::Instance;
@@ -46,17 +48,41 @@ pub fn reply(
         EndsReply (λ reply. PlanReplies (plan_asked limits cert.now) (files_got files.now) reply) fault) }
 {
     let tables = read_tables(alloc, files)?;
+    let Ok(answer) = reply_to(alloc, &tables, limits, cert) else {
+        return Err(Fault::NoMemory);
+    };
+    Ok(answer)
+}
+
+/// Plans the bids by the rows of the tables' version, prints the plan, and puts its certificate where a path is given.
+fn reply_to(
+    alloc: Global,
+    tables: &Tables,
+    limits: Limits,
+    cert: &Option<PathText>,
+) -> Result<Answer, NoMemory>
+    requires instance { IsInstance tables.now.net tables.now.bids.items }
+    requires alone { tables.now.version ≡ Version.First → HasHeadwaysAlone tables.now.net }
+    requires budget { 1 ≤ limits.budget }
+    ensures { IfOk result (λ answer. PrintsTablesPlan (plan_asked limits cert.now) (tables_seen tables.now)
+        answer.status answer.text.items (texts_of answer.puts.items)) }
+{
     let inst = Instance {
         net: &tables.net,
         bids: &tables.bids,
     };
-    headways_tell_conflicts(inst);
-    headway_rows_are_few(inst.net);
-    headway_kinds_are_apart();
-    let Ok(answer) = reply_by(alloc, inst, &HeadwayRows::new(), limits, cert) else {
-        return Err(Fault::NoMemory);
-    };
-    Ok(answer)
+    match tables.version {
+        Version::First => {
+            headways_tell_conflicts(inst);
+            headway_rows_are_told(inst.net);
+            reply_by(alloc, inst, &HeadwayRows::new(), limits, cert)
+        }
+        Version::Second => {
+            all_rows_tell_conflicts(inst);
+            all_rows_are_told(inst.net);
+            reply_by(alloc, inst, &all_rows(), limits, cert)
+        }
+    }
 }
 
 /// Plans the bids on their network by a family of rows, prints the plan, and puts its certificate where a path is given.
@@ -77,7 +103,7 @@ fn reply_by<F: RowText>(
           cmp = F.Row.cmp;
           rows = F.rows_of rows.now net;
           texts = F.texts_of rows.now;
-        }) (F.KeepsRule rows.now net) (plan_asked limits cert.now) (tables_of net inst.entry.bids.now)
+        }) (F.KeepsRule rows.now net) (plan_asked limits cert.now) net (map parts_of inst.entry.bids.now)
         answer.status answer.text.items (texts_of answer.puts.items)) }
 {
     let plan = plan_by(alloc, inst, rows, limits)?;

@@ -3,30 +3,17 @@ ghost use Rattle.std.specs.Prelude.{◌≡◌, ◌<◌, ◌++◌, length, map, o
 ghost use Rattle.optra_network.specs.Names.{AllDiffer};
 ghost use Rattle.optra_bid.specs.Instances.{IsInstance};
 ghost use Rattle.optra_tables.specs.Outcomes.{Gives};
-ghost use Rattle.optra_tables.specs.Networks.{network_of};
+ghost use Rattle.optra_tables.specs.Networks.{HasHeadwaysAlone, network_of};
 ghost use Rattle.optra_top.specs.Files.{file_asked, files_got};
-ghost use Rattle.optra_top.specs.TableFiles.{all_tables, meaning_of, net_files, next_table_file, table_content, table_file_name};
+ghost use Rattle.optra_top.specs.TableFiles.{crossings_in, meaning_of, net_files, next_table_file, table_content, table_file_name, version_in};
 ghost use Rattle.optra_top.specs.TablesRead.{tables_seen};
 
 use crate::files::{Asked, Got, Role, content_of};
+use crate::versions::{MOST_TABLES, Version};
 use optra_bid::Bid;
-use optra_network::Network;
+use optra_network::{Network, NoMemory};
 use optra_tables::{NetFiles, ReadError, Table, read_bids, read_network};
 use std::alloc::{AllocError, Global};
-
-/// How many tables there are.
-pub const TABLES: usize = 7;
-
-/// The tables, in the order in which they are got.
-const ALL_TABLES: [Table; TABLES] = [
-    Table::Stations,
-    Table::Tracks,
-    Table::Types,
-    Table::Running,
-    Table::Headways,
-    Table::Bids,
-    Table::Stops,
-];
 
 /// The file of the next table after these files, or `None` once all are got. The words name the network's folder, the
 /// bids and the stops.
@@ -39,9 +26,10 @@ pub fn next_table_file(
 ) -> Result<Option<Asked>, AllocError>
     ensures next { IfOk result (λ next.
         option_map file_asked next ≡ next_table_file net.now bids.now stops.now (files_got got.now)) }
-    ensures few { IfOk result (λ next. IfSome next (λ _. length got.now < 7)) }
+    ensures few { IfOk result (λ next. IfSome next (λ _. length got.now < MOST_TABLES)) }
 {
-    let Some(table) = table_at(got.len()) else {
+    let version = version_in(alloc, got)?;
+    let Some(table) = version.table_at(got.len()) else {
         return Ok(None);
     };
     let name = file_name(alloc, net, bids, stops, table)?;
@@ -49,12 +37,11 @@ pub fn next_table_file(
     Ok(Some(Asked { role, name }))
 }
 
-/// The table at a place.
-fn table_at(place: usize) -> Option<Table>
-    ensures table { result ≡ slice_get all_tables place }
-    ensures few { IfSome result (λ _. place < 7) }
+/// The version of the tables among these files: that of their stations, and version 1 as long as there are none.
+pub fn version_in(alloc: Global, got: &[Got]) -> Result<Version, NoMemory>
+    ensures { IfOk result (λ version. version ≡ version_in (files_got got.now)) }
 {
-    ALL_TABLES.get(place).copied()
+    Version::of(alloc, table_content(got, Table::Stations))
 }
 
 /// The name of a table's file. The tables of an auction have none among these words.
@@ -73,6 +60,7 @@ fn file_name(
         Table::Types => joined(alloc, net, "/types.csv"),
         Table::Running => joined(alloc, net, "/running.csv"),
         Table::Headways => joined(alloc, net, "/headways.csv"),
+        Table::Crossings => joined(alloc, net, "/crossings.csv"),
         Table::Bids => joined(alloc, bids, ""),
         Table::Stops => joined(alloc, stops, ""),
         Table::Rules | Table::Actions => Ok(String::new(alloc)),
@@ -88,9 +76,10 @@ fn joined(alloc: Global, front: &str, back: &str) -> Result<String, AllocError>
     Ok(text)
 }
 
-/// A network and its bids.
+/// A network and its bids, and the version of their tables.
 #[derive(Drop)]
 pub struct Tables {
+    pub version: Version,
     pub net: Network,
     pub bids: Vec<Bid>,
 }
@@ -100,17 +89,21 @@ pub fn read_tables(alloc: Global, files: &[Got]) -> Result<Tables, ReadError>
     ensures read { Gives tables_seen result (meaning_of (files_got files.now)) }
     ensures instance { IfOk result (λ tables. IsInstance tables.net tables.bids.items) }
     ensures names { IfOk result (λ tables. AllDiffer (map (λ bid. bid.name) tables.bids.items)) }
+    ensures alone { IfOk result (λ tables. tables.version ≡ Version.First → HasHeadwaysAlone tables.net) }
 {
-    let net = read_net(alloc, files)?;
+    let version = version_in(alloc, files)?;
+    let net = read_net(alloc, version, files)?;
     let bids = table_content(files, Table::Bids);
     let stops = table_content(files, Table::Stops);
     let bids = read_bids(alloc, &net, bids, stops)?;
-    Ok(Tables { net, bids })
+    Ok(Tables { version, net, bids })
 }
 
 /// The network that its tables mean.
-fn read_net(alloc: Global, files: &[Got]) -> Result<Network, ReadError>
-    ensures { Gives (λ net. net) result (network_of (net_files (files_got files.now))) }
+fn read_net(alloc: Global, version: Version, files: &[Got]) -> Result<Network, ReadError>
+    requires { version ≡ version_in (files_got files.now) }
+    ensures gives { Gives (λ net. net) result (network_of (net_files (files_got files.now))) }
+    ensures alone { IfOk result (λ net. version ≡ Version.First → HasHeadwaysAlone net) }
 {
     let tables = NetFiles {
         stations: table_content(files, Table::Stations),
@@ -118,8 +111,19 @@ fn read_net(alloc: Global, files: &[Got]) -> Result<Network, ReadError>
         types: table_content(files, Table::Types),
         running: table_content(files, Table::Running),
         headways: table_content(files, Table::Headways),
+        crossings: crossings_in(version, files),
     };
     read_network(alloc, &tables)
+}
+
+/// The content of the crossings, in version 2.
+fn crossings_in(version: Version, files: &[Got]) -> Option<&[u8]>
+    ensures { option_map (λ bytes. bytes.now) result ≡ crossings_in version (files_got files.now) }
+{
+    match version {
+        Version::First => None,
+        Version::Second => Some(table_content(files, Table::Crossings)),
+    }
 }
 
 /// The content of a table's file.

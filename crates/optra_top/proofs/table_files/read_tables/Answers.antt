@@ -1,6 +1,9 @@
 -- The first fault of the network's tables, or else of the bids', is that of the tables.
 use Rattle.optra_top.specs.Files.{files_got}
-use Rattle.optra_top.specs.TableFiles.{meaning_of}
+use Rattle.std.proofs.Common.{map, Ok, sym, ap, ◌∙◌}
+use Rattle.optra_tables.specs.Bids.{parts_of}
+use Rattle.optra_top.specs.TableFiles.{Tables, meaning_of}
+use Rattle.optra_top.specs.declared.versions.Version.{Version}
 use Rattle.optra_top.specs.TablesRead.{tables_seen}
 use Rattle.optra_top.proofs.RefusalLemmas.{Fails-net, Fails-bids, Gives-kept, meaning-read}
 use Rattle.optra_top.proofs.table_files.read_tables.Goals as goal
@@ -8,15 +11,17 @@ use Rattle.optra_top.proofs.table_files.read_tables.Goals as goal
 pub returns-in_err-net-clause-read : goal.returns-in_err-net-clause-read
 returns-in_err-net-clause-read c =
     let contents = files_got c.args.files.now in
-    Gives-kept tables_seen c.from_residual.result c.in_err-net.field-0.0 (meaning_of contents) c.from_residual.ensures.1 (Fails-net contents c.in_err-net.field-0.0 c.in_err-net.ensures)
+    Gives-kept tables_seen c.from_residual-in_err-net.result c.in_err-net.field-0.0 (meaning_of contents) c.from_residual-in_err-net.ensures.1 (Fails-net contents c.in_err-net.field-0.0 c.in_err-net.ensures.gives)
 
 pub returns-in_err-bids-clause-read : goal.returns-in_err-bids-clause-read
 returns-in_err-bids-clause-read c =
     let contents = files_got c.args.files.now in
     let fails = rw (c.table_content-bids.ensures, c.table_content-stops.ensures) at c.in_err-bids.ensures.gives in
-    Gives-kept tables_seen c.from_residual-in_err-bids.result c.in_err-bids.field-0.0 (meaning_of contents) c.from_residual-in_err-bids.ensures.1 (Fails-bids contents c.in_ok-net.net c.in_err-bids.field-0.0 c.in_ok-net.ensures fails)
+    Gives-kept tables_seen c.from_residual-in_err-bids.result c.in_err-bids.field-0.0 (meaning_of contents) c.from_residual-in_err-bids.ensures.1 (Fails-bids contents c.in_ok-net.net c.in_err-bids.field-0.0 c.in_ok-net.ensures.gives fails)
 
 pub returns-clause-read : goal.returns-clause-read
 returns-clause-read c =
     let read = rw (c.table_content-bids.ensures, c.table_content-stops.ensures) at c.in_ok-bids.ensures.gives in
-    meaning-read (files_got c.args.files.now) c.in_ok-net.net _ c.in_ok-net.ensures read
+    let tables : Version → Tables = λ version. record { version = version; net = c.in_ok-net.net; bids = map parts_of c.in_ok-bids.bids.items } in
+    meaning-read (files_got c.args.files.now) c.in_ok-net.net _ c.in_ok-net.ensures.gives read
+    ∙ ap (λ (version : Version). Ok (tables version)) (sym c.in_ok-version.ensures)
