@@ -3,7 +3,7 @@
 
 On the demo tables of sizes 3, 6 and 9 it plans without and with `--cert`, and checks what was put. Then it makes
 certificates by hand: 100,000 splits in a row, which end too early; prices of 200 MB, without their last leaf, so that they are
-read to their end and refused there; and valid ones of 2,501, 5,001 and 10,001 nodes, whose check should grow with their
+read to their end and refused there; and valid ones of 2,501, 5,001 and 10,001 nodes, whose check grows with their
 number. Of each it prints the user and system seconds (the least of three turns), the peak memory, and the verdict.
 """
 import os

@@ -3,8 +3,8 @@
 
     python3 bench/plain.py FOLDER [--steps K] [--budget B] [--cert FILE] [--trace]
 
-FOLDER has net/ with its five tables, bids.csv and stops.csv; they are taken as accepted, no fault is looked for. Prints what
-`optra plan` prints, and ends with its status. With --cert the certificate of the plan is written there. With --trace each node
+FOLDER has net/ with its five tables, or with six of version 2, bids.csv and stops.csv; they are taken as accepted, no fault is looked
+for. Prints what `optra plan` prints, and ends with its status. With --cert the certificate of the plan is written there. With --trace each node
 that is taken is told on standard error. Every walk of every bid is listed, so this is for small cases alone.
 """
 import argparse
@@ -12,8 +12,8 @@ import csv
 import sys
 from collections import Counter, namedtuple
 
-CAPACITY = 1
 LAST_MINUTE = 2879
+LONGEST_CROSSING = 120
 GREATEST_PRICE = 2_000_000_000_000
 
 # Actions in their order: a kind by its rank, and a dwell.
@@ -27,7 +27,8 @@ Bid = namedtuple("Bid", "name bidder kind origin destination depart arrive base 
 Leg = namedtuple("Leg", "track depart from_halt action dwell")
 Walk = namedtuple("Walk", "legs value")
 Decision = namedtuple("Decision", "bid leg yes")
-Network = namedtuple("Network", "stations tracks types running headways")
+# Crossings are minutes by (first track, second track, first type, second type); a limit of 0 is none.
+Network = namedtuple("Network", "version stations limits tracks types running headways crossings")
 Valuation = namedtuple("Valuation", "value terms replies")
 Candidate = namedtuple("Candidate", "prices dual")
 Open = namedtuple("Open", "node start")
@@ -38,13 +39,20 @@ Plan = namedtuple("Plan", "choice revenue bound nodes items turns rest")
 
 # Tables
 
-def records(path):
+def all_records(path):
     with open(path, newline="", encoding="utf-8-sig") as file:
-        return [record for record in csv.reader(file) if record][1:]
+        return [record for record in csv.reader(file) if record]
+
+
+def records(path):
+    return all_records(path)[1:]
 
 
 def read_network(folder):
-    stations = [name for name, in records(f"{folder}/stations.csv")]
+    header, *rows = all_records(f"{folder}/stations.csv")
+    version = len(header)
+    stations = [row[0] for row in rows]
+    limits = [int(row[1]) if version == 2 else 0 for row in rows]
     tracks = [Track(name, stations.index(tail), stations.index(head)) for name, tail, head in records(f"{folder}/tracks.csv")]
     types = [name for name, in records(f"{folder}/types.csv")]
     place = {track.name: i for i, track in enumerate(tracks)}
@@ -52,7 +60,9 @@ def read_network(folder):
                for track, kind, *times in records(f"{folder}/running.csv")}
     headways = {(place[track], types.index(a), types.index(b)): int(minutes)
                 for track, a, b, minutes in records(f"{folder}/headways.csv")}
-    return Network(stations, tracks, types, running, headways)
+    crossings = {(place[first], place[second], types.index(a), types.index(b)): int(minutes)
+                 for first, second, a, b, minutes in (records(f"{folder}/crossings.csv") if version == 2 else [])}
+    return Network(version, stations, limits, tracks, types, running, headways, crossings)
 
 
 def read_bids(net, bids_path, stops_path):
@@ -82,16 +92,23 @@ def in_conflict(net, track, a, t, b, u):
     return not (u >= t + net.headways[track, a, b] or t >= u + net.headways[track, b, a])
 
 
+def breaks_crossing(net, first, second):
+    """Whether two uses (track, type, minute) of two tracks with a crossing come too close one after the other."""
+    (one, a, t), (other, b, u) = first, second
+    return not (u >= t + net.crossings[one, other, a, b] or t >= u + net.crossings[other, one, b, a])
+
+
 def window(net, track, kind, minute):
     """The window minutes of a use: as many as the least headway after its type."""
     least = min(net.headways[track, kind, other] for other in range(len(net.types)) if may_use(net, track, other))
     return range(minute, minute + least)
 
 
-def rows_of(net, track, kind, minute):
-    """The rows that a use takes, ascending: (0, track, minute) is a window, (1, track, minute, type, minute, type) a pair."""
+def headway_rows(net, track, kind, minute):
+    """(0, track, minute) is a window, (1, track, minute, type, minute, type) a pair."""
     mine = window(net, track, kind, minute)
-    found = [(0, track, m) for m in mine]
+    for m in mine:
+        yield (0, track, m)
     for other in range(len(net.types)):
         if not may_use(net, track, other):
             continue
@@ -100,8 +117,30 @@ def rows_of(net, track, kind, minute):
             theirs = window(net, track, other, u)
             if in_conflict(net, track, kind, minute, other, u) and not set(mine) & set(theirs):
                 first, second = sorted([(minute, kind), (u, other)])
-                found.append((1, track, *first, *second))
-    return sorted(found)
+                yield (1, track, *first, *second)
+
+
+def cross_rows(net, track, kind, minute):
+    """(2, track, minute, type, track, minute, type): two uses that break their crossing, the one on the lesser track first."""
+    for one, other, a, b in net.crossings:
+        if (one, a) == (track, kind) and may_use(net, other, b):
+            for u in range(max(0, minute - LONGEST_CROSSING), min(LAST_MINUTE, minute + LONGEST_CROSSING) + 1):
+                if breaks_crossing(net, (track, kind, minute), (other, b, u)):
+                    first, second = sorted([(track, minute, kind), (other, u, b)])
+                    yield (2, *first, *second)
+
+
+def halt_rows(net, kind, leg):
+    """(3, station, minute): the leg stands at its head, where so many trains may stand as the limit says."""
+    head = net.tracks[leg.track].head
+    if net.limits[head] > 0 and leg.action in (HALT, WAIT):
+        arrive = arrival(net, kind, leg)
+        for m in range(arrive, min(arrive + leg.dwell, LAST_MINUTE + 1)):
+            yield (3, head, m)
+
+
+def capacity(net, row):
+    return net.limits[row[1]] if row[0] == 3 else 1
 
 
 def next_legs(net, bid, state):
@@ -166,10 +205,14 @@ class Planner:
         self.known_rows = {}
 
     def rows(self, bid, leg):
+        """The rows that a leg of the bid takes."""
         use = (leg.track, self.bids[bid].kind, leg.depart)
         if use not in self.known_rows:
-            self.known_rows[use] = rows_of(self.net, *use)
-        return self.known_rows[use]
+            self.known_rows[use] = [*headway_rows(self.net, *use), *cross_rows(self.net, *use)]
+        return self.known_rows[use] + list(halt_rows(self.net, self.bids[bid].kind, leg))
+
+    def capacity(self, row):
+        return capacity(self.net, row)
 
     def load(self, choice):
         """How much the walks of a choice use of each row."""
@@ -189,13 +232,13 @@ class Planner:
         no = {d.leg for d in node if d.bid == bid and not d.yes}
         taken = Counter(row for d in node if d.yes and d.bid != bid for row in self.rows(d.bid, d.leg))
         legs = {leg for walk in self.walks[bid] for leg in walk.legs}
-        barred = no | {leg for leg in legs if any(1 + taken[row] > CAPACITY for row in self.rows(bid, leg))}
+        barred = no | {leg for leg in legs if any(1 + taken[row] > self.capacity(row) for row in self.rows(bid, leg))}
         return [walk for walk in self.walks[bid] if yes.issubset(walk.legs) and barred.isdisjoint(walk.legs)]
 
     def dead(self, node, allowed):
         """The item of a dead node, or None."""
         use = Counter(row for d in node if d.yes for row in self.rows(d.bid, d.leg))
-        overfull = [row for row in use if use[row] > CAPACITY]
+        overfull = [row for row in use if use[row] > self.capacity(row)]
         if overfull:
             return ("forced", min(overfull))
         stuck = self.stuck(node, allowed)
@@ -224,7 +267,7 @@ class Planner:
                 best, reply = 0, None
             terms.append(0 if best is None else best)
             replies.append(reply)
-        total = 0 if self.stuck(node, allowed) else sum(prices.values()) * CAPACITY + sum(terms)
+        total = 0 if self.stuck(node, allowed) else sum(prices[row] * self.capacity(row) for row in prices) + sum(terms)
         return Valuation(total, terms, replies)
 
     def step(self, k, prices, replies):
@@ -232,7 +275,8 @@ class Planner:
         greatest = max((bid.base for bid in self.bids), default=0)
         length = max(1, greatest * 1000 // (4 * (k + 1)))
         use = self.load(replies)
-        after = {row: min(max(prices.get(row, 0) + length * (use[row] - CAPACITY), 0), GREATEST_PRICE) for row in {*prices, *use}}
+        after = {row: min(max(prices.get(row, 0) + length * (use[row] - self.capacity(row)), 0), GREATEST_PRICE)
+                 for row in {*prices, *use}}
         return {row: price for row, price in after.items() if price > 0}
 
     def price_path(self, node, allowed, start, steps, incumbent):
@@ -253,7 +297,7 @@ class Planner:
     def fits(self, use, legs, bid):
         """Whether the legs, all of them with what is placed, get no row above its capacity."""
         whole = Counter(row for leg in legs for row in self.rows(bid, leg))
-        return all(use[row] + whole[row] <= CAPACITY for row in whole)
+        return all(use[row] + whole[row] <= self.capacity(row) for row in whole)
 
     def repair(self, allowed, dual):
         """A choice, made by bids that take walks one after the other."""
@@ -278,7 +322,7 @@ class Planner:
         free = [(bid, leg) for bid, walk in enumerate(replies) if walk for leg in walk.legs if (bid, leg) not in fixed]
         use = self.load(replies)
         for bid, leg in free:
-            if any(use[row] > CAPACITY for row in self.rows(bid, leg)):
+            if any(use[row] > self.capacity(row) for row in self.rows(bid, leg)):
                 return bid, leg
         for entry in free:
             return entry
@@ -359,15 +403,21 @@ def leg_fields(net, bid, leg):
 
 
 def row_fields(net, row):
-    if row[0] == 0:
-        return ("window", net.tracks[row[1]].name, row[2])
-    _, track, t, a, u, b = row
-    return ("pair", net.tracks[track].name, net.types[a], t, net.types[b], u)
+    kind, *fields = row
+    if kind == 0:
+        return ("window", net.tracks[fields[0]].name, fields[1])
+    if kind == 1:
+        track, t, a, u, b = fields
+        return ("pair", net.tracks[track].name, net.types[a], t, net.types[b], u)
+    if kind == 2:
+        first, t, a, second, u, b = fields
+        return ("cross", net.tracks[first].name, t, net.types[a], net.tracks[second].name, u, net.types[b])
+    return ("halt", net.stations[fields[0]], fields[1])
 
 
 def certificate_text(net, plan):
     """The certificate of the plan."""
-    lines = [("optra-certificate", 1), ("revenue", plan.revenue), ("bound", plan.bound)]
+    lines = [("optra-certificate", net.version), ("revenue", plan.revenue), ("bound", plan.bound)]
     lines += [("leg", *leg_fields(net, bid, leg)) for bid, walk in enumerate(plan.choice) if walk for leg in walk.legs]
     for kind, *rest in plan.items:
         if kind == "split":
@@ -388,10 +438,7 @@ def leg_text(net, leg):
 
 
 def row_text(net, row):
-    if row[0] == 0:
-        return f"window {net.tracks[row[1]].name} {row[2]}"
-    _, track, t, a, u, b = row
-    return f"pair {net.tracks[track].name} {net.types[a]} {t} {net.types[b]} {u}"
+    return " ".join(map(str, row_fields(net, row)))
 
 
 def listed(parts):

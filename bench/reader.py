@@ -3,17 +3,18 @@
 
     python3 bench/reader.py FOLDER [CERTIFICATE]
 
-FOLDER has net/ with its five tables, bids.csv and stops.csv. Prints the line of the first fault of the tables and ends with 3.
+FOLDER has net/ with its five tables, or with six of version 2, bids.csv and stops.csv. Prints the line of the first fault of the tables and ends with 3.
 Without a fault and with a certificate it prints the verdict, and ends with 0 or 4. Every dual value is found anew at each leaf,
 over a table of all moments of a bid, so this is for small cases.
 """
 import re
 import sys
-from collections import namedtuple
+from collections import Counter, namedtuple
 
 BYTE_ORDER_MARK = b"\xef\xbb\xbf"
 LAST_MINUTE, LAST_ROW_MINUTE = 2879, 2998
 GREATEST_PRICE = 2_000_000_000_000
+MOST_REACH = 4000
 
 HEADERS = {
     "stations": "station",
@@ -21,15 +22,18 @@ HEADERS = {
     "types": "type",
     "running": "track,type,pass_pass,pass_halt,halt_pass,halt_halt",
     "headways": "track,first,second,minutes",
+    "crossings": "first_track,second_track,first,second,minutes",
     "bids": "bid,bidder,type,origin,destination,depart_from,depart_ideal,depart_to,arrive_from,arrive_ideal,arrive_to,"
             "base,early_depart,late_depart,early_arrive,late_arrive,travel,wait,wait_max",
     "stops": "bid,station,min_dwell,max_dwell,arrive_from,arrive_to",
     "rules": "min_increment,permille,rounds",
     "actions": "round,bidder,action,bid,spec,amount",
 }
-NAMES = {"station", "track", "from", "to", "type", "first", "second", "bid", "bidder", "origin", "destination", "spec"}
+STATIONS_2 = "station,halt_max"
+NAMES = {"station", "track", "first_track", "second_track", "from", "to", "type", "first", "second", "bid", "bidder", "origin", "destination", "spec"}
 # Which fields of an action are read beside the others, by its word.
 READ_OF = {"open": {"spec", "amount"}, "raise": {"amount"}, "amend": {"spec"}, "withdraw": set()}
+# The tables of a plan in version 1; in version 2 the crossings come behind the headways.
 PLAN_TABLES = ["stations", "tracks", "types", "running", "headways", "bids", "stops"]
 
 Leg = namedtuple("Leg", "track depart from_halt action dwell")
@@ -102,12 +106,22 @@ def is_name(field):
 
 # Tables
 
-def rows(table, text):
-    """The rows of a table behind its header, each with its number and its fields: names as texts, numbers as numbers."""
-    header = HEADERS[table].split(",")
+def table_records(text):
+    """The records of a table: one byte-order mark is dropped, and behind a second one there are none."""
     if text.startswith(BYTE_ORDER_MARK):
         text = text[3:]
-    found = records(b"" if text.startswith(BYTE_ORDER_MARK) else text)
+    return records(b"" if text.startswith(BYTE_ORDER_MARK) else text)
+
+
+def version_of(stations):
+    """The version of the tables, by the header of the stations."""
+    return 2 if next(table_records(stations), None) == STATIONS_2.encode().split(b",") else 1
+
+
+def rows(table, text, header=None):
+    """The rows of a table behind its header, each with its number and its fields: names as texts, numbers as numbers."""
+    header = (header or HEADERS[table]).split(",")
+    found = table_records(text)
     if next(found, None) != [word.encode() for word in header]:
         raise Refused(table, 1, "Header")
     for number, record in enumerate(found, start=2):
@@ -135,15 +149,18 @@ def refuse_if(holds, table, row, code):
 
 
 class Network:
-    """The network that the five tables mean."""
+    """The network that the tables mean."""
 
     def __init__(self, tables):
+        self.version = version_of(tables["stations"])
         self.stations, self.tracks, self.types = [], [], []
-        self.ends, self.running, self.headways = {}, {}, {}
-        for row, (name,) in rows("stations", tables["stations"]):
+        self.limits, self.ends, self.running, self.headways, self.crossings = {}, {}, {}, {}, {}
+        for row, (name, *limit) in rows("stations", tables["stations"], STATIONS_2 if self.version == 2 else None):
             refuse_if(len(self.stations) == 300, "stations", row, "N7")
             refuse_if(name in self.stations, "stations", row, "N1")
+            refuse_if(max(limit, default=0) > 1000, "stations", row, "N3")
             self.stations.append(name)
+            self.limits[name] = max(limit, default=0)
         for row, (name, tail, head) in rows("tracks", tables["tracks"]):
             refuse_if(len(self.tracks) == 1000, "tracks", row, "N7")
             refuse_if(name in self.ends, "tracks", row, "N1")
@@ -170,8 +187,24 @@ class Network:
             users.setdefault(track, []).append(kind)
         refuse_if(any((track, a, b) not in self.headways for track, kinds in users.items() for a in kinds for b in kinds),
                   "headways", 0, "N6")
+        if self.version == 2:
+            self.read_crossings(tables["crossings"])
         self.least = {(track, a): min(self.headways[track, a, b] for b in kinds) for track, kinds in users.items() for a in kinds}
         self.leaving = {station: [t for t in self.tracks if self.ends[t][0] == station] for station in self.stations}
+
+    def read_crossings(self, text):
+        for row, (one, other, first, second, minutes) in rows("crossings", text):
+            refuse_if(not {one, other} <= self.ends.keys() or not {first, second} <= set(self.types), "crossings", row, "N2")
+            refuse_if(one == other, "crossings", row, "N4")
+            refuse_if(not 1 <= minutes <= 120, "crossings", row, "N3")
+            refuse_if((one, other, first, second) in self.crossings, "crossings", row, "N5")
+            self.crossings[one, other, first, second] = minutes
+        refuse_if(any((other, one, second, first) not in self.crossings for one, other, first, second in self.crossings),
+                  "crossings", 0, "N8")
+        reach = Counter()
+        for (one, other, first, second), minutes in self.crossings.items():
+            reach[one, first] += minutes + self.crossings[other, one, second, first] - 1
+        refuse_if(max(reach.values(), default=0) > MOST_REACH, "crossings", 0, "N9")
 
 
 class Bid:
@@ -234,7 +267,7 @@ def records_behind(text):
 
 
 def read_tables(tables):
-    """The network and the bids of the seven tables, which are bytes by their names; or Refused."""
+    """The network and the bids of the tables, which are bytes by their names; or Refused."""
     net = Network(tables)
     return net, read_bids(net, tables)
 
@@ -251,10 +284,11 @@ def written(record):
 # What stands in the fields behind the first word of a record.
 LEG_FIELDS = ["bid", "track", "departure", "from", "action", "dwell"]
 ROW_FIELDS = {"window": ["track", "minute"], "pair": ["track", "type", "minute", "type", "minute"]}
+ROW_FIELDS_2 = {**ROW_FIELDS, "cross": ["track", "minute", "type", "track", "minute", "type"], "halt": ["station", "minute"]}
 WORDS = {"from": ["halt", "pass"], "action": ["pass", "halt", "wait", "finish"]}
 
 
-def form_of(record):
+def form_of(record, row_fields):
     """What stands in each field behind the first word, or None where the record has no form."""
     word, cells = record[0], record[1:]
     if word in ("revenue", "bound", "priced"):
@@ -264,9 +298,9 @@ def form_of(record):
     elif word == "nowalk":
         form = ["bid"]
     elif word in ("forced", "price"):
-        if not cells or cells[0] not in ROW_FIELDS:
+        if not cells or cells[0] not in row_fields:
             return None
-        form = ["kind", *ROW_FIELDS[cells[0]]] + (["number"] if word == "price" else [])
+        form = ["kind", *row_fields[cells[0]]] + (["number"] if word == "price" else [])
     else:
         return None
     if len(cells) != len(form) or any(cell not in WORDS.get(part, [cell]) for part, cell in zip(form, cells)):
@@ -285,8 +319,10 @@ class Certificate:
                 or b"".join(map(written, found)) != text):
             raise Unreadable(0, "C1")
         found = [[field.decode("utf-8") for field in record] for record in found]
-        if found[:1] != [["optra-certificate", "1"]]:
+        versions = [["optra-certificate", str(version)] for version in range(1, net.version + 1)]
+        if not found or found[0] not in versions:
             raise Unreadable(1, "C2")
+        self.row_fields = ROW_FIELDS_2 if found[0] == ["optra-certificate", "2"] else ROW_FIELDS
         self.open, self.due, self.heads = 1, 0, ["revenue", "bound"]
         for row, record in enumerate(found[1:], start=2):
             self.take(row, record)
@@ -304,7 +340,7 @@ class Certificate:
     def take(self, row, record):
         if not self.open:
             raise Unreadable(row, "C6")
-        form = form_of(record) if record[0] in self.may_come() else None
+        form = form_of(record, self.row_fields) if record[0] in self.may_come() else None
         if form is None:
             raise Unreadable(row, "C3")
         values = []
@@ -345,17 +381,24 @@ class Certificate:
 
     def order(self, row):
         """What rows ascend by."""
-        if row[0] == "window":
-            return (0, self.net.tracks.index(row[1]), row[2])
-        _, track, first, t, second, u = row
-        return (1, self.net.tracks.index(track), t, self.net.types.index(first), u, self.net.types.index(second))
+        kind, *fields = row
+        track_at, type_at = self.net.tracks.index, self.net.types.index
+        if kind == "window":
+            return (0, track_at(fields[0]), fields[1])
+        if kind == "pair":
+            track, first, t, second, u = fields
+            return (1, track_at(track), t, type_at(first), u, type_at(second))
+        if kind == "cross":
+            one, t, first, other, u, second = fields
+            return (2, track_at(one), t, type_at(first), track_at(other), u, type_at(second))
+        return (3, self.net.stations.index(fields[0]), fields[1])
 
     def value(self, row, part, cell, before):
         """What a field says."""
         if part in ("from", "action", "kind"):
             return cell == "halt" if part == "from" else cell
-        if part in ("track", "type"):
-            if cell not in (self.net.ends if part == "track" else self.net.types):
+        if part in ("track", "type", "station"):
+            if cell not in {"track": self.net.ends, "type": self.net.types, "station": self.net.stations}[part]:
                 raise Unreadable(row, "C4")
             return cell
         least, most = {"bid": (1, len(self.bids)), "departure": (0, LAST_MINUTE), "minute": (0, LAST_ROW_MINUTE),
@@ -414,21 +457,69 @@ def end_loss(bid, arrive):
 def in_conflict(net, a, b):
     """Whether two uses (track, type, minute) exclude one another."""
     (track, first, t), (other, second, u) = a, b
-    return track == other and not (u >= t + net.headways[track, first, second] or t >= u + net.headways[track, second, first])
+    if track != other:
+        after, before = net.crossings.get((track, other, first, second)), net.crossings.get((other, track, second, first))
+        return after is not None and not (u >= t + after or t >= u + before)
+    return not (u >= t + net.headways[track, first, second] or t >= u + net.headways[track, second, first])
 
 
-def uses_row(net, use, row):
-    """Whether a use takes a row."""
+def standing(net, kind, leg):
+    """The limited station where a leg stands and its minutes there; none where it doesn't."""
+    head = net.ends[leg.track][1]
+    if leg.action not in ("halt", "wait") or not net.limits[head]:
+        return head, range(0)
+    arrive = arrival(net, kind, leg)
+    return head, range(arrive, min(arrive + leg.dwell, LAST_MINUTE + 1))
+
+
+def stands(net, kind, leg, station, minute):
+    head, minutes = standing(net, kind, leg)
+    return head == station and minute in minutes
+
+
+def use_of(kind, leg):
+    return leg.track, kind, leg.depart
+
+
+def uses_row(net, kind, leg, row):
+    """Whether a leg of a type that may use its track takes a row."""
+    if row[0] == "halt":
+        return stands(net, kind, leg, *row[1:])
+    return has_use(net, use_of(kind, leg), row)
+
+
+def has_use(net, use, row):
+    """Whether a use takes a row of headways or crossings."""
     track, kind, minute = use
     if row[0] == "window":
         return row[1] == track and minute <= row[2] < minute + net.least[track, kind]
-    return is_row(net, row) and use in [(row[1], row[2], row[3]), (row[1], row[4], row[5])]
+    return row[0] != "halt" and is_row(net, row) and use in row_uses(row)
+
+
+def row_uses(row):
+    """The two uses of a pair or of a crossing."""
+    if row[0] == "pair":
+        _, track, first, t, second, u = row
+        return [(track, first, t), (track, second, u)]
+    _, one, t, first, other, u, second = row
+    return [(one, first, t), (other, second, u)]
+
+
+def capacity(net, row):
+    return net.limits[row[1]] if row[0] == "halt" else 1
 
 
 def is_row(net, row):
-    """Whether a row that was read is one: each minute of a track, and each two uses in conflict that share no window minute."""
+    """Whether a row that was read is one: each minute of a track, each two uses in conflict that share no window minute, each two
+    uses that break their crossing, the one on the lesser track first, and each minute of a station with a limit."""
     if row[0] == "window":
         return True
+    if row[0] == "halt":
+        return net.limits[row[1]] > 0 and row[2] <= LAST_MINUTE
+    if row[0] == "cross":
+        first, second = row_uses(row)
+        return (net.tracks.index(first[0]) < net.tracks.index(second[0]) and max(first[2], second[2]) <= LAST_MINUTE
+                and first[:2] in net.running and second[:2] in net.running and in_conflict(net, first, second))
     _, track, first, t, second, u = row
     return ((track, first) in net.running and (track, second) in net.running and u <= LAST_MINUTE
             and t + net.least[track, first] <= u < t + net.headways[track, first, second])
@@ -443,28 +534,35 @@ class Node:
     def legs(self, number, yes):
         return [leg for bid, leg, is_yes in self.decisions if bid == number and is_yes == yes]
 
-    def uses(self, but=None):
-        """The uses of the yes legs of all bids but one."""
+    def yes_legs(self, but=None):
+        """The yes legs of all bids but one, of types that may use the tracks, each with its type."""
         found = []
         for number, leg, yes in self.decisions:
             kind = self.bids[number - 1].kind
             if yes and number != but and (leg.track, kind) in self.net.running:
-                found.append((leg.track, kind, leg.depart))
+                found.append((kind, leg))
         return found
 
     def best(self, number, prices):
         """The most that an allowed walk of the bid is worth at the prices, in thousandths of a cent; None without one."""
         net, bid = self.net, self.bids[number - 1]
         yes = sorted(self.legs(number, True), key=lambda leg: leg.depart)
-        barred, others, known, costs = set(self.legs(number, False)), self.uses(number), {}, {}
+        barred, others, known, costs = set(self.legs(number, False)), self.yes_legs(number), {}, {}
 
         def cost(track, minute):
             """What the rows of a use cost; None where another bid's yes leg is in its way."""
             use = (track, bid.kind, minute)
             if use not in costs:
-                blocked = any(in_conflict(net, use, other) for other in others)
-                costs[use] = None if blocked else sum(price for row, price in prices if uses_row(net, use, row))
+                blocked = any(in_conflict(net, use, use_of(*other)) for other in others)
+                costs[use] = None if blocked else sum(price for row, price in prices if has_use(net, use, row))
             return costs[use]
+
+        def stay_cost(leg):
+            """What the rows cost in which a leg stands; None where other bids' yes legs take up the station."""
+            head, minutes = standing(net, bid.kind, leg)
+            if any(sum(stands(net, *other, head, m) for other in others) >= net.limits[head] for m in minutes):
+                return None
+            return sum(price for row, price in prices if row[0] == "halt" and row[1] == head and row[2] in minutes)
 
         def next_legs(station, minute, halted, done):
             for track in net.leaving[station]:
@@ -491,10 +589,10 @@ class Node:
             known[state] = most = None
             if minute <= bid.arrive[2] and (seen == len(yes) or minute <= yes[seen].depart):
                 for leg, head, arrive, after in next_legs(station, minute, halted, done):
-                    if leg in barred or arrive > bid.arrive[2]:
+                    if leg in barred or arrive > bid.arrive[2] or stay_cost(leg) is None:
                         continue
                     now = seen + (seen < len(yes) and leg == yes[seen])
-                    worth = -cost(leg.track, minute) - 1000 * bid.travel * (arrive + leg.dwell - minute)
+                    worth = -cost(leg.track, minute) - stay_cost(leg) - 1000 * bid.travel * (arrive + leg.dwell - minute)
                     if leg.action == "finish":
                         if now < len(yes):
                             continue
@@ -517,7 +615,7 @@ class Node:
 
     def dual(self, prices):
         """The dual value at the prices."""
-        total = sum(price for _, price in prices)
+        total = sum(price * capacity(self.net, row) for row, price in prices)
         for number in range(1, len(self.bids) + 1):
             best, has_yes = self.best(number, prices), bool(self.legs(number, True))
             if best is None and has_yes:
@@ -543,7 +641,7 @@ def reasons(cert):
     for number, leg in cert.legs:
         walks.setdefault(number, []).append(leg)
     values = {number: value_of(net, bids[number - 1], legs) for number, legs in walks.items()}
-    uses = [(leg.track, bids[number - 1].kind, leg.depart) for number, leg in cert.legs]
+    placed = [(bids[number - 1].kind, leg) for number, leg in cert.legs]
 
     def decided_twice(item, node):
         return item[0] == "split" and any((bid, leg) == item[1:] for bid, leg, _ in node.decisions)
@@ -552,8 +650,13 @@ def reasons(cert):
         if item[0] == "nowalk":
             return not node.legs(item[1], True) or node.best(item[1], []) is not None
         if item[0] == "forced":
-            return not is_row(net, item[1]) or sum(uses_row(net, use, item[1]) for use in node.uses()) <= 1
+            return not is_row(net, item[1]) or sum(uses_row(net, *leg, item[1]) for leg in node.yes_legs()) <= capacity(net, item[1])
         return False
+
+    def in_the_way():
+        stays = Counter((head, m) for head, minutes in (standing(net, *leg) for leg in placed) for m in minutes)
+        return (any(in_conflict(net, use_of(*a), use_of(*b)) for place, a in enumerate(placed) for b in placed[:place])
+                or any(count > net.limits[head] for (head, _), count in stays.items()))
 
     def has_wrong_price(item):
         return item[0] == "priced" and any(not 1 <= price <= GREATEST_PRICE or not is_row(net, row) for row, price in item[1])
@@ -562,7 +665,7 @@ def reasons(cert):
         return max(node.dual(item[1]) // 1000 for item, node in leaves(cert) if item[0] == "priced")
 
     return [lambda: None in values.values(),
-            lambda: any(in_conflict(net, a, b) for place, a in enumerate(uses) for b in uses[:place]),
+            in_the_way,
             lambda: sum(values.values()) != cert.revenue,
             lambda: any(decided_twice(item, node) for item, node in leaves(cert)),
             lambda: any(is_not_dead(item, node) for item, node in leaves(cert)),
@@ -588,7 +691,10 @@ def read(path):
 
 
 def tables_in(folder):
-    return {table: read(f"{folder}/{table}.csv" if table in ("bids", "stops") else f"{folder}/net/{table}.csv") for table in PLAN_TABLES}
+    tables = {table: read(f"{folder}/{table}.csv" if table in ("bids", "stops") else f"{folder}/net/{table}.csv") for table in PLAN_TABLES}
+    if version_of(tables["stations"]) == 2:
+        tables["crossings"] = read(f"{folder}/net/crossings.csv")
+    return tables
 
 
 def main():
