@@ -23,6 +23,7 @@ use Rattle.optra_graph.specs.Places.{places_of, state_of}
 use Rattle.optra_graph.specs.Settings.{IsSetting}
 use Rattle.optra_graph.specs.Steps.{IsStep, AreSteps, key_of, no_step}
 use Rattle.optra_graph.specs.Timed.{no_leg}
+use Rattle.optra_graph.proofs.ColumnLemmas.{columns_back}
 use Rattle.optra_graph.proofs.NodeLemmas.{kept_less}
 use Rattle.optra_graph.proofs.OrderLemmas.{nat_less, nat_same}
 use Rattle.optra_graph.proofs.PlaceLemmas.{placed_at}
@@ -183,7 +184,7 @@ module _ (net : Net) (path : Path) (layout : Layout) (setting : IsSetting net pa
         let s = AllPairs-filter (λ (a b : Step). key_of a.leg < key_of b.leg) (is_kept flags) steps all.rising j k d l m in
         let a = All-filter (is_kept flags) (IsStep net path layout (state_of layout place)) steps all.sound j d (omega arith) in
         let b = All-filter (is_kept flags) (IsStep net path layout (state_of layout place)) steps all.sound k d m in
-        let p = placed_at layout place within in
+        let p = placed_at layout (columns_back net path layout setting) place within in
         leg_less (get_or ons j d).leg (get_or ons k d).leg (dwell_small net path layout setting (state_of layout place) p (get_or ons j d) a) (dwell_small net path layout setting (state_of layout place) p (get_or ons k d) b) s
 
     module _ (arcs : List Arc) (legs : List Leg) (h : Made place arcs legs) (none : (k : ℕ) → k < length first → (get_or first k no_arc).from ≡ 0) where

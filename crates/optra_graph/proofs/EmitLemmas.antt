@@ -9,7 +9,7 @@ use Rattle.optra_graph.specs.declared.states.Layout.{Layout}
 use Rattle.optra_graph.specs.Arcs.{start_arc, IsKeptStart, Starts}
 use Rattle.optra_graph.specs.Flags.{is_set}
 use Rattle.optra_graph.specs.Moves.{start_state}
-use Rattle.optra_graph.specs.Places.{place_of}
+use Rattle.optra_graph.specs.Places.{deadline_of, place_of}
 
 module _ (path : Path) (layout : Layout) (flags : List Bool) where
   abbrev Made : ℕ → List Arc → List ℕ → Type 0
@@ -67,17 +67,17 @@ module _ (path : Path) (layout : Layout) (flags : List Bool) where
       whole n l w (inl b) = let v = h.whole n b w in (v.0, omega (arith, v.1, more), old v.0 v.1 ∙ v.2)
       whole n l w (inr b) = (length minutes, omega (arith, more), last (length minutes) refl ∙ (omega arith))
 
-  pub starts_end : (m end : ℕ) (arcs : List Arc) (minutes : List ℕ) → m ≤ end → end ≡ layout.first + layout.minutes → (end ≤ m) ⊎ (path.depart.to < m) → Made m arcs minutes → Made end arcs minutes
-  starts_end m end arcs minutes le e far h = record {
+  pub starts_end : (m end : ℕ) (arcs : List Arc) (minutes : List ℕ) → m ≤ end → (deadline_of layout path.origin ≤ m) ⊎ (path.depart.to < m) → Made m arcs minutes → Made end arcs minutes
+  starts_end m end arcs minutes le far h = record {
     made = h.made;
     sound = λ k l. let w = h.sound k l in (w.0, omega (arith, w.1));
     rising = h.rising;
-    whole = λ n l w. h.whole n (by n l w far) w;
+    whole = λ n l w. h.whole n (by n w far) w;
   }
     where
-      by : (n : ℕ) → n < end → IsKeptStart path layout flags n → (end ≤ m) ⊎ (path.depart.to < m) → n < m
-      by n l w (inl f) = omega arith
-      by n l w (inr f) = let u = w.within.1 in omega arith
+      by : (n : ℕ) → IsKeptStart path layout flags n → (deadline_of layout path.origin ≤ m) ⊎ (path.depart.to < m) → n < m
+      by n w (inl f) = let t = w.timely.timely in omega arith
+      by n w (inr f) = let u = w.within.1 in omega arith
 
   -- the start arcs leave the start
   pub starts_from : (before : ℕ) (arcs : List Arc) (minutes : List ℕ) → Made before arcs minutes → (k : ℕ) (d : Arc) → k < length arcs → (get_or arcs k d).from ≡ 0

@@ -11,7 +11,7 @@ use Rattle.optra_graph.specs.declared.states.Layout.{Layout}
 use Rattle.optra_graph.specs.declared.stepping.Step.{Step}
 use Rattle.optra_graph.specs.Flags.{is_set, IsSet, IsStartPlace, AreStartsSet, Marks}
 use Rattle.optra_graph.specs.Moves.{start_state}
-use Rattle.optra_graph.specs.Places.{IsPlaced, place_of}
+use Rattle.optra_graph.specs.Places.{IsTimely, deadline_of, place_of}
 use Rattle.optra_graph.proofs.WayLemmas.{contains_filter}
 
 -- a flag beyond the end is not set
@@ -56,11 +56,11 @@ pub starts_none : (path : Path) (layout : Layout) (flags : List Bool) → AreSta
 starts_none path layout flags = record {
   len = refl;
   keeps = λ p h. h;
-  starts = λ m w l p. let e = p.early in absurd (omega arith);
+  starts = λ m w l p. let e = p.placed.early in absurd (omega arith);
   only = λ p h. inl h;
 }
 
-pub starts_more : (path : Path) (layout : Layout) (m : ℕ) (old flags : List Bool) → IsFromTo path.depart.from path.depart.to m → IsPlaced layout (start_state path m)
+pub starts_more : (path : Path) (layout : Layout) (m : ℕ) (old flags : List Bool) → IsFromTo path.depart.from path.depart.to m → IsTimely layout (start_state path m)
     → place_of layout (start_state path m) < length flags → AreStartsSet path layout m old flags → AreStartsSet path layout (m + 1) old (set flags (place_of layout (start_state path m)) true)
 starts_more path layout m old flags within placed l h = record {
   len = length-set flags (place_of layout (start_state path m)) true ∙ h.len;
@@ -69,7 +69,7 @@ starts_more path layout m old flags within placed l h = record {
   only = λ p s. from p (set_cases flags (place_of layout (start_state path m)) p l s);
 }
   where
-    by : (n : ℕ) → IsFromTo path.depart.from path.depart.to n → IsPlaced layout (start_state path n) → (n < m) ⊎ (m ≤ n) → n < m + 1 → IsSet (set flags (place_of layout (start_state path m)) true) (place_of layout (start_state path n))
+    by : (n : ℕ) → IsFromTo path.depart.from path.depart.to n → IsTimely layout (start_state path n) → (n < m) ⊎ (m ≤ n) → n < m + 1 → IsSet (set flags (place_of layout (start_state path m)) true) (place_of layout (start_state path n))
     by n w q (inl b) _ = set_keeps flags (place_of layout (start_state path m)) (place_of layout (start_state path n)) l (h.starts n w b q)
     by n w q (inr b) c = let e : m ≡ n = omega arith in
         subst (λ k. IsSet (set flags (place_of layout (start_state path m)) true) (place_of layout (start_state path k))) e (set_here flags (place_of layout (start_state path m)) true l)
@@ -78,17 +78,17 @@ starts_more path layout m old flags within placed l h = record {
     from p (inl s) = h.only p s
     from p (inr e) = inr (m, within, placed, e)
 
-pub starts_all : (path : Path) (layout : Layout) (m n : ℕ) (old flags : List Bool) → (n ≤ m) ⊎ (path.depart.to < m) → AreStartsSet path layout m old flags → AreStartsSet path layout n old flags
+pub starts_all : (path : Path) (layout : Layout) (m n : ℕ) (old flags : List Bool) → (deadline_of layout path.origin ≤ m) ⊎ (path.depart.to < m) → AreStartsSet path layout m old flags → AreStartsSet path layout n old flags
 starts_all path layout m n old flags far h = record {
   len = h.len;
   keeps = h.keeps;
-  starts = λ k w l p. h.starts k w (by k w l far) p;
+  starts = λ k w l p. h.starts k w (by k w p far) p;
   only = h.only;
 }
   where
-    by : (k : ℕ) → IsFromTo path.depart.from path.depart.to k → k < n → (n ≤ m) ⊎ (path.depart.to < m) → k < m
-    by k w l (inl f) = omega arith
-    by k w l (inr f) = let u = w.1 in omega arith
+    by : (k : ℕ) → IsFromTo path.depart.from path.depart.to k → IsTimely layout (start_state path k) → (deadline_of layout path.origin ≤ m) ⊎ (path.depart.to < m) → k < m
+    by k w p (inl f) = let t = p.timely in omega arith
+    by k w p (inr f) = let u = w.1 in omega arith
 
 -- ---- marks
 

@@ -9,7 +9,7 @@ use Rattle.optra_walk.proofs.WalkLemmas.{arrival_later, next_later}
 use Rattle.optra_graph.specs.declared.states.State.{State}
 use Rattle.optra_graph.specs.Moves.{FitsAction, IsMove, IsAfter, Runs}
 
-within_at : (o : Option ℕ) (from to : ℕ) → IsSomeAnd o (IsFromTo from to) → (n : ℕ) × (o ≡ Some n) × (n ≤ to)
+pub within_at : (o : Option ℕ) (from to : ℕ) → IsSomeAnd o (IsFromTo from to) → (n : ℕ) × (o ≡ Some n) × (n ≤ to)
 within_at None from to h = absurd h
 within_at (Some n) from to h = (n, refl, h.1)
 

@@ -15,7 +15,7 @@ use Rattle.optra_graph.specs.declared.stepping.Step.{Step}
 use Rattle.optra_graph.specs.Arcs.{is_kept, leg_of_step, Emits, IsFew}
 use Rattle.optra_graph.specs.Flags.{IsSet}
 use Rattle.optra_graph.specs.Nodes.{node_of}
-use Rattle.optra_graph.specs.Places.{places_of, state_of}
+use Rattle.optra_graph.specs.Places.{places_of, state_of, station_at}
 use Rattle.optra_graph.specs.Settings.{IsSetting}
 use Rattle.optra_graph.specs.Steps.{AreSteps}
 use Rattle.optra_graph.proofs.BlockLemmas.{emits_before}
@@ -53,37 +53,37 @@ module _ (net : Net) (path : Path) (layout : Layout) (setting : IsSetting net pa
           zero_product : (a b : ℕ) → b ≡ 0 → a * b ≡ 0
           zero_product a b e = ap (λ n. a * n) e ∙ (omega arith)
 
-  module _ (row column count : ℕ) (h : IsFew net.tracks layout.stations place row column count) where
+  module _ (row column count : ℕ) (h : IsFew net.tracks layout place row column count) where
     under : column < layout.stations
-    under = few_column net.tracks layout.stations place row column count some_stations h
+    under = few_column net.tracks layout place row column count some_stations h
 
-    -- the column of the place is its station
-    station_is : (state_of layout place).station ≡ record { 0 = column }
-    station_is = let e : place % layout.stations ≡ column = ap (λ p. p % layout.stations) h.is ∙ column_of row layout.stations column under in λ i. record { 0 = e i }
+    -- the station of the place is that of its column
+    station_is : (state_of layout place).station ≡ station_at layout column
+    station_is = let e : place % layout.stations ≡ column = ap (λ p. p % layout.stations) h.is ∙ column_of row layout.stations column under in ap (station_at layout) e
 
-    few_more : (more : ℕ) → more ≤ 63 * length (out_tracks_of net.tracks (state_of layout place).station) → more ≤ 63 * length (out_tracks_of net.tracks (record { 0 = column }))
+    few_more : (more : ℕ) → more ≤ 63 * length (out_tracks_of net.tracks (state_of layout place).station) → more ≤ 63 * length (out_tracks_of net.tracks (station_at layout column))
     few_more more l = subst (λ (s : StationId). more ≤ 63 * length (out_tracks_of net.tracks s)) station_is l
 
     pub legs_few : (steps : List Step) → length steps ≤ 63 * length (out_tracks_of net.tracks (state_of layout place).station) → (legs : List Leg) → count ≡ length legs
-        → (r : ℕ) × (c : ℕ) × IsFew net.tracks layout.stations (place + 1) r c (length (legs ++ map leg_of_step (filter (is_kept flags) steps)))
+        → (r : ℕ) × (c : ℕ) × IsFew net.tracks layout (place + 1) r c (length (legs ++ map leg_of_step (filter (is_kept flags) steps)))
     legs_few steps l legs e =
         let m : length (legs ++ map leg_of_step (filter (is_kept flags) steps)) ≡ count + length (filter (is_kept flags) steps) =
         length-append legs (map leg_of_step (filter (is_kept flags) steps)) ∙ (let g = length-map (filter (is_kept flags) steps) leg_of_step in omega arith) in
         let n = count_by-le-length (is_kept flags) steps in
         let f = length-filter (is_kept flags) steps in
-        let w = few_next net.tracks layout.stations place row column count (length (filter (is_kept flags) steps)) under (few_more (length (filter (is_kept flags) steps)) (omega arith)) h in
-        (w.0, w.1, subst (IsFew net.tracks layout.stations (place + 1) w.0 w.1) (sym m) w.2)
+        let w = few_next net path layout setting place row column count (length (filter (is_kept flags) steps)) under (few_more (length (filter (is_kept flags) steps)) (omega arith)) h in
+        (w.0, w.1, subst (IsFew net.tracks layout (place + 1) w.0 w.1) (sym m) w.2)
 
-    pub legs_same : (r : ℕ) × (c : ℕ) × IsFew net.tracks layout.stations (place + 1) r c count
+    pub legs_same : (r : ℕ) × (c : ℕ) × IsFew net.tracks layout (place + 1) r c count
     legs_same =
-        let w = few_next net.tracks layout.stations place row column count 0 under (omega arith) h in
+        let w = few_next net path layout setting place row column count 0 under (omega arith) h in
         let e : count + 0 ≡ count = omega arith in
-        (w.0, w.1, subst (IsFew net.tracks layout.stations (place + 1) w.0 w.1) e w.2)
+        (w.0, w.1, subst (IsFew net.tracks layout (place + 1) w.0 w.1) e w.2)
 
     pub arcs_room : (steps : List Step) → length steps ≤ 63 * length (out_tracks_of net.tracks (state_of layout place).station) → (arcs : ℕ) → arcs ≤ 2880 + count → arcs + length steps ≤ 4294967295
     arcs_room steps l arcs le =
         let a : layout.minutes * layout.slots ≤ 2879 * layout.slots = mul-le-mul_right layout.slots setting.small.minutes in
         let slots = setting.small.slots in
         let tracks = setting.proper.built.counts.few_tracks in
-        let r = few_room net.tracks layout.stations (layout.minutes * layout.slots) place row column count (length steps) within (omega arith) tracks under (few_more (length steps) l) h in
+        let r = few_room net path layout setting (layout.minutes * layout.slots) place row column count (length steps) within (omega arith) tracks under (few_more (length steps) l) h in
         omega arith

@@ -3,6 +3,9 @@ pub mod PlaceLemmas
 pub mod RunLemmas
 pub mod OrderLemmas
 pub mod HorizonLemmas
+pub mod DeadlineLemmas
+pub mod ColumnLemmas
+pub mod TableLemmas
 pub mod StepLemmas
 pub mod WayLemmas
 pub mod TrackLemmas

@@ -4,7 +4,7 @@ use Rattle.std.proofs.lemmas.Nat.{div-mul-add, div-add-mod'}
 use Rattle.std.proofs.Math.Nat.{mul-le-mul_right}
 use Rattle.optra_graph.specs.declared.states.State.{State}
 use Rattle.optra_graph.specs.declared.states.Layout.{Layout}
-use Rattle.optra_graph.specs.Places.{mode_of, slot_of, place_of, places_of, state_of, IsPlaced}
+use Rattle.optra_graph.specs.Places.{column_at, mode_of, slot_of, place_of, places_of, state_of, station_at, HasColumns, IsPlaced}
 
 div_part : (q n r : ℕ) → r < n → (q * n + r) / n ≡ q
 div_part q n r l = div-mul-add q n r l
@@ -42,22 +42,23 @@ done_back d false = omega arith
 
 pub state_back : (layout : Layout) (s : State) → IsPlaced layout s → state_of layout (place_of layout s) ≡ s
 state_back layout s h =
-    let q : place_of layout s / layout.stations ≡ slot_of layout s = div_part (slot_of layout s) layout.stations s.station.0 h.station in
-    let r : place_of layout s % layout.stations ≡ s.station.0 = mod_part (slot_of layout s) layout.stations s.station.0 h.station in
+    let q : place_of layout s / layout.stations ≡ slot_of layout s = div_part (slot_of layout s) layout.stations (column_at layout s.station) h.station.within in
+    let r : place_of layout s % layout.stations ≡ column_at layout s.station = mod_part (slot_of layout s) layout.stations (column_at layout s.station) h.station.within in
+    let station : station_at layout (place_of layout s % layout.stations) ≡ s.station = ap (station_at layout) r ∙ h.station.back in
     let row : slot_of layout s / layout.slots ≡ s.minute - layout.first = div_part (s.minute - layout.first) layout.slots (s.done * 2 + mode_of s.halted) h.done in
     let col : slot_of layout s % layout.slots ≡ s.done * 2 + mode_of s.halted = mod_part (s.minute - layout.first) layout.slots (s.done * 2 + mode_of s.halted) h.done in
     let halted : nat_eq (place_of layout s / layout.stations % layout.slots % 2) 1 ≡ s.halted = ap (λ i. nat_eq (i % layout.slots % 2) 1) q ∙ ap (λ i. nat_eq (i % 2) 1) col ∙ halted_back s.done s.halted in
     let done : place_of layout s / layout.stations % layout.slots / 2 ≡ s.done = ap (λ i. i % layout.slots / 2) q ∙ ap (λ i. i / 2) col ∙ done_back s.done s.halted in
     let early = h.early in
     let minute : layout.first + place_of layout s / layout.stations / layout.slots ≡ s.minute = ap (λ i. layout.first + i / layout.slots) q ∙ ap (λ i. layout.first + i) row ∙ (omega arith) in
-    λ i. record { station = record { 0 = r i }; minute = minute i; halted = halted i; done = done i }
+    λ i. record { station = station i; minute = minute i; halted = halted i; done = done i }
 
 pub slot_below : (layout : Layout) (s : State) → IsPlaced layout s → slot_of layout s < layout.minutes * layout.slots
 slot_below layout s h = let e = h.early in let l = h.late in
     below_product (s.minute - layout.first) layout.minutes (s.done * 2 + mode_of s.halted) layout.slots (omega arith) h.done
 
 pub place_below : (layout : Layout) (s : State) → IsPlaced layout s → place_of layout s < places_of layout
-place_below layout s h = below_product (slot_of layout s) (layout.minutes * layout.slots) s.station.0 layout.stations (slot_below layout s h) h.station
+place_below layout s h = below_product (slot_of layout s) (layout.minutes * layout.slots) (column_at layout s.station) layout.stations (slot_below layout s h) h.station.within
 
 pub place_later : (layout : Layout) (a b : State) → IsPlaced layout a → IsPlaced layout b → a.minute < b.minute → place_of layout a < place_of layout b
 place_later layout a b ha hb l =
@@ -65,11 +66,11 @@ place_later layout a b ha hb l =
     let s : slot_of layout a < (b.minute - layout.first) * layout.slots =
     below_product (a.minute - layout.first) (b.minute - layout.first) (a.done * 2 + mode_of a.halted) layout.slots (omega arith) ha.done in
     let t : slot_of layout a < slot_of layout b = omega (arith, s) in
-    let p : place_of layout a < slot_of layout b * layout.stations = below_product (slot_of layout a) (slot_of layout b) a.station.0 layout.stations t ha.station in
+    let p : place_of layout a < slot_of layout b * layout.stations = below_product (slot_of layout a) (slot_of layout b) (column_at layout a.station) layout.stations t ha.station.within in
     omega (arith, p)
 
-pub placed_at : (layout : Layout) (place : ℕ) → place < places_of layout → IsPlaced layout (state_of layout place)
-placed_at layout place l =
+pub placed_at : (layout : Layout) → HasColumns layout → (place : ℕ) → place < places_of layout → IsPlaced layout (state_of layout place)
+placed_at layout columns place l =
     let row = row_below place (layout.minutes * layout.slots) layout.stations l in
     let minute = row_below (place / layout.stations) layout.minutes layout.slots row in
     let col = column_below (place / layout.stations) layout.minutes layout.slots row in
@@ -78,21 +79,22 @@ placed_at layout place l =
       early = omega arith;
       late = omega (arith, minute);
       done = omega (arith, mode, col);
-      station = column_below place (layout.minutes * layout.slots) layout.stations l;
+      station = (columns (place % layout.stations) (column_below place (layout.minutes * layout.slots) layout.stations l)).0;
     }
 
 mode_at : (r : ℕ) → r / 2 * 2 + mode_of (nat_eq (r % 2) 1) ≡ r
 mode_at r = let m = mode_back (r % 2) (omega arith) in omega (arith, m)
 
 -- and a place is that of its state
-pub place_back : (layout : Layout) (place : ℕ) → place_of layout (state_of layout place) ≡ place
-place_back layout place =
+pub place_back : (layout : Layout) → HasColumns layout → (place : ℕ) → place < places_of layout → place_of layout (state_of layout place) ≡ place
+place_back layout columns place l =
     let d = div-add-mod' place layout.stations in
     let e = div-add-mod' (place / layout.stations) layout.slots in
     let m = mode_at (place / layout.stations % layout.slots) in
     let first : layout.first + place / layout.stations / layout.slots - layout.first ≡ place / layout.stations / layout.slots = omega arith in
     let slot : slot_of layout (state_of layout place) ≡ place / layout.stations = (λ i. first i * layout.slots + m i) ∙ e in
-    ap (λ t. t * layout.stations + place % layout.stations) slot ∙ d
+    let column = (columns (place % layout.stations) (column_below place (layout.minutes * layout.slots) layout.stations l)).1 in
+    (λ i. slot i * layout.stations + column i) ∙ d
 
 pub column_of : (row n column : ℕ) → column < n → (row * n + column) % n ≡ column
 column_of row n column l = mod_part row n column l

@@ -15,10 +15,12 @@ use Rattle.optra_graph.specs.declared.states.Layout.{Layout}
 use Rattle.optra_graph.specs.declared.stepping.Step.{Step}
 use Rattle.optra_graph.specs.Flags.{is_set, IsSet, IsStartPlace, IsSteppedTo, AreStartsSet, Marks, IsReached, IsReachedTo, IsTrimmedTo, IsKept}
 use Rattle.optra_graph.specs.Moves.{start_state, FitsAction, IsMove, IsAfter, Runs, done_after}
-use Rattle.optra_graph.specs.Places.{IsPlaced, mode_of, place_of, places_of, state_of}
+use Rattle.optra_graph.specs.Places.{IsPlaced, IsTimely, deadline_of, mode_of, place_of, places_of, state_of}
 use Rattle.optra_graph.specs.Settings.{IsSetting}
 use Rattle.optra_graph.specs.Steps.{IsStep, AreSteps}
 use Rattle.optra_graph.proofs.FlagLemmas.{set_here, set_there, none_set, count_none, count_some}
+use Rattle.optra_graph.proofs.ColumnLemmas.{column_there, columns_back}
+use Rattle.optra_graph.proofs.DeadlineLemmas.{runs_timely}
 use Rattle.optra_graph.proofs.HorizonLemmas.{after_later, runs_before}
 use Rattle.optra_graph.proofs.PlaceLemmas.{placed_at, place_below, place_back, state_back}
 use Rattle.optra_graph.proofs.StepLemmas.{step_forward, stop_there}
@@ -38,15 +40,23 @@ module _ (net : Net) (path : Path) (layout : Layout) (setting : IsSetting net pa
   -- a step from a place leads to a later one, which is at most the end
   pub forward_at : (place : ℕ) (step : Step) → place < places_of layout → At place step → (place < step.to) × (step.to ≤ places_of layout)
   forward_at place step l h =
-      let f = step_forward net path layout setting (state_of layout place) (placed_at layout place l) step h in
-      (subst (λ p. p < step.to) (place_back layout place) f.0, f.1)
+      let f = step_forward net path layout setting (state_of layout place) (placed_at layout (columns_back net path layout setting) place l) step h in
+      (subst (λ p. p < step.to) (place_back layout (columns_back net path layout setting) place l) f.0, f.1)
 
   pub steps_within : (place : ℕ) (flags : List Bool) (steps : List Step) → place < places_of layout → length flags ≡ places_of layout + 1 → AreSteps net path layout (state_of layout place) steps
       → All (λ step. step.to < length flags) steps
   steps_within place flags steps b n all k d l = let f = forward_at place (get_or steps k d) b (all.sound k d l) in omega (arith, f.1, n)
 
-  pub start_placed : (m : ℕ) → layout.first ≤ m → m < layout.first + layout.minutes → IsPlaced layout (start_state path m)
-  start_placed m early late = let s = setting.laid.slots in record { early = early; late = late; done = omega (arith, s); station = omega (arith, setting.origin, setting.laid.stations) }
+  pub start_timely : (m : ℕ) → layout.first ≤ m → m < deadline_of layout path.origin → IsTimely layout (start_state path m)
+  start_timely m early timely =
+      let s = setting.laid.slots in
+      let first = setting.laid.first in
+      let minutes = setting.laid.minutes in
+      let most = setting.columns.deadlines.most path.origin.0 in
+      let late : m < layout.first + layout.minutes = omega (arith, first, minutes, most) in record {
+        placed = record { early = early; late = late; done = omega (arith, s); station = column_there net path layout setting path.origin setting.origin (omega arith) };
+        timely = timely;
+      }
 
   -- ---- reached
 
@@ -54,7 +64,7 @@ module _ (net : Net) (path : Path) (layout : Layout) (setting : IsSetting net pa
       → AreStartsSet path layout (layout.first + layout.minutes) old flags → IsReachedTo net path layout 0 flags
   reached_start old flags e n h = record {
     len = h.len ∙ n;
-    starts = λ m w p. h.starts m w p.late p;
+    starts = λ m w p. h.starts m w p.placed.late p;
     closed = λ place step l b s w. absurd (omega arith);
     from = λ place s. by place (h.only place s);
   }
@@ -76,6 +86,15 @@ module _ (net : Net) (path : Path) (layout : Layout) (setting : IsSetting net pa
       by q step l b s w (inl m) = h.closed q step m b s w
       by q step l b s w (inr m) = let f : q ≡ place = omega arith in absurd (true≢false (sym s ∙ ap (is_set flags) f ∙ e))
 
+  -- the steps of a place lead to no place before it
+  pub marks_later : (place : ℕ) (steps : List Step) (flags new : List Bool) → place < places_of layout → AreSteps net path layout (state_of layout place) steps → Marks steps flags new
+      → (q : ℕ) → q < place → IsSet new q → IsSet flags q
+  marks_later place steps flags new l all marks q a s = old (marks.only q s)
+    where
+      old : IsSet flags q ⊎ ((x : Step) × Contains steps x × (x.to ≡ q)) → IsSet flags q
+      old (inl o) = o
+      old (inr (x, c, e)) = let f = forward_at place x l (All-contains (IsStep net path layout (state_of layout place)) steps x all.sound c) in absurd (omega (arith, f.0))
+
   -- one that is reached hands it on
   pub reached_more : (place : ℕ) (steps : List Step) (flags new : List Bool) → place < places_of layout → IsSet flags place → AreSteps net path layout (state_of layout place) steps
       → Marks steps flags new → IsReachedTo net path layout place flags → IsReachedTo net path layout (place + 1) new
@@ -87,11 +106,7 @@ module _ (net : Net) (path : Path) (layout : Layout) (setting : IsSetting net pa
   }
     where
       by : (q : ℕ) (step : Step) → q < place + 1 → q < places_of layout → IsSet new q → At q step → (q < place) ⊎ (place ≤ q) → IsSet new step.to
-      by q step m b s w (inl a) = marks.keeps step.to (h.closed q step a b (old (marks.only q s)) w)
-        where
-          old : IsSet flags q ⊎ ((x : Step) × Contains steps x × (x.to ≡ q)) → IsSet flags q
-          old (inl o) = o
-          old (inr (x, c, e)) = let f = forward_at place x l (All-contains (IsStep net path layout (state_of layout place)) steps x all.sound c) in absurd (omega (arith, f.0))
+      by q step m b s w (inl a) = marks.keeps step.to (h.closed q step a b (marks_later place steps flags new l all marks q a s) w)
       by q step m b s w (inr a) = let f : q ≡ place = omega arith in marks.marks step (all.whole step (subst (λ p. At p step) f w))
 
       lift : (q : ℕ) → IsStartPlace path layout q ⊎ IsSteppedTo net path layout flags q → IsStartPlace path layout q ⊎ IsSteppedTo net path layout new q
@@ -203,9 +218,9 @@ module _ (net : Net) (path : Path) (layout : Layout) (setting : IsSetting net pa
   done_next s leg (Wait d) l f = l
   done_next s leg Finish l f = l
 
-  -- the state after a leg from which a run goes on has a place
-  pub after_placed : (s after : State) (leg : Leg) (rest : List Leg) → IsPlaced layout s → IsMove net path s leg → IsAfter net path s leg after → Runs net path after rest → IsPlaced layout after
-  after_placed s after leg rest p m a r =
+  -- the state after a leg from which a run goes on is in time
+  pub after_timely : (s after : State) (leg : Leg) (rest : List Leg) → IsPlaced layout s → IsMove net path s leg → IsAfter net path s leg after → Runs net path after rest → IsTimely layout after
+  after_timely s after leg rest p m a r =
       let later = after_later net path setting.proper s after leg m a in
       let before = runs_before net path setting.proper after rest r in
       let early = p.early in
@@ -216,11 +231,15 @@ module _ (net : Net) (path : Path) (layout : Layout) (setting : IsSetting net pa
       let same = a.done in
       let mode = mode_few after.halted in
       let station = head_within net leg.track.0 after.station setting.proper a.place in
+      let timely = runs_timely net path layout.columns.now.deadlines.items setting.columns.deadlines after rest r in
       record {
-        early = omega arith;
-        late = omega arith;
-        done = omega (arith, done, same, mode, slots);
-        station = omega (arith, station, setting.laid.stations);
+        placed = record {
+          early = omega arith;
+          late = omega arith;
+          done = omega (arith, done, same, mode, slots);
+          station = column_there net path layout setting after.station station (omega arith);
+        };
+        timely = timely;
       }
 
   module _ (reached flags : List Bool) (h : IsReached net path layout reached) (t : IsTrimmedTo net path layout 0 reached flags) where
@@ -236,8 +255,9 @@ module _ (net : Net) (path : Path) (layout : Layout) (setting : IsSetting net pa
         let end : IsSet flags (places_of layout) = t.end ∙ h.closed place (record { leg = leg; to = places_of layout }) l s w in
         ((places_of layout, w, end), t.whole place (record { leg = leg; to = places_of layout }) (omega arith) l s w end)
     kept_by (leg ∷ rest) place l s (m, inr (after, a, r)) =
-        let p = after_placed (state_of layout place) after leg rest (placed_at layout place l) m a r in
-        let w : At place (record { leg = leg; to = place_of layout after }) = record { move = m; leads = inr (after, a, p, refl) } in
+        let timely = after_timely (state_of layout place) after leg rest (placed_at layout (columns_back net path layout setting) place l) m a r in
+        let p = timely.placed in
+        let w : At place (record { leg = leg; to = place_of layout after }) = record { move = m; leads = inr (after, a, timely, refl) } in
         let on = kept_by rest (place_of layout after) (place_below layout after p) (h.closed place (record { leg = leg; to = place_of layout after }) l s w)
         (subst (λ x. Runs net path x rest) (sym (state_back layout after p)) r) in
         ((place_of layout after, w, on.1), t.whole place (record { leg = leg; to = place_of layout after }) (omega arith) l s w on.1)
@@ -246,22 +266,20 @@ module _ (net : Net) (path : Path) (layout : Layout) (setting : IsSetting net pa
     kept_all = record {
       len = t.len ∙ h.len;
       starts = λ m legs w r.
-          let p = placed m legs w r in
-          let k = kept_by legs (place_of layout (start_state path m)) (place_below layout (start_state path m) p) (h.starts m w p)
-          (subst (λ x. Runs net path x legs) (sym (state_back layout (start_state path m) p)) r) in
+          let p = start m legs w r in
+          let k = kept_by legs (place_of layout (start_state path m)) (place_below layout (start_state path m) p.placed) (h.starts m w p)
+          (subst (λ x. Runs net path x legs) (sym (state_back layout (start_state path m) p.placed)) r) in
           (p, k.1);
       runs = λ place leg rest l s r. let k = kept_by (leg ∷ rest) place l (t.only place s) r in k.0;
       from = λ place s. by place s (h.from place (t.only place s));
       goes_on = λ place l s. t.goes_on place (omega arith) l s;
     }
       where
-        placed : (m : ℕ) (legs : List Leg) → IsFromTo path.depart.from path.depart.to m → Runs net path (start_state path m) legs → IsPlaced layout (start_state path m)
-        placed m legs w r =
-            let b = runs_before net path setting.proper (start_state path m) legs r in
+        start : (m : ℕ) (legs : List Leg) → IsFromTo path.depart.from path.depart.to m → Runs net path (start_state path m) legs → IsTimely layout (start_state path m)
+        start m legs w r =
             let first = setting.laid.first in
-            let minutes = setting.laid.minutes in
             let from = w.0 in
-            start_placed m (omega arith) (omega arith)
+            start_timely m (omega arith) (runs_timely net path layout.columns.now.deadlines.items setting.columns.deadlines (start_state path m) legs r)
 
         by : (place : ℕ) → IsSet flags place → IsStartPlace path layout place ⊎ IsSteppedTo net path layout reached place → IsStartPlace path layout place ⊎ IsSteppedTo net path layout flags place
         by place s (inl x) = inl x

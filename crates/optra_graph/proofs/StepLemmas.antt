@@ -20,10 +20,11 @@ use Rattle.optra_graph.specs.declared.states.Layout.{Layout}
 use Rattle.optra_graph.specs.declared.stepping.Step.{Step}
 use Rattle.optra_graph.specs.declared.stepping.Way.{Way}
 use Rattle.optra_graph.specs.Moves.{FitsAction, IsMove, IsAfter}
-use Rattle.optra_graph.specs.Places.{IsPlaced, place_of, places_of}
+use Rattle.optra_graph.specs.Places.{IsPlaced, IsTimely, deadline_of, place_of, places_of}
 use Rattle.optra_graph.specs.Settings.{IsSetting}
 use Rattle.optra_graph.specs.Steps.{LeadsTo, IsStep, bound_of, key_of, AreStepsBelow, leg_by, IsWay}
 use Rattle.optra_graph.proofs.RunLemmas.{not_finish}
+use Rattle.optra_graph.proofs.ColumnLemmas.{column_there}
 use Rattle.optra_graph.proofs.HorizonLemmas.{after_later}
 use Rattle.optra_graph.proofs.PlaceLemmas.{place_below, place_later}
 
@@ -110,8 +111,8 @@ module _ (net : Net) (path : Path) (layout : Layout) (setting : IsSetting net pa
       by (inl f) = let p = place_below layout s placed in let e = f.1 in (omega arith, omega arith)
       by (inr f) =
           let l = after_later net path setting.proper s f.0 step.leg h.move f.1 in
-          let p = place_later layout s f.0 placed f.2 l in
-          let q = place_below layout f.0 f.2 in
+          let p = place_later layout s f.0 placed f.2.placed l in
+          let q = place_below layout f.0 f.2.placed in
           let e = f.3 in
           (omega arith, omega arith)
 
@@ -178,7 +179,7 @@ module _ (net : Net) (path : Path) (layout : Layout) (setting : IsSetting net pa
 
   -- ---- the steps by one way
 
-  module _ (way : Way) (by : IsWay net path s way) where
+  module _ (way : Way) (by : IsWay net path layout s way) where
     -- a step by the way with an action has that leg
     pub leg_is : (y : Step) → Is y → y.leg.track.0 ≡ way.track.0 → (a : Action) → y.leg.action ≡ a → y.leg ≡ leg_by s way.track a
     leg_is y h e a f =
@@ -204,21 +205,27 @@ module _ (net : Net) (path : Path) (layout : Layout) (setting : IsSetting net pa
     next_wait : (d : ℕ) → next_depart_of net path.kind (leg_by s way.track (Wait d)) ≡ Some (way.halt + d)
     next_wait d = ap (option_map (λ n. n + d)) by.halt
 
-    -- a step that does not finish departs within the layout
-    late : (y : Step) → Is y → (a : Action) → y.leg ≡ leg_by s way.track a → is_finish a ≡ false → (n : ℕ) → next_depart_of net path.kind (leg_by s way.track a) ≡ Some n → n < layout.first + layout.minutes
+    -- a step that does not finish departs before the deadline
+    late : (y : Step) → Is y → (a : Action) → y.leg ≡ leg_by s way.track a → is_finish a ≡ false → (n : ℕ) → next_depart_of net path.kind (leg_by s way.track a) ≡ Some n → n < way.deadline
     late y h a e f n next = go (subst (λ leg. LeadsTo net path layout s leg y.to) e h.leads)
       where
-        go : LeadsTo net path layout s (leg_by s way.track a) y.to → n < layout.first + layout.minutes
+        go : LeadsTo net path layout s (leg_by s way.track a) y.to → n < way.deadline
         go (inl g) = absurd (true≢false (sym (ap is_finish g.0) ∙ f))
-        go (inr g) = let m = some_same _ n g.0.minute next g.1.time in let l = g.2.late in omega arith
+        go (inr g) =
+            let m = some_same _ n g.0.minute next g.1.time in
+            let h : g.0.station ≡ way.head = some_same _ g.0.station way.head g.1.place by.head in
+            let d = ap (deadline_of layout) h in
+            let t = g.2.timely in
+            let w = by.deadline in
+            omega (arith, m, d, t, w)
 
-    pub pass_late : (y : Step) → Is y → y.leg ≡ leg_by s way.track Pass → way.pass < layout.first + layout.minutes
+    pub pass_late : (y : Step) → Is y → y.leg ≡ leg_by s way.track Pass → way.pass < way.deadline
     pass_late y h e = late y h Pass e refl way.pass by.pass
 
-    pub halt_late : (y : Step) → Is y → (d : ℕ) → y.leg ≡ leg_by s way.track (Halt d) → way.halt + d < layout.first + layout.minutes
+    pub halt_late : (y : Step) → Is y → (d : ℕ) → y.leg ≡ leg_by s way.track (Halt d) → way.halt + d < way.deadline
     halt_late y h d e = late y h (Halt d) e refl (way.halt + d) (next_halt d)
 
-    pub wait_late : (y : Step) → Is y → (d : ℕ) → y.leg ≡ leg_by s way.track (Wait d) → way.halt + d < layout.first + layout.minutes
+    pub wait_late : (y : Step) → Is y → (d : ℕ) → y.leg ≡ leg_by s way.track (Wait d) → way.halt + d < way.deadline
     wait_late y h d e = late y h (Wait d) e refl (way.halt + d) (next_wait d)
 
     -- what is right there
@@ -251,11 +258,11 @@ module _ (net : Net) (path : Path) (layout : Layout) (setting : IsSetting net pa
     abbrev after_wait : ℕ → State
     after_wait d = record { station = way.head; minute = way.halt + d; halted = true; done = s.done }
 
-    pub pass_step : IsPlaced layout after_pass → Is (record { leg = leg_by s way.track Pass; to = place_of layout after_pass })
+    pub pass_step : IsTimely layout after_pass → Is (record { leg = leg_by s way.track Pass; to = place_of layout after_pass })
     pass_step p = record { move = move_by Pass tt; leads = inr (after_pass, record { place = by.head; time = by.pass; mode = refl; done = refl }, p, refl) }
 
     pub halt_step : (d : ℕ) (stop : Stop) → slice_get path.stops s.done ≡ Some stop → stop.station ≡ way.head → stop.arrive.from ≤ way.halt → way.halt ≤ stop.arrive.to
-        → stop.min_dwell ≤ d → d ≤ stop.max_dwell → IsPlaced layout (after_halt d) → Is (record { leg = leg_by s way.track (Halt d); to = place_of layout (after_halt d) })
+        → stop.min_dwell ≤ d → d ≤ stop.max_dwell → IsTimely layout (after_halt d) → Is (record { leg = leg_by s way.track (Halt d); to = place_of layout (after_halt d) })
     halt_step d stop at there early end least most p =
         let meets : MeetsStop net path.kind (leg_by s way.track (Halt d)) stop = record { place = by.head ∙ ap Some (sym there); time = within_some _ way.halt stop.arrive.from stop.arrive.to by.halt early end; dwell = (least, most) } in
         record {
@@ -263,7 +270,7 @@ module _ (net : Net) (path : Path) (layout : Layout) (setting : IsSetting net pa
           leads = inr (after_halt d, record { place = by.head; time = next_halt d; mode = refl; done = refl }, p, refl);
         }
 
-    pub wait_step : (d : ℕ) → 1 ≤ d → d ≤ path.wait_max → IsPlaced layout (after_wait d) → Is (record { leg = leg_by s way.track (Wait d); to = place_of layout (after_wait d) })
+    pub wait_step : (d : ℕ) → 1 ≤ d → d ≤ path.wait_max → IsTimely layout (after_wait d) → Is (record { leg = leg_by s way.track (Wait d); to = place_of layout (after_wait d) })
     wait_step d least most p = record {
       move = move_by (Wait d) (least, most);
       leads = inr (after_wait d, record { place = by.head; time = next_wait d; mode = refl; done = refl }, p, refl);
@@ -280,11 +287,11 @@ module _ (net : Net) (path : Path) (layout : Layout) (setting : IsSetting net pa
     abbrev Below : ℕ → List Step → Type 0
     Below bound steps = AreStepsBelow net path layout s bound steps
 
-    pub pass_none : (steps : List Step) → Below (bound_of way.track.0 0) steps → layout.first + layout.minutes ≤ way.pass → Below (bound_of way.track.0 1) steps
+    pub pass_none : (steps : List Step) → Below (bound_of way.track.0 0) steps → way.deadline ≤ way.pass → Below (bound_of way.track.0 1) steps
     pass_none steps h late = skip_steps (bound_of way.track.0 0) (bound_of way.track.0 1) steps (omega arith) h
         (λ y w l u. let p = pass_late y w (by_pass y w l u) in absurd (omega arith))
 
-    pub pass_push : (steps : List Step) → Below (bound_of way.track.0 0) steps → IsPlaced layout after_pass → Below (bound_of way.track.0 1) (steps ++ record { leg = leg_by s way.track Pass; to = place_of layout after_pass } ∷ [])
+    pub pass_push : (steps : List Step) → Below (bound_of way.track.0 0) steps → IsTimely layout after_pass → Below (bound_of way.track.0 1) (steps ++ record { leg = leg_by s way.track Pass; to = place_of layout after_pass } ∷ [])
     pass_push steps h p = skip_steps (bound_of way.track.0 0 + 0 + 1) (bound_of way.track.0 1) (steps ++ record { leg = leg_by s way.track Pass; to = place_of layout after_pass } ∷ []) (omega arith)
         (push_step (bound_of way.track.0 0) steps (record { leg = leg_by s way.track Pass; to = place_of layout after_pass }) h (pass_step p) (omega arith) (λ y w l u. by_pass y w l (omega (arith, u))))
         (λ y w l u. let e = ap key_of (by_pass y w (omega (arith, l)) u) in absurd (omega (arith, l, e)))
@@ -307,7 +314,7 @@ module _ (net : Net) (path : Path) (layout : Layout) (setting : IsSetting net pa
         (λ y w l u. let e = by_halt y w l (omega (arith, u, few)) in let m = meets_at y w stop at (dwell_of y.leg.action) e in let k = ap key_of e in absurd (omega (arith, m.2.0, k, u)))
 
     pub halt_push : (steps : List Step) (stop : Stop) (d : ℕ) → slice_get path.stops s.done ≡ Some stop → (stop.station ≡ way.head) × (stop.arrive.from ≤ way.halt) × (way.halt ≤ stop.arrive.to)
-        → stop.min_dwell ≤ d → d ≤ stop.max_dwell → stop.max_dwell ≤ 240 → IsPlaced layout (after_halt d) → Below (bound_of way.track.0 1 + d) steps
+        → stop.min_dwell ≤ d → d ≤ stop.max_dwell → stop.max_dwell ≤ 240 → IsTimely layout (after_halt d) → Below (bound_of way.track.0 1 + d) steps
         → Below (bound_of way.track.0 1 + (d + 1)) (steps ++ record { leg = leg_by s way.track (Halt d); to = place_of layout (after_halt d) } ∷ [])
     halt_push steps stop d at fits least most few p h =
         let e : bound_of way.track.0 1 + d + 1 ≡ bound_of way.track.0 1 + (d + 1) = omega arith in
@@ -321,7 +328,7 @@ module _ (net : Net) (path : Path) (layout : Layout) (setting : IsSetting net pa
         f ∙ ap (λ n. leg_by s way.track (Halt n)) same))
 
     pub halt_end : (steps : List Step) (stop : Stop) (d : ℕ) → slice_get path.stops s.done ≡ Some stop → stop.max_dwell ≤ 240 → d ≤ 256
-        → (stop.max_dwell < d) ⊎ (layout.first + layout.minutes ≤ way.halt + d) → Below (bound_of way.track.0 1 + d) steps → Below (bound_of way.track.0 2) steps
+        → (stop.max_dwell < d) ⊎ (way.deadline ≤ way.halt + d) → Below (bound_of way.track.0 1 + d) steps → Below (bound_of way.track.0 2) steps
     halt_end steps stop d at few small over h = skip_steps (bound_of way.track.0 1 + d) (bound_of way.track.0 2) steps (omega arith) h
         (λ y w l u.
         let e = by_halt y w (omega (arith, l)) u in
@@ -331,7 +338,7 @@ module _ (net : Net) (path : Path) (layout : Layout) (setting : IsSetting net pa
         let from : d ≤ dwell_of y.leg.action = omega (arith, k, l) in
         beyond (dwell_of y.leg.action) from m.2.1 p over)
       where
-        beyond : (n : ℕ) → d ≤ n → n ≤ stop.max_dwell → way.halt + n < layout.first + layout.minutes → (stop.max_dwell < d) ⊎ (layout.first + layout.minutes ≤ way.halt + d) → ⊥
+        beyond : (n : ℕ) → d ≤ n → n ≤ stop.max_dwell → way.halt + n < way.deadline → (stop.max_dwell < d) ⊎ (way.deadline ≤ way.halt + d) → ⊥
         beyond n from most p (inl o) = omega arith
         beyond n from most p (inr o) = omega arith
 
@@ -339,7 +346,7 @@ module _ (net : Net) (path : Path) (layout : Layout) (setting : IsSetting net pa
     wait_start steps h = skip_steps (bound_of way.track.0 2) (bound_of way.track.0 2 + 1) steps (omega arith) h
         (λ y w l u. let e = by_wait y w l (omega (arith, u)) in let m = wait_fits y w (dwell_of y.leg.action) e in let k = ap key_of e in absurd (omega (arith, m.0, k, u)))
 
-    pub wait_push : (steps : List Step) (d : ℕ) → 1 ≤ d → d ≤ path.wait_max → IsPlaced layout (after_wait d) → Below (bound_of way.track.0 2 + d) steps
+    pub wait_push : (steps : List Step) (d : ℕ) → 1 ≤ d → d ≤ path.wait_max → IsTimely layout (after_wait d) → Below (bound_of way.track.0 2 + d) steps
         → Below (bound_of way.track.0 2 + (d + 1)) (steps ++ record { leg = leg_by s way.track (Wait d); to = place_of layout (after_wait d) } ∷ [])
     wait_push steps d least most p h =
         let few = setting.wait_max in
@@ -353,7 +360,7 @@ module _ (net : Net) (path : Path) (layout : Layout) (setting : IsSetting net pa
         let same : dwell_of y.leg.action ≡ d = omega (arith, k, l, u) in
         f ∙ ap (λ n. leg_by s way.track (Wait n)) same))
 
-    pub wait_end : (steps : List Step) (d : ℕ) → d ≤ 256 → (path.wait_max < d) ⊎ (layout.first + layout.minutes ≤ way.halt + d) → Below (bound_of way.track.0 2 + d) steps → Below (bound_of way.track.0 3) steps
+    pub wait_end : (steps : List Step) (d : ℕ) → d ≤ 256 → (path.wait_max < d) ⊎ (way.deadline ≤ way.halt + d) → Below (bound_of way.track.0 2 + d) steps → Below (bound_of way.track.0 3) steps
     wait_end steps d small over h = skip_steps (bound_of way.track.0 2 + d) (bound_of way.track.0 3) steps (omega arith) h
         (λ y w l u.
         let e = by_wait y w (omega (arith, l)) u in
@@ -363,7 +370,7 @@ module _ (net : Net) (path : Path) (layout : Layout) (setting : IsSetting net pa
         let from : d ≤ dwell_of y.leg.action = omega (arith, k, l) in
         beyond (dwell_of y.leg.action) from m.1 p over)
       where
-        beyond : (n : ℕ) → d ≤ n → n ≤ path.wait_max → way.halt + n < layout.first + layout.minutes → (path.wait_max < d) ⊎ (layout.first + layout.minutes ≤ way.halt + d) → ⊥
+        beyond : (n : ℕ) → d ≤ n → n ≤ path.wait_max → way.halt + n < way.deadline → (path.wait_max < d) ⊎ (way.deadline ≤ way.halt + d) → ⊥
         beyond n from most p (inl o) = omega arith
         beyond n from most p (inr o) = omega arith
 
@@ -379,22 +386,40 @@ module _ (net : Net) (path : Path) (layout : Layout) (setting : IsSetting net pa
         (push_step (bound_of way.track.0 3) steps (record { leg = leg_by s way.track Finish; to = places_of layout }) h (finish_step f.0 f.1 f.2 f.3) (omega arith) (λ y w l u. by_finish y w l (omega (arith, u))))
         (λ y w l u. let e = ap key_of (by_finish y w (omega (arith, l)) u) in absurd (omega (arith, l, e)))
 
-    -- ---- the states after them have places
+    -- ---- the states after them are in time
 
-    pub passed_at : way.pass < layout.first + layout.minutes → IsPlaced layout after_pass
-    passed_at late = let early = placed.early in let p = by.pass_later in let d = placed.done in
-        record { early = omega arith; late = late; done = omega (arith, d); station = omega (arith, by.station, setting.laid.stations) }
+    -- what is before the deadline is within the layout
+    before_end : (n : ℕ) → n < way.deadline → n < layout.first + layout.minutes
+    before_end n l =
+        let most = setting.columns.deadlines.most way.head.0 in
+        let d = by.deadline in
+        let first = setting.laid.first in
+        let minutes = setting.laid.minutes in
+        omega (arith, most, d, first, minutes)
+
+    pub passed_at : way.pass < way.deadline → IsTimely layout after_pass
+    passed_at late = let early = placed.early in let p = by.pass_later in let d = placed.done in let b = before_end way.pass late in let t = by.deadline in
+        let head_there = column_there net path layout setting way.head by.station (omega (arith, early, p, late, t)) in record {
+          placed = record { early = omega arith; late = b; done = omega (arith, d); station = head_there };
+          timely = omega (arith, t);
+        }
 
     slots_room : s.done * 2 + 1 < layout.slots
     slots_room = let d = placed.done in let e = setting.laid.slots in omega (arith, d, e)
 
-    pub waited_at : (d : ℕ) → way.halt + d < layout.first + layout.minutes → IsPlaced layout (after_wait d)
-    waited_at d late = let early = placed.early in let p = by.halt_later in let r = slots_room in
-        record { early = omega arith; late = late; done = r; station = omega (arith, by.station, setting.laid.stations) }
+    pub waited_at : (d : ℕ) → way.halt + d < way.deadline → IsTimely layout (after_wait d)
+    waited_at d late = let early = placed.early in let p = by.halt_later in let r = slots_room in let b = before_end (way.halt + d) late in let t = by.deadline in
+        let head_there = column_there net path layout setting way.head by.station (omega (arith, early, p, late, t)) in record {
+          placed = record { early = omega arith; late = b; done = r; station = head_there };
+          timely = omega (arith, t);
+        }
 
-    pub halted_at : (d : ℕ) → s.done < length path.stops → way.halt + d < layout.first + layout.minutes → IsPlaced layout (after_halt d)
-    halted_at d more late = let early = placed.early in let p = by.halt_later in let e = setting.laid.slots in
-        record { early = omega arith; late = late; done = omega (arith, e); station = omega (arith, by.station, setting.laid.stations) }
+    pub halted_at : (d : ℕ) → s.done < length path.stops → way.halt + d < way.deadline → IsTimely layout (after_halt d)
+    halted_at d more late = let early = placed.early in let p = by.halt_later in let e = setting.laid.slots in let b = before_end (way.halt + d) late in let t = by.deadline in
+        let head_there = column_there net path layout setting way.head by.station (omega (arith, early, p, late, t)) in record {
+          placed = record { early = omega arith; late = b; done = omega (arith, e); station = head_there };
+          timely = omega (arith, t);
+        }
 
   -- the dwells of a stop are at most 240, and it is one of the path
   pub stop_small : (stop : Stop) → slice_get path.stops s.done ≡ Some stop → (stop.min_dwell ≤ stop.max_dwell) × (stop.max_dwell ≤ 240) × (s.done < length path.stops) × (stop.max_dwell - stop.min_dwell ≤ 30)

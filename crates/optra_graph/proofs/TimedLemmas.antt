@@ -50,11 +50,11 @@ module _ (net : Net) (path : Path) (layout : Layout) (setting : IsSetting net pa
   start_to k l =
       let e = ap (λ (a : Arc). a.to) (start_at k l) in
       let w = (starts.sound k l).0 in
-      let b = place_below layout (start_state path (get_or minutes k 0)) w.placed in
+      let b = place_below layout (start_state path (get_or minutes k 0)) w.timely.placed in
       let p = place_of layout (start_state path (get_or minutes k 0)) in
       let n = node_is layout flags (places_of layout) kept.len p b w.kept in
       let s = node_state layout flags (places_of layout) kept.len p b w.kept in
-      (subst (IsStateNode states) (sym e) n, ap (state_at states) e ∙ s ∙ state_back layout (start_state path (get_or minutes k 0)) w.placed)
+      (subst (IsStateNode states) (sym e) n, ap (state_at states) e ∙ s ∙ state_back layout (start_state path (get_or minutes k 0)) w.timely.placed)
 
   start_only : (k : ℕ) → k < length arcs → (get_or arcs k no_arc).from ≡ 0 → k < length minutes
   start_only k l e = by (cases_lt k (length first))
@@ -66,8 +66,8 @@ module _ (net : Net) (path : Path) (layout : Layout) (setting : IsSetting net pa
   start_all : (m : ℕ) → IsFromTo path.depart.from path.depart.to m → (ls : List Leg) → Runs net path (start_state path m) ls → (k : ℕ) × (k < length minutes) × (get_or minutes k 0 ≡ m)
   start_all m within ls r =
       let w = kept.starts m ls within r in
-      let late = w.0.late in
-      starts.whole m (omega arith) (record { within = within; placed = w.0; kept = w.1 })
+      let late = w.0.placed.late in
+      starts.whole m (omega arith) (record { within = within; timely = w.0; kept = w.1 })
 
   -- arcs of legs
   leg_here : (k : ℕ) → length minutes ≤ k → k < length arcs → (p : ℕ) × (step : Step) × IsKeptStep net path layout flags p step
@@ -97,10 +97,10 @@ module _ (net : Net) (path : Path) (layout : Layout) (setting : IsSetting net pa
   leads : (p : ℕ) (leg : Leg) (to : ℕ) → IsSet flags to → LeadsTo net path layout (state_of layout p) leg to → LeadsOn net path states (state_of layout p) leg (node_of flags to)
   leads p leg to s (inl f) = let c = count in inl (f.0, ap (node_of flags) f.1 ∙ (omega arith))
   leads p leg to s (inr f) =
-      let b = place_below layout f.0 f.2 in
+      let b = place_below layout f.0 f.2.placed in
       let set : IsSet flags (place_of layout f.0) = subst (IsSet flags) f.3 s in
       let n = node_is layout flags (places_of layout) kept.len (place_of layout f.0) b set in
-      let at : state_at states (node_of flags (place_of layout f.0)) ≡ f.0 = at_node (place_of layout f.0) b set ∙ state_back layout f.0 f.2 in
+      let at : state_at states (node_of flags (place_of layout f.0)) ≡ f.0 = at_node (place_of layout f.0) b set ∙ state_back layout f.0 f.2.placed in
       let e = ap (node_of flags) (sym f.3) in
       inr (subst (IsStateNode states) e n, subst (λ (n : ℕ). IsAfter net path (state_of layout p) leg (state_at states n)) e (subst (IsAfter net path (state_of layout p) leg) (sym at) f.1))
 
@@ -133,9 +133,9 @@ module _ (net : Net) (path : Path) (layout : Layout) (setting : IsSetting net pa
       p = node_place layout flags (places_of layout) kept.len n s
 
       by : IsStartPlace path layout p.0 ⊎ IsSteppedTo net path layout flags p.0 → (k : ℕ) × (k < length arcs) × ((get_or arcs k no_arc).to ≡ n)
-      by (inl (m, within, placed, e)) =
-          let late = placed.late in
-          let w = starts.whole m (omega arith) (record { within = within; placed = placed; kept = subst (IsSet flags) e p.2 }) in
+      by (inl (m, within, timely, e)) =
+          let late = timely.placed.late in
+          let w = starts.whole m (omega arith) (record { within = within; timely = timely; kept = subst (IsSet flags) e p.2 }) in
           let b = begin in
           let c = made.count in
           let to = ap (λ (a : Arc). a.to) (start_at w.0 w.1) in

@@ -13,7 +13,7 @@ use Rattle.optra_graph.specs.declared.stepping.Step.{Step}
 use Rattle.optra_graph.specs.Flags.{is_set, IsSet}
 use Rattle.optra_graph.specs.Moves.{start_state}
 use Rattle.optra_graph.specs.Nodes.{node_of}
-use Rattle.optra_graph.specs.Places.{IsPlaced, place_of, places_of, state_of}
+use Rattle.optra_graph.specs.Places.{IsTimely, place_of, places_of, state_of, station_at}
 use Rattle.optra_graph.specs.Steps.{IsStep}
 use Rattle.optra_graph.specs.Timed.{no_leg}
 
@@ -34,7 +34,7 @@ start_arc path layout flags minute = record { from = 0; to = node_of flags (plac
 -- the minute is one at which a walk may begin whose state is kept
 pub record IsKeptStart (path : Path) (layout : Layout) (flags : List Bool) (minute : ℕ) : Type 0 where
   pub within : IsFromTo path.depart.from path.depart.to minute
-  pub placed : IsPlaced layout (start_state path minute)
+  pub timely : IsTimely layout (start_state path minute)
   pub kept : IsSet flags (place_of layout (start_state path minute))
 
 -- the start arcs of the minutes before one, ascending
@@ -72,8 +72,13 @@ abbrev pub out_before : List Track → ℕ → ℕ
 out_before tracks zero = 0
 out_before tracks (suc s) = out_before tracks s + length (out_tracks_of tracks (record { 0 = s }))
 
+-- the stations of the first columns come before this one
+abbrev pub stations_to : Layout → ℕ → ℕ
+stations_to layout zero = 0
+stations_to layout (suc column) = (station_at layout column).0 + 1
+
 -- place p is that of a row and a column, and so far there are at most 63 arcs for each track in each row and in the columns so far
-pub record IsFew (tracks : List Track) (stations place row column count : ℕ) : Type 0 where
-  pub is : place ≡ row * stations + column
-  pub within : (column < stations) ⊎ (column ≡ 0)
-  pub few : count ≤ 63 * (row * length tracks + out_before tracks column)
+pub record IsFew (tracks : List Track) (layout : Layout) (place row column count : ℕ) : Type 0 where
+  pub is : place ≡ row * layout.stations + column
+  pub within : (column < layout.stations) ⊎ (column ≡ 0)
+  pub few : count ≤ 63 * (row * length tracks + out_before tracks (stations_to layout column))

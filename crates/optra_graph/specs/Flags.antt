@@ -6,7 +6,7 @@ use Rattle.optra_walk.specs.declared.Leg.{Leg}
 use Rattle.optra_graph.specs.declared.states.Layout.{Layout}
 use Rattle.optra_graph.specs.declared.stepping.Step.{Step}
 use Rattle.optra_graph.specs.Moves.{start_state, Runs}
-use Rattle.optra_graph.specs.Places.{IsPlaced, place_of, places_of, state_of}
+use Rattle.optra_graph.specs.Places.{IsTimely, place_of, places_of, state_of}
 use Rattle.optra_graph.specs.Steps.{IsStep}
 
 abbrev pub is_set : List Bool → ℕ → Bool
@@ -18,7 +18,7 @@ IsSet flags place = is_set flags place ≡ true
 -- the place of a state in which a walk may begin
 abbrev pub IsStartPlace : Path → Layout → ℕ → Type 0
 IsStartPlace path layout place =
-    (m : ℕ) × IsFromTo path.depart.from path.depart.to m × IsPlaced layout (start_state path m) × (place ≡ place_of layout (start_state path m))
+    (m : ℕ) × IsFromTo path.depart.from path.depart.to m × IsTimely layout (start_state path m) × (place ≡ place_of layout (start_state path m))
 
 -- a step leads to the place from an earlier one that is set
 abbrev pub IsSteppedTo : Net → Path → Layout → List Bool → ℕ → Type 0
@@ -29,7 +29,7 @@ IsSteppedTo net path layout flags place =
 pub record AreStartsSet (path : Path) (layout : Layout) (before : ℕ) (old new : List Bool) : Type 0 where
   pub len : length new ≡ length old
   pub keeps : (place : ℕ) → IsSet old place → IsSet new place
-  pub starts : (m : ℕ) → IsFromTo path.depart.from path.depart.to m → m < before → IsPlaced layout (start_state path m) → IsSet new (place_of layout (start_state path m))
+  pub starts : (m : ℕ) → IsFromTo path.depart.from path.depart.to m → m < before → IsTimely layout (start_state path m) → IsSet new (place_of layout (start_state path m))
   pub only : (place : ℕ) → IsSet new place → IsSet old place ⊎ IsStartPlace path layout place
 
 -- the flags of the places that the steps lead to are set, and no others changed
@@ -42,7 +42,7 @@ pub record Marks (steps : List Step) (old new : List Bool) : Type 0 where
 -- exactly the places that steps lead to from the starts
 pub record IsReached (net : Net) (path : Path) (layout : Layout) (flags : List Bool) : Type 0 where
   pub len : length flags ≡ places_of layout + 1
-  pub starts : (m : ℕ) → IsFromTo path.depart.from path.depart.to m → IsPlaced layout (start_state path m) → IsSet flags (place_of layout (start_state path m))
+  pub starts : (m : ℕ) → IsFromTo path.depart.from path.depart.to m → IsTimely layout (start_state path m) → IsSet flags (place_of layout (start_state path m))
   pub closed : (place : ℕ) (step : Step) → place < places_of layout → IsSet flags place → IsStep net path layout (state_of layout place) step → IsSet flags step.to
   pub from : (place : ℕ) → IsSet flags place → IsStartPlace path layout place ⊎ IsSteppedTo net path layout flags place
 
@@ -50,7 +50,7 @@ pub record IsReached (net : Net) (path : Path) (layout : Layout) (flags : List B
 pub record IsKept (net : Net) (path : Path) (layout : Layout) (flags : List Bool) : Type 0 where
   pub len : length flags ≡ places_of layout + 1
   pub starts : (m : ℕ) (legs : List Leg) → IsFromTo path.depart.from path.depart.to m → Runs net path (start_state path m) legs
-      → IsPlaced layout (start_state path m) × IsSet flags (place_of layout (start_state path m))
+      → IsTimely layout (start_state path m) × IsSet flags (place_of layout (start_state path m))
   pub runs : (place : ℕ) (leg : Leg) (rest : List Leg) → place < places_of layout → IsSet flags place → Runs net path (state_of layout place) (leg ∷ rest)
       → (to : ℕ) × IsStep net path layout (state_of layout place) (record { leg = leg; to = to }) × IsSet flags to
   pub from : (place : ℕ) → IsSet flags place → IsStartPlace path layout place ⊎ IsSteppedTo net path layout flags place
@@ -59,7 +59,7 @@ pub record IsKept (net : Net) (path : Path) (layout : Layout) (flags : List Bool
 -- the flags while the places before one are gone over
 pub record IsReachedTo (net : Net) (path : Path) (layout : Layout) (before : ℕ) (flags : List Bool) : Type 0 where
   pub len : length flags ≡ places_of layout + 1
-  pub starts : (m : ℕ) → IsFromTo path.depart.from path.depart.to m → IsPlaced layout (start_state path m) → IsSet flags (place_of layout (start_state path m))
+  pub starts : (m : ℕ) → IsFromTo path.depart.from path.depart.to m → IsTimely layout (start_state path m) → IsSet flags (place_of layout (start_state path m))
   pub closed : (place : ℕ) (step : Step) → place < before → place < places_of layout → IsSet flags place → IsStep net path layout (state_of layout place) step → IsSet flags step.to
   pub from : (place : ℕ) → IsSet flags place → IsStartPlace path layout place ⊎ IsSteppedTo net path layout flags place
 

@@ -4,7 +4,10 @@ pub mod TimedParts
 pub mod Moves
 pub mod Places
 pub mod Steps
+pub mod Deadlines
+pub mod Columns
 pub mod Flags
+pub mod StepTables
 pub mod Arcs
 pub mod Graphs
 pub mod Nodes

@@ -3,9 +3,10 @@ use Rattle.std.specs.Prelude.{◌≤◌, length, All}
 use Rattle.optra_network.specs.Net.{Net, IsProper, IsStation}
 use Rattle.optra_bid.specs.Specs.{Path, IsWindow, IsStop}
 use Rattle.optra_graph.specs.declared.states.Layout.{Layout}
+use Rattle.optra_graph.specs.Columns.{AreColumns}
 use Rattle.optra_graph.specs.Places.{IsLayout, IsSmall}
 
--- a proper network, a path that keeps the bounds of a bid, and its layout
+-- a proper network, a path that keeps the bounds of a bid, its layout, and the columns of its stations
 pub record IsSetting (net : Net) (path : Path) (layout : Layout) : Type 0 where
   pub proper : IsProper net
   pub laid : IsLayout net path layout
@@ -16,3 +17,4 @@ pub record IsSetting (net : Net) (path : Path) (layout : Layout) : Type 0 where
   pub wait_max : path.wait_max ≤ 30
   pub few : length path.stops ≤ 8
   pub stops : All IsStop path.stops
+  pub columns : AreColumns net path layout.columns.now

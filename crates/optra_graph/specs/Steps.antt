@@ -15,13 +15,13 @@ use Rattle.optra_graph.specs.declared.states.Layout.{Layout}
 use Rattle.optra_graph.specs.declared.stepping.Step.{Step}
 use Rattle.optra_graph.specs.declared.stepping.Way.{Way}
 use Rattle.optra_graph.specs.Moves.{IsMove, IsAfter}
-use Rattle.optra_graph.specs.Places.{IsPlaced, place_of, places_of}
+use Rattle.optra_graph.specs.Places.{IsTimely, deadline_of, place_of, places_of}
 
--- a leg that finishes leads to the end, any other one to the place of the state after it
+-- a leg that finishes leads to the end, any other one to the place of the state after it, which is in time
 abbrev pub LeadsTo : Net → Path → Layout → State → Leg → ℕ → Type 0
 LeadsTo net path layout s leg to =
     ((leg.action ≡ Finish) × (to ≡ places_of layout))
-    ⊎ ((after : State) × IsAfter net path s leg after × IsPlaced layout after × (to ≡ place_of layout after))
+    ⊎ ((after : State) × IsAfter net path s leg after × IsTimely layout after × (to ≡ place_of layout after))
 
 pub record IsStep (net : Net) (path : Path) (layout : Layout) (s : State) (step : Step) : Type 0 where
   pub move : IsMove net path s step.leg
@@ -55,7 +55,7 @@ abbrev pub leg_by : State → TrackId → Action → Leg
 leg_by s track action = record { track = track; depart = s.minute; from_halt = s.halted; action = action }
 
 -- the train may leave by the track, and arrives at its head then, by whether it passes or halts there
-pub record IsWay (net : Net) (path : Path) (s : State) (way : Way) : Type 0 where
+pub record IsWay (net : Net) (path : Path) (layout : Layout) (s : State) (way : Way) : Type 0 where
   pub tail : tail_of net (leg_by s way.track Pass) ≡ Some s.station
   pub head : head_of net (leg_by s way.track Pass) ≡ Some way.head
   pub station : way.head.0 < length net.stations
@@ -66,6 +66,7 @@ pub record IsWay (net : Net) (path : Path) (s : State) (way : Way) : Type 0 wher
   pub halt_later : s.minute < way.halt
   pub pass_bound : way.pass ≤ s.minute + 240
   pub halt_bound : way.halt ≤ s.minute + 240
+  pub deadline : way.deadline ≡ deadline_of layout way.head
 
 -- the tracks before an index come before track n, and the others do not
 pub record IsSplit (tracks : List TrackId) (index n : ℕ) : Type 0 where

@@ -3,14 +3,17 @@ ghost use Rattle.std.specs.Prelude.{◌≡◌, ◌+◌, ◌<◌, min, IfOk, is_o
 ghost use Rattle.optra_bid.specs.Specs.{IsPathOn};
 ghost use Rattle.optra_graph.specs.Flags.{IsKept};
 ghost use Rattle.optra_graph.specs.Nodes.{AreNumbers};
+ghost use Rattle.optra_graph.specs.Places.{places_of};
 ghost use Rattle.optra_graph.specs.Settings.{IsSetting};
+ghost use Rattle.optra_graph.specs.StepTables.{AreStepsTo};
 ghost use Rattle.optra_graph.specs.Timed.{IsGraphOf};
 
+use crate::columns::Columns;
 use crate::emitting::{add_legs, add_starts};
 use crate::numbering::number;
 use crate::reaching::{reach, trim};
 use crate::states::{Layout, make_layout};
-use crate::stepping::Step;
+use crate::step_table::StepTable;
 use crate::timegraphs::TimeGraph;
 use optra_bid::Bid;
 use optra_dag::Dag;
@@ -77,12 +80,13 @@ fn make_graph(alloc: Global, net: &Network, bid: &Bid) -> Result<TimeGraph, NoMe
     requires { IsPathOn net.now bid.now.path }
     ensures { IfOk result (λ graph. IsGraphOf net.now bid.now.path graph) }
 {
-    let layout = make_layout(net, bid);
-    let mut steps = Vec::new(alloc);
-    let mut flags = reach(alloc, net, bid, layout, &mut steps)?;
-    let arcs = trim(net, bid, layout, &mut flags, &mut steps)?;
+    let columns = Columns::new(alloc, net, bid)?;
+    let layout = make_layout(net, bid, &columns);
+    let mut table = StepTable::new(alloc, layout.places())?;
+    let mut flags = reach(alloc, net, bid, layout, &mut table)?;
+    let arcs = trim(net, bid, layout, &mut flags, &table);
     let numbers = number(alloc, &flags)?;
-    emit(alloc, net, bid, layout, &flags, &numbers, arcs, &mut steps)
+    emit(alloc, net, bid, layout, &flags, &numbers, arcs, &table)
 }
 
 /// The graph of the kept places, with room for so many arcs of legs.
@@ -90,14 +94,15 @@ fn emit(
     alloc: Global,
     net: &Network,
     bid: &Bid,
-    layout: Layout,
+    layout: Layout<'_>,
     flags: &[bool],
     numbers: &[u32],
     arcs: usize,
-    steps: &mut Vec<Step>,
+    table: &StepTable,
 ) -> Result<TimeGraph, NoMemory>
     requires setting { IsSetting net.now bid.now.path layout }
     requires kept { IsKept net.now bid.now.path layout flags.now }
+    requires steps { AreStepsTo net.now bid.now.path layout (places_of layout) flags.now table.now }
     requires numbers { AreNumbers flags.now numbers.now }
     ensures { IfOk result (λ graph. IsGraphOf net.now bid.now.path graph) }
 {
@@ -108,7 +113,7 @@ fn emit(
     add_starts(net, bid, layout, flags, numbers, &mut dag, &mut minutes)?;
     dag.reserve(arcs)?;
     let mut legs = Vec::with_capacity(alloc, arcs)?;
-    add_legs(net, bid, layout, flags, numbers, &mut dag, &mut legs, steps)?;
+    add_legs(net, bid, layout, flags, numbers, &mut dag, &mut legs, table)?;
     let _arcs = dag.arcs();
     Ok(TimeGraph { dag, minutes, legs })
 }

@@ -4,10 +4,12 @@ ghost use Rattle.optra_graph.specs.Arcs.{arc_of, is_kept, leg_of_step, Starts, E
 ghost use Rattle.optra_graph.specs.Nodes.{AreNumbers, node_of};
 ghost use Rattle.optra_graph.specs.Places.{places_of};
 ghost use Rattle.optra_graph.specs.Settings.{IsSetting};
+ghost use Rattle.optra_graph.specs.StepTables.{AreStepsTo};
 
 use crate::reaching::{make_start, starts_end};
 use crate::states::Layout;
-use crate::stepping::{Step, fill_steps};
+use crate::step_table::StepTable;
+use crate::stepping::Step;
 use optra_bid::Bid;
 use optra_dag::Dag;
 use optra_network::{Minute, Network, NoMemory};
@@ -17,7 +19,7 @@ use optra_walk::Leg;
 pub fn add_starts(
     net: &Network,
     bid: &Bid,
-    layout: Layout,
+    layout: Layout<'_>,
     flags: &[bool],
     numbers: &[u32],
     dag: &mut Dag,
@@ -29,7 +31,7 @@ pub fn add_starts(
     requires arcs { dag.old.arcs ≡ [] }
     requires ends { length dag.old.ends ≡ node_of flags.now (places_of layout) + 1 }
     requires minutes { minutes.old.items ≡ [] }
-    ensures starts { OnOk result (Starts bid.now.path layout flags.now (layout.first + layout.minutes) dag.new.arcs minutes.new.items) }
+    ensures starts { OnOk result (Starts bid.now.path layout.entry flags.now (layout.entry.first + layout.entry.minutes) dag.new.arcs minutes.new.items) }
     ensures ends { OnOk result (dag.new.ends ≡ dag.old.ends) }
 {
     for minute in layout.first..starts_end(bid, layout) {
@@ -47,29 +49,30 @@ pub fn add_starts(
 pub fn add_legs(
     net: &Network,
     bid: &Bid,
-    layout: Layout,
+    layout: Layout<'_>,
     flags: &[bool],
     numbers: &[u32],
     dag: &mut Dag,
     legs: &mut Vec<Leg>,
-    steps: &mut Vec<Step>,
+    table: &StepTable,
 ) -> Result<(), NoMemory>
     requires setting { IsSetting net.now bid.now.path layout }
+    requires steps { AreStepsTo net.now bid.now.path layout (places_of layout) flags.now table.now }
     requires flags { length flags.now ≡ places_of layout + 1 }
     requires numbers { AreNumbers flags.now numbers.now }
     requires starts { All (λ arc. arc.from ≡ 0) dag.old.arcs }
     requires few { length dag.old.arcs ≤ 2880 }
     requires ends { length dag.old.ends ≡ node_of flags.now (places_of layout) + 1 }
     requires legs { legs.old.items ≡ [] }
-    ensures arcs { OnOk result (Emits net.now bid.now.path layout flags.now (places_of layout) dag.old.arcs dag.new.arcs legs.new.items) }
+    ensures arcs { OnOk result (Emits net.now bid.now.path layout.entry flags.now (places_of layout.entry) dag.old.arcs dag.new.arcs legs.new.items) }
     ensures ends { OnOk result (dag.new.ends ≡ dag.old.ends) }
 {
     for place in 0..layout.places() {
         if !flags[place as usize] {
             continue;
         }
-        fill_steps(net, bid, layout, layout.state(place), steps)?;
-        add_arcs(dag, legs, numbers[place as usize], steps, flags, numbers)?;
+        let from = numbers[place as usize];
+        add_arcs(dag, legs, from, table.of(place), flags, numbers)?;
     }
     Ok(())
 }

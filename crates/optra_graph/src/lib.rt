@@ -2,12 +2,15 @@
 #![tactic(auto)]
 
 mod building;
+mod columns;
+mod deadlines;
 mod emitting;
 mod graph_map;
 mod numbering;
 mod reaching;
 mod serving;
 mod states;
+mod step_table;
 mod stepping;
 mod timegraphs;
 

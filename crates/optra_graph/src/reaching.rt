@@ -1,22 +1,27 @@
 //! Which states come into walks: those that are reached from a start and lead on to the end.
 ghost use Rattle.std.specs.Prelude.{◌≡◌, ℕ, ◌+◌, ◌-◌, ◌<◌, ◌≤◌, length, min, IfOk, OnOk, All, count_by, nat_eq, slice_set, false, if◌then◌else◌};
 ghost use Rattle.optra_graph.specs.Flags.{is_set, IsSet, IsReached, IsKept, Marks, AreStartsSet};
-ghost use Rattle.optra_graph.specs.Places.{IsPlaced, IsSmall, IsLayout, place_of, places_of};
+ghost use Rattle.optra_graph.specs.Places.{IsPlaced, IsLayout, deadline_of, place_of, places_of};
+ghost use Rattle.optra_bid.specs.Specs.{IsWindow};
 ghost use Rattle.optra_graph.specs.Settings.{IsSetting};
+ghost use Rattle.optra_graph.specs.StepTables.{AreStepsTo, IsEmpty};
 ghost use Rattle.optra_graph.specs.Moves.{start_state};
 
 use crate::states::{Layout, State};
+use crate::step_table::StepTable;
 use crate::stepping::{Step, fill_steps};
 use optra_bid::Bid;
 use optra_network::{Minute, Network, NoMemory};
 use std::alloc::Global;
 
 /// The first minute after those at which walks may begin.
-pub fn starts_end(bid: &Bid, layout: Layout) -> Minute
-    requires { IsSmall layout }
-    ensures { result ≡ min (bid.now.path.depart.to + 1) (layout.first + layout.minutes) }
+pub fn starts_end(bid: &Bid, layout: Layout<'_>) -> Minute
+    requires depart { IsWindow bid.now.path.depart }
+    requires origin { bid.now.path.origin.0 < length layout.columns.now.deadlines.items }
+    ensures { result ≡ min (bid.now.path.depart.to + 1)
+        (deadline_of layout.entry bid.now.path.origin) }
 {
-    (bid.path.depart.to + 1).min(layout.first + layout.minutes)
+    (bid.path.depart.to + 1).min(layout.deadline(bid.path.origin))
 }
 
 /// The state in which a walk begins that departs then.
@@ -31,32 +36,40 @@ pub fn make_start(bid: &Bid, minute: Minute) -> State
     }
 }
 
-/// A flag for each place and for the end: whether steps lead there from a start. One pass, from early to late.
+/// A flag for each place and for the end: whether steps lead there from a start. One pass, from early to late, which
+/// puts the steps of the places into the table.
 pub fn reach(
     alloc: Global,
     net: &Network,
     bid: &Bid,
-    layout: Layout,
-    steps: &mut Vec<Step>,
+    layout: Layout<'_>,
+    table: &mut StepTable,
 ) -> Result<Vec<bool>, NoMemory>
-    requires { IsSetting net.now bid.now.path layout }
-    ensures { IfOk result (λ flags. IsReached net.now bid.now.path layout flags.items) }
+    requires setting { IsSetting net.now bid.now.path layout }
+    requires empty { IsEmpty table.old }
+    ensures flags { IfOk result (λ flags. IsReached net.now bid.now.path layout.entry flags.items) }
+    ensures steps { IfOk result (λ flags. AreStepsTo net.now bid.now.path layout.entry
+        (places_of layout.entry) flags.items table.new) }
 {
+    let mut steps = Vec::new(alloc);
     let mut flags = vec![in alloc; false; layout.places() as usize + 1]?;
     mark_starts(net, bid, layout, &mut flags);
     for place in 0..layout.places() {
         if flags[place as usize] {
-            fill_steps(net, bid, layout, layout.state(place), steps)?;
-            mark(&mut flags, steps);
+            fill_steps(net, bid, layout, layout.state(place), &mut steps)?;
+            mark(&mut flags, &steps);
+            table.add(&steps)?;
+        } else {
+            table.skip()?;
         }
     }
     Ok(flags)
 }
 
-fn mark_starts(net: &Network, bid: &Bid, layout: Layout, flags: &mut Vec<bool>)
+fn mark_starts(net: &Network, bid: &Bid, layout: Layout<'_>, flags: &mut Vec<bool>)
     requires setting { IsSetting net.now bid.now.path layout }
     requires len { length flags.old.items ≡ places_of layout + 1 }
-    ensures { AreStartsSet bid.now.path layout (layout.first + layout.minutes) flags.old.items flags.new.items }
+    ensures { AreStartsSet bid.now.path layout.entry (layout.entry.first + layout.entry.minutes) flags.old.items flags.new.items }
 {
     for minute in layout.first..starts_end(bid, layout) {
         let place = layout.place(make_start(bid, minute));
@@ -79,24 +92,26 @@ fn mark(flags: &mut Vec<bool>, steps: &[Step])
 pub fn trim(
     net: &Network,
     bid: &Bid,
-    layout: Layout,
+    layout: Layout<'_>,
     flags: &mut Vec<bool>,
-    steps: &mut Vec<Step>,
-) -> Result<usize, NoMemory>
+    table: &StepTable,
+) -> usize
     requires setting { IsSetting net.now bid.now.path layout }
     requires reached { IsReached net.now bid.now.path layout flags.old.items }
-    ensures { OnOk result (IsKept net.now bid.now.path layout flags.new.items) }
+    requires steps { AreStepsTo net.now bid.now.path layout (places_of layout) flags.old.items table.now }
+    ensures flags { IsKept net.now bid.now.path layout.entry flags.new.items }
+    ensures steps { AreStepsTo net.now bid.now.path layout.entry
+        (places_of layout.entry) flags.new.items table.now }
 {
     let mut arcs: usize = 0;
     let mut left = layout.places();
     while left > 0 {
         left -= 1;
         if flags[left as usize] {
-            fill_steps(net, bid, layout, layout.state(left), steps)?;
-            arcs = arcs.saturating_add(settle(flags, left, steps));
+            arcs = arcs.saturating_add(settle(flags, left, table.of(left)));
         }
     }
-    Ok(arcs)
+    arcs
 }
 
 /// Clears the flag of the place where none of its steps leads to a place whose flag is set, and counts those that do.

@@ -1,6 +1,6 @@
 //! The steps of a state, in the order of walks.
 ghost use Rattle.std.specs.Prelude.{◌≡◌, ℕ, ◌+◌, ◌-◌, ◌*◌, ◌<◌, ◌≤◌, length, min, OnOk, MatchOption, Some, slice_get, IsTrue, true, ◌↔◌};
-ghost use Rattle.optra_network.specs.Net.{IsProper, MayUse, out_tracks_of};
+ghost use Rattle.optra_network.specs.Net.{MayUse, out_tracks_of};
 ghost use Rattle.optra_walk.specs.Walks.{tail_of};
 ghost use Rattle.optra_graph.specs.Places.{IsPlaced, IsSmall, place_of};
 ghost use Rattle.optra_graph.specs.Settings.{IsSetting};
@@ -18,31 +18,33 @@ pub struct Step {
     pub to: u32,
 }
 
-/// A track by which the train may leave, and when it arrives at its head, passing or halting there.
+/// A track by which the train may leave, and when it arrives at its head, passing or halting there. From the deadline on
+/// it is too late to leave the head.
 #[derive(Clone, Copy, Debug, PartialEq, Eq)]
 pub struct Way {
     pub track: TrackId,
     pub head: StationId,
     pub pass: Minute,
     pub halt: Minute,
+    pub deadline: Minute,
 }
 
 /// Puts all steps of the state into the list, in place of what it had.
 pub fn fill_steps(
     net: &Network,
     bid: &Bid,
-    layout: Layout,
+    layout: Layout<'_>,
     state: State,
     steps: &mut Vec<Step>,
 ) -> Result<(), NoMemory>
     requires setting { IsSetting net.now bid.now.path layout }
     requires placed { IsPlaced layout state }
     ensures few { OnOk result (length steps.new.items ≤ 63 * length (out_tracks_of net.now.tracks state.station)) }
-    ensures steps { OnOk result (AreSteps net.now bid.now.path layout state steps.new.items) }
+    ensures steps { OnOk result (AreSteps net.now bid.now.path layout.entry state steps.new.items) }
 {
     steps.clear();
     for track in net.out_tracks(state.station) {
-        if let Some(way) = find_way(net, bid, state, *track) {
+        if let Some(way) = find_way(net, bid, layout, state, *track) {
             add_way(net, bid, layout, state, way, steps)?;
         }
     }
@@ -56,20 +58,28 @@ fn kind_of(bid: &Bid) -> TypeId
 }
 
 /// The way by the track, where the train may use it.
-fn find_way(net: &Network, bid: &Bid, state: State, track: TrackId) -> Option<Way>
-    requires proper { IsProper net.now }
+fn find_way(
+    net: &Network,
+    bid: &Bid,
+    layout: Layout<'_>,
+    state: State,
+    track: TrackId,
+) -> Option<Way>
+    requires setting { IsSetting net.now bid.now.path layout }
     requires tail { tail_of net.now (leg_by state track Action.Pass) ≡ Some state.station }
     requires minute { state.minute ≤ 2879 }
-    ensures { MatchOption result (¬ MayUse net.now track bid.now.path.kind) (λ way. (way.track ≡ track) × IsWay net.now bid.now.path state way) }
+    ensures { MatchOption result (¬ MayUse net.now track bid.now.path.kind) (λ way. (way.track ≡ track) × IsWay net.now bid.now.path layout.entry state way) }
 {
     let kind = kind_of(bid);
     let pass = net.run(track, kind, state.halted, false)?;
     let halt = net.run(track, kind, state.halted, true)?;
+    let head = net.head(track);
     Some(Way {
         track,
-        head: net.head(track),
+        head,
         pass: state.minute + pass,
         halt: state.minute + halt,
+        deadline: layout.deadline(head),
     })
 }
 
@@ -77,17 +87,17 @@ fn find_way(net: &Network, bid: &Bid, state: State, track: TrackId) -> Option<Wa
 fn add_way(
     net: &Network,
     bid: &Bid,
-    layout: Layout,
+    layout: Layout<'_>,
     state: State,
     way: Way,
     steps: &mut Vec<Step>,
 ) -> Result<(), NoMemory>
     requires setting { IsSetting net.now bid.now.path layout }
     requires placed { IsPlaced layout state }
-    requires way { IsWay net.now bid.now.path state way }
+    requires way { IsWay net.now bid.now.path layout state way }
     requires before { AreStepsBelow net.now bid.now.path layout state (bound_of way.track.0 0) steps.old.items }
     ensures few { OnOk result (length steps.new.items ≤ length steps.old.items + 63) }
-    ensures steps { OnOk result (AreStepsBelow net.now bid.now.path layout state (bound_of way.track.0 4) steps.new.items) }
+    ensures steps { OnOk result (AreStepsBelow net.now bid.now.path layout.entry state (bound_of way.track.0 4) steps.new.items) }
 {
     add_pass(net, bid, layout, state, way, steps)?;
     add_halts(net, bid, layout, state, way, steps)?;
@@ -95,10 +105,10 @@ fn add_way(
     add_finish(net, bid, layout, state, way, steps)
 }
 
-fn make_step(layout: Layout, state: State, way: Way, action: Action, after: State) -> Step
+fn make_step(layout: Layout<'_>, state: State, way: Way, action: Action, after: State) -> Step
     requires small { IsSmall layout }
     requires placed { IsPlaced layout after }
-    ensures { result ≡ record { leg = leg_by state way.track action; to = place_of layout after } }
+    ensures { result ≡ record { leg = leg_by state way.track action; to = place_of layout.entry after } }
 {
     Step {
         leg: make_leg(state, way, action),
@@ -117,31 +127,30 @@ fn make_leg(state: State, way: Way, action: Action) -> Leg
     }
 }
 
-/// The first dwell that is too long: above the most, or so long that the next departure is past the layout.
-fn dwell_end(layout: Layout, arrival: Minute, most: u16) -> u16
-    requires small { IsSmall layout }
-    requires most { most ≤ 240 }
-    ensures { result ≡ min (most + 1) (layout.first + layout.minutes - arrival) }
+/// The first dwell that is too long: above the most, or so long that it is too late to leave.
+fn dwell_end(way: Way, most: u16) -> u16
+    requires { most ≤ 240 }
+    ensures { result ≡ min (most + 1) (way.deadline - way.halt) }
 {
-    (most + 1).min((layout.first + layout.minutes).saturating_sub(arrival))
+    (most + 1).min(way.deadline.saturating_sub(way.halt))
 }
 
 fn add_pass(
     net: &Network,
     bid: &Bid,
-    layout: Layout,
+    layout: Layout<'_>,
     state: State,
     way: Way,
     steps: &mut Vec<Step>,
 ) -> Result<(), NoMemory>
     requires setting { IsSetting net.now bid.now.path layout }
     requires placed { IsPlaced layout state }
-    requires way { IsWay net.now bid.now.path state way }
+    requires way { IsWay net.now bid.now.path layout state way }
     requires before { AreStepsBelow net.now bid.now.path layout state (bound_of way.track.0 0) steps.old.items }
     ensures few { OnOk result (length steps.new.items ≤ length steps.old.items + 1) }
-    ensures steps { OnOk result (AreStepsBelow net.now bid.now.path layout state (bound_of way.track.0 1) steps.new.items) }
+    ensures steps { OnOk result (AreStepsBelow net.now bid.now.path layout.entry state (bound_of way.track.0 1) steps.new.items) }
 {
-    if way.pass >= layout.first + layout.minutes {
+    if way.pass >= way.deadline {
         return Ok(());
     }
     let after = State {
@@ -185,17 +194,17 @@ fn stand(way: Way, dwell: u16, done: u16) -> State
 fn add_halts(
     net: &Network,
     bid: &Bid,
-    layout: Layout,
+    layout: Layout<'_>,
     state: State,
     way: Way,
     steps: &mut Vec<Step>,
 ) -> Result<(), NoMemory>
     requires setting { IsSetting net.now bid.now.path layout }
     requires placed { IsPlaced layout state }
-    requires way { IsWay net.now bid.now.path state way }
+    requires way { IsWay net.now bid.now.path layout state way }
     requires before { AreStepsBelow net.now bid.now.path layout state (bound_of way.track.0 1) steps.old.items }
     ensures few { OnOk result (length steps.new.items ≤ length steps.old.items + 31) }
-    ensures steps { OnOk result (AreStepsBelow net.now bid.now.path layout state (bound_of way.track.0 2) steps.new.items) }
+    ensures steps { OnOk result (AreStepsBelow net.now bid.now.path layout.entry state (bound_of way.track.0 2) steps.new.items) }
 {
     let Some(stop) = next_stop(bid, state.done) else {
         return Ok(());
@@ -203,7 +212,7 @@ fn add_halts(
     if !may_halt(stop, way) {
         return Ok(());
     }
-    let before = dwell_end(layout, way.halt, stop.max_dwell);
+    let before = dwell_end(way, stop.max_dwell);
     for dwell in stop.min_dwell..before {
         let after = stand(way, dwell, state.done + 1);
         steps.push(make_step(layout, state, way, Action::Halt(dwell), after))?;
@@ -215,19 +224,19 @@ fn add_halts(
 fn add_waits(
     net: &Network,
     bid: &Bid,
-    layout: Layout,
+    layout: Layout<'_>,
     state: State,
     way: Way,
     steps: &mut Vec<Step>,
 ) -> Result<(), NoMemory>
     requires setting { IsSetting net.now bid.now.path layout }
     requires placed { IsPlaced layout state }
-    requires way { IsWay net.now bid.now.path state way }
+    requires way { IsWay net.now bid.now.path layout state way }
     requires before { AreStepsBelow net.now bid.now.path layout state (bound_of way.track.0 2) steps.old.items }
     ensures few { OnOk result (length steps.new.items ≤ length steps.old.items + 30) }
-    ensures steps { OnOk result (AreStepsBelow net.now bid.now.path layout state (bound_of way.track.0 3) steps.new.items) }
+    ensures steps { OnOk result (AreStepsBelow net.now bid.now.path layout.entry state (bound_of way.track.0 3) steps.new.items) }
 {
-    let before = dwell_end(layout, way.halt, wait_max(bid));
+    let before = dwell_end(way, wait_max(bid));
     for dwell in 1..before {
         let after = stand(way, dwell, state.done);
         steps.push(make_step(layout, state, way, Action::Wait(dwell), after))?;
@@ -257,17 +266,17 @@ fn may_finish(bid: &Bid, state: State, way: Way) -> bool
 fn add_finish(
     net: &Network,
     bid: &Bid,
-    layout: Layout,
+    layout: Layout<'_>,
     state: State,
     way: Way,
     steps: &mut Vec<Step>,
 ) -> Result<(), NoMemory>
     requires setting { IsSetting net.now bid.now.path layout }
     requires placed { IsPlaced layout state }
-    requires way { IsWay net.now bid.now.path state way }
+    requires way { IsWay net.now bid.now.path layout state way }
     requires before { AreStepsBelow net.now bid.now.path layout state (bound_of way.track.0 3) steps.old.items }
     ensures few { OnOk result (length steps.new.items ≤ length steps.old.items + 1) }
-    ensures steps { OnOk result (AreStepsBelow net.now bid.now.path layout state (bound_of way.track.0 4) steps.new.items) }
+    ensures steps { OnOk result (AreStepsBelow net.now bid.now.path layout.entry state (bound_of way.track.0 4) steps.new.items) }
 {
     if !may_finish(bid, state, way) {
         return Ok(());

@@ -7,5 +7,5 @@ abbrev pub invariant-loop-place : goal.invariant-loop-place
 invariant-loop-place l = record {
   emits : Emits l.net l.bid.path l.layout l.flags l.place l.initial.dag.arcs l.dag.arcs l.legs.items;
   ends : l.dag.ends ≡ l.initial.dag.ends;
-  few : (row : ℕ) × (column : ℕ) × IsFew l.net.tracks l.layout.stations l.place row column (length l.legs.items);
+  few : (row : ℕ) × (column : ℕ) × IsFew l.net.tracks l.layout l.place row column (length l.legs.items);
 }

@@ -5,11 +5,11 @@ use Rattle.optra_graph.specs.Arcs.{IsKeptStart, start_arc}
 use Rattle.optra_graph.specs.Flags.{is_set}
 use Rattle.optra_graph.specs.Moves.{start_state}
 use Rattle.optra_graph.specs.Nodes.{node_of}
-use Rattle.optra_graph.specs.Places.{place_of, places_of}
+use Rattle.optra_graph.specs.Places.{deadline_of, place_of, places_of}
 use Rattle.optra_graph.proofs.EmitLemmas.{starts_nil, starts_skip, starts_push, starts_end, starts_from}
 use Rattle.optra_graph.proofs.FlagLemmas.{far_start}
 use Rattle.optra_graph.proofs.NodeLemmas.{kept_up}
-use Rattle.optra_graph.proofs.ReachLemmas.{start_placed}
+use Rattle.optra_graph.proofs.ReachLemmas.{start_timely}
 use Rattle.optra_graph.proofs.emitting.add_starts.Goals as goal
 
 pub loop-minute-init : goal.loop-minute-init
@@ -21,7 +21,7 @@ loop-minute-init c = record {
 }
 
 pub place-place-requires-clause-placed : goal.place-place-requires-clause-placed
-place-place-requires-clause-placed c = rw c.make_start.ensures (start_placed c.args.net.now c.args.bid.now.path c.args.layout c.requires.setting c.loop-minute.minute (omega arith) (omega arith))
+place-place-requires-clause-placed c = let t = start_timely c.args.net.now c.args.bid.now.path c.args.layout c.requires.setting c.loop-minute.minute (omega arith) (omega arith) in rw c.make_start.ensures t.placed
 
 pub loop-minute-preserved-then-not-flags-place : goal.loop-minute-preserved-then-not-flags-place
 loop-minute-preserved-then-not-flags-place c =
@@ -66,7 +66,7 @@ loop-minute-preserved c =
     let first = c.requires.setting.laid.first in
     let is : IsKeptStart c.args.bid.now.path c.args.layout c.args.flags.now c.loop-minute.minute = record {
       within = (omega arith, omega arith);
-      placed = start_placed c.args.net.now c.args.bid.now.path c.args.layout c.requires.setting c.loop-minute.minute (omega arith) (omega arith);
+      timely = start_timely c.args.net.now c.args.bid.now.path c.args.layout c.requires.setting c.loop-minute.minute (omega arith) (omega arith);
       kept = ap (is_set c.args.flags.now) (sym e) ∙ c.if-not-flags-place.false;
     } in
     let p = starts_push c.args.bid.now.path c.args.layout c.args.flags.now c.loop-minute.minute c.loop-minute.dag.arcs c.loop-minute.minutes.items is i.starts in
@@ -78,5 +78,5 @@ loop-minute-preserved c =
     }
 
 pub returns-clause-starts : goal.returns-clause-starts
-returns-clause-starts c = starts_end c.args.bid.now.path c.args.layout c.args.flags.now c.loop-minute.minute (c.args.layout.first + c.args.layout.minutes) c.loop-minute.dag.arcs c.loop-minute.minutes.items c.loop-minute.invariant.end refl
-    (far_start c.args.bid.now.path.depart.to (c.args.layout.first + c.args.layout.minutes) c.loop-minute.minute (omega arith)) c.loop-minute.invariant.starts
+returns-clause-starts c = starts_end c.args.bid.now.path c.args.layout c.args.flags.now c.loop-minute.minute (c.args.layout.first + c.args.layout.minutes) c.loop-minute.dag.arcs c.loop-minute.minutes.items c.loop-minute.invariant.end
+    (far_start c.args.bid.now.path.depart.to (deadline_of c.args.layout c.args.bid.now.path.origin) c.loop-minute.minute (omega arith)) c.loop-minute.invariant.starts

@@ -1,5 +1,5 @@
 -- A halt for each dwell in the range of the next stop, ascending.
-use Rattle.std.proofs.Common.{arith, length, length-append, sym, ap, ◌+◌, ◌∷◌, []}
+use Rattle.std.proofs.Common.{arith, length, length-append, sym, ap, ◌∷◌, []}
 use Rattle.optra_graph.proofs.StepLemmas.{halt_no_stop, halt_none, halt_start, halt_push, halt_end, halted_at, stop_small, dwell_over}
 use Rattle.optra_graph.proofs.stepping.add_halts.Goals as goal
 
@@ -9,8 +9,8 @@ returns-in_default-clause-steps c = halt_no_stop c.args.net.now c.args.bid.now.p
 pub returns-then-not-may_halt-clause-steps : goal.returns-then-not-may_halt-clause-steps
 returns-then-not-may_halt-clause-steps c = halt_none c.args.net.now c.args.bid.now.path c.args.layout c.requires.setting c.args.state c.requires.placed c.args.way c.requires.way c.args.steps.now.items c.requires.before c.in-Some.stop (sym c.in-Some.ensures) (λ h. let t = c.may_halt.ensures.1 h in cc)
 
-pub dwell_end-before-requires-clause-most : goal.dwell_end-before-requires-clause-most
-dwell_end-before-requires-clause-most c = let s = stop_small c.args.net.now c.args.bid.now.path c.args.layout c.requires.setting c.args.state c.requires.placed c.in-Some.stop (sym c.in-Some.ensures) in s.1
+pub dwell_end-before-requires : goal.dwell_end-before-requires
+dwell_end-before-requires c = let s = stop_small c.args.net.now c.args.bid.now.path c.args.layout c.requires.setting c.args.state c.requires.placed c.in-Some.stop (sym c.in-Some.ensures) in s.1
 
 pub loop-dwell-init : goal.loop-dwell-init
 loop-dwell-init c =
@@ -20,7 +20,8 @@ loop-dwell-init c =
 pub make_step-requires-clause-placed : goal.make_step-requires-clause-placed
 make_step-requires-clause-placed c =
     let s = stop_small c.args.net.now c.args.bid.now.path c.args.layout c.requires.setting c.args.state c.requires.placed c.in-Some.stop (sym c.in-Some.ensures) in
-    rw c.stand-after.ensures (halted_at c.args.net.now c.args.bid.now.path c.args.layout c.requires.setting c.args.state c.requires.placed c.args.way c.requires.way c.loop-dwell.dwell s.2 (omega arith))
+    let t = halted_at c.args.net.now c.args.bid.now.path c.args.layout c.requires.setting c.args.state c.requires.placed c.args.way c.requires.way c.loop-dwell.dwell s.2 (omega arith) in
+    rw c.stand-after.ensures t.placed
 
 pub loop-dwell-preserved : goal.loop-dwell-preserved
 loop-dwell-preserved c =
@@ -34,7 +35,7 @@ pub returns-clause-steps : goal.returns-clause-steps
 returns-clause-steps c =
     let s = stop_small c.args.net.now c.args.bid.now.path c.args.layout c.requires.setting c.args.state c.requires.placed c.in-Some.stop (sym c.in-Some.ensures) in
     halt_end c.args.net.now c.args.bid.now.path c.args.layout c.requires.setting c.args.state c.requires.placed c.args.way c.requires.way c.loop-dwell.steps.items c.in-Some.stop c.loop-dwell.dwell (sym c.in-Some.ensures) s.1 (let f = c.loop-dwell.invariant.few in omega (arith, f, s.1))
-    (dwell_over c.in-Some.stop.max_dwell (c.args.layout.first + c.args.layout.minutes) c.args.way.halt c.loop-dwell.dwell (omega arith)) c.loop-dwell.invariant.below
+    (dwell_over c.in-Some.stop.max_dwell c.args.way.deadline c.args.way.halt c.loop-dwell.dwell (omega arith)) c.loop-dwell.invariant.below
 
 pub returns-clause-few : goal.returns-clause-few
 returns-clause-few c =

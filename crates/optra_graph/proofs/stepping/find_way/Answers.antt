@@ -8,26 +8,26 @@ use Rattle.optra_graph.proofs.stepping.find_way.Goals as goal
 pub overflow_add-result : goal.overflow_add-result
 overflow_add-result c =
     let e : option_map (minutes_by c.args.state.halted false) (times_of c.args.net.now c.args.track c.args.bid.now.path.kind) ≡ Some c.in_ok-pass.pass = search rules in
-    let w = run_within c.args.net.now c.args.track c.args.bid.now.path.kind c.args.state.halted false c.in_ok-pass.pass c.requires.proper e in
+    let w = run_within c.args.net.now c.args.track c.args.bid.now.path.kind c.args.state.halted false c.in_ok-pass.pass c.requires.setting.proper e in
     omega (arith, w.1)
 
 pub overflow_add-result-2 : goal.overflow_add-result-2
 overflow_add-result-2 c =
     let e : option_map (minutes_by c.args.state.halted true) (times_of c.args.net.now c.args.track c.args.bid.now.path.kind) ≡ Some c.in_ok-halt.halt = search rules in
-    let w = run_within c.args.net.now c.args.track c.args.bid.now.path.kind c.args.state.halted true c.in_ok-halt.halt c.requires.proper e in
+    let w = run_within c.args.net.now c.args.track c.args.bid.now.path.kind c.args.state.halted true c.in_ok-halt.halt c.requires.setting.proper e in
     omega (arith, w.1)
 
 pub returns : goal.returns
 returns c =
     let e : option_map (minutes_by c.args.state.halted false) (times_of c.args.net.now c.args.track c.args.bid.now.path.kind) ≡ Some c.in_ok-pass.pass = search rules in
     let f : option_map (minutes_by c.args.state.halted true) (times_of c.args.net.now c.args.track c.args.bid.now.path.kind) ≡ Some c.in_ok-halt.halt = search rules in
-    let w = run_within c.args.net.now c.args.track c.args.bid.now.path.kind c.args.state.halted false c.in_ok-pass.pass c.requires.proper e in
-    let v = run_within c.args.net.now c.args.track c.args.bid.now.path.kind c.args.state.halted true c.in_ok-halt.halt c.requires.proper f in (
+    let w = run_within c.args.net.now c.args.track c.args.bid.now.path.kind c.args.state.halted false c.in_ok-pass.pass c.requires.setting.proper e in
+    let v = run_within c.args.net.now c.args.track c.args.bid.now.path.kind c.args.state.halted true c.in_ok-halt.halt c.requires.setting.proper f in (
       refl,
       record {
         tail = c.requires.tail;
-        head = c.head.ensures.head;
-        station = head_within c.args.net.now c.args.track.0 c.head.result c.requires.proper c.head.ensures.head;
+        head = c.head-head.ensures.head;
+        station = head_within c.args.net.now c.args.track.0 c.head-head.result c.requires.setting.proper c.head-head.ensures.head;
         may_use = run_some (times_of c.args.net.now c.args.track c.args.bid.now.path.kind) c.args.state.halted false c.in_ok-pass.pass e;
         pass = run_arrival (times_of c.args.net.now c.args.track c.args.bid.now.path.kind) c.args.state.halted false c.in_ok-pass.pass c.args.state.minute e;
         halt = run_arrival (times_of c.args.net.now c.args.track c.args.bid.now.path.kind) c.args.state.halted true c.in_ok-halt.halt c.args.state.minute f;
@@ -35,5 +35,6 @@ returns c =
         halt_later = omega (arith, v.0);
         pass_bound = omega (arith, w.1);
         halt_bound = omega (arith, v.1);
+        deadline = c.deadline.ensures;
       },
     )

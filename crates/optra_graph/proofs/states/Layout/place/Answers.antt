@@ -7,6 +7,5 @@ pub returns-clause-within : goal.returns-clause-within
 returns-clause-within c =
     let e = c.from.ensures in
     let f = c.from-2.ensures in
-    let there = c.requires.placed.station in
-    let p = below_product c.slot.result (c.args.self.minutes * c.args.self.slots) c.args.state.station.0 c.args.self.stations c.slot.ensures.small there in
+    let p = below_product c.slot.result (c.args.self.minutes * c.args.self.slots) c.column.result c.args.self.stations c.slot.ensures.small c.column.ensures.within in
     rw (e, f) p

@@ -1,0 +1,10 @@
+-- The stations so far have their columns.
+use Rattle.optra_graph.specs.Columns.{AreColumnsTo}
+use Rattle.optra_graph.specs.Deadlines.{AreDeadlines}
+use Rattle.optra_graph.proofs.columns.Columns.new.Given as goal
+
+abbrev pub invariant-loop-station : goal.invariant-loop-station
+invariant-loop-station l = record {
+  deadlines : AreDeadlines l.net l.bid.path l.columns.deadlines.items;
+  listed : AreColumnsTo l.bid.path.depart.from l.station l.columns;
+}

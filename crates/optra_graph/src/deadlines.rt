@@ -1,0 +1,113 @@
+//! The deadlines of stations: from then on it is too late to leave a station, since no way on from it comes to the
+//! destination within the arrival window.
+ghost use Rattle.std.specs.Prelude.{◌≡◌, ℕ, Bool, ◌<◌, ◌≤◌, length, All, IfOk, IsSomeAnd, Some};
+ghost use Rattle.std.specs.Option.{option_map};
+ghost use Rattle.optra_bid.specs.Specs.{IsPathOn, IsWindow};
+ghost use Rattle.optra_network.specs.Net.{IsProper, IsStation, IsTrack, minutes_by, out_tracks_of, times_of};
+ghost use Rattle.optra_graph.specs.Deadlines.{AreDeadlines, IsTooLate, limit_of};
+
+use optra_bid::Bid;
+use optra_network::{Minute, Network, NoMemory, StationId, TrackId};
+use std::alloc::Global;
+
+/// The deadline of each station. All begin with the last minute of the arrival window, and each pass over the stations
+/// makes them earlier by what their tracks allow, until none changes.
+pub fn make_deadlines(alloc: Global, net: &Network, bid: &Bid) -> Result<Vec<Minute>, NoMemory>
+    requires { IsPathOn net.now bid.now.path }
+    ensures { IfOk result (λ deadlines. AreDeadlines net.now bid.now.path deadlines.items) }
+{
+    let path = &bid.path;
+    let mut deadlines = vec![in alloc; path.arrive.to; net.station_count() as usize]?;
+    for _ in path.depart.from..path.arrive.to {
+        if !tighten_all(net, bid, &mut deadlines) {
+            return Ok(deadlines);
+        }
+    }
+    Ok(deadlines)
+}
+
+/// Makes the deadlines earlier in one pass over the stations, and tells whether one has changed.
+fn tighten_all(net: &Network, bid: &Bid, deadlines: &mut [Minute]) -> bool
+    requires { AreDeadlines net.now bid.now.path deadlines.old }
+    ensures { AreDeadlines net.now bid.now.path deadlines.new }
+{
+    let mut changed = false;
+    for station in 0..net.station_count() {
+        if tighten(net, bid, deadlines, StationId(station)) {
+            changed = true;
+        }
+    }
+    changed
+}
+
+/// Makes the deadline of one station earlier, where its tracks allow it, and tells whether it has changed. One that is
+/// not after the first departure stays.
+fn tighten(net: &Network, bid: &Bid, deadlines: &mut [Minute], station: StationId) -> bool
+    requires deadlines { AreDeadlines net.now bid.now.path deadlines.old }
+    requires station { IsStation net.now station }
+    ensures { AreDeadlines net.now bid.now.path deadlines.new }
+{
+    let place = station.0 as usize;
+    if deadlines[place] <= bid.path.depart.from {
+        return false;
+    }
+    let deadline = find_deadline(net, bid, deadlines, station);
+    if deadline >= deadlines[place] {
+        return false;
+    }
+    deadlines[place] = deadline;
+    true
+}
+
+/// The first minute, from the start of the departure window on, at which it is too late to leave by any of the tracks.
+fn find_deadline(net: &Network, bid: &Bid, deadlines: &[Minute], station: StationId) -> Minute
+    requires deadlines { AreDeadlines net.now bid.now.path deadlines.now }
+    requires station { IsStation net.now station }
+    ensures { All (IsTooLate net.now bid.now.path deadlines.now result)
+        (out_tracks_of net.now.tracks station) }
+{
+    let mut deadline = bid.path.depart.from;
+    for track in net.out_tracks(station) {
+        deadline = deadline.max(track_deadline(net, bid, deadlines, *track));
+    }
+    deadline
+}
+
+/// A minute at which it is too late to leave by the track.
+fn track_deadline(net: &Network, bid: &Bid, deadlines: &[Minute], track: TrackId) -> Minute
+    requires deadlines { AreDeadlines net.now bid.now.path deadlines.now }
+    requires track { IsTrack net.now track }
+    ensures { IsTooLate net.now bid.now.path deadlines.now result track }
+{
+    let Some(least) = least_run(net, bid, track) else {
+        return 0;
+    };
+    limit(bid, deadlines, net.head(track)).saturating_sub(least)
+}
+
+/// The first minute at which it is too late to arrive at the station.
+fn limit(bid: &Bid, deadlines: &[Minute], station: StationId) -> Minute
+    requires station { station.0 < length deadlines.now }
+    requires arrive { IsWindow bid.now.path.arrive }
+    ensures { result ≡ limit_of bid.now.path deadlines.now station }
+{
+    if station == bid.path.destination {
+        bid.path.arrive.to + 1
+    } else {
+        deadlines[station.0 as usize]
+    }
+}
+
+/// The least of the running times of the bid's type on the track.
+fn least_run(net: &Network, bid: &Bid, track: TrackId) -> Option<u16>
+    ensures { (a b : Bool) (minutes : ℕ)
+        → option_map (minutes_by a b) (times_of net.now track bid.now.path.kind) ≡ Some minutes
+        → IsSomeAnd result (λ least. least ≤ minutes) }
+{
+    let kind = bid.path.kind;
+    let pass_pass = net.run(track, kind, false, false)?;
+    let pass_halt = net.run(track, kind, false, true)?;
+    let halt_pass = net.run(track, kind, true, false)?;
+    let halt_halt = net.run(track, kind, true, true)?;
+    Some(pass_pass.min(pass_halt).min(halt_pass.min(halt_halt)))
+}
