@@ -1,12 +1,12 @@
 -- Tables of arcs that are brought to a node, arc by arc and bid by bid.
-use Rattle.std.proofs.Common.{◌≡◌, ◌≢◌, ℕ, ◌+◌, ◌≤◌, ◌<◌, Bool, true, false, cond, List, [], ◌∷◌, ◌++◌, length, take, drop, set, get_or, Option, Some, Vec, Global, slice_get, refl, sym, ap, ◌∙◌, subst, arith, inl, inr, ℤ}
-use Rattle.std.specs.Prelude.{◌↔◌, ◌||◌, All, Contains, neg_ℤ}
+use Rattle.std.proofs.Common.{◌≡◌, ◌≢◌, ℕ, ◌+◌, ◌≤◌, ◌<◌, Bool, true, false, cond, List, [], ◌∷◌, ◌++◌, length, take, drop, set, get_or, Option, Some, slice_get, refl, sym, ap, ◌∙◌, subst, arith, inl, inr, ℤ}
+use Rattle.std.specs.Prelude.{◌↔◌, ◌||◌, All, neg_ℤ}
 use Rattle.std.specs.Option.{option_map_or}
 use Rattle.std.specs.declared.cmp.Ordering.{Ordering}
 use Rattle.std.proofs.lemmas.Bool.{cases_eq}
-use Rattle.std.proofs.lemmas.List.{drop_all, length-append}
+use Rattle.std.proofs.lemmas.List.{drop_all}
 use Rattle.std.proofs.lemmas.List.Elements.{All-nil, All-weaker}
-use Rattle.std.proofs.lemmas.Option.{same_Some, none-some, slice_get_within, slice_get-get_or}
+use Rattle.std.proofs.lemmas.Option.{same_Some, slice_get_within, slice_get-get_or}
 use Rattle.optra_network.specs.Net.{Net, IsProper}
 use Rattle.optra_network.specs.declared.TypeId.{TypeId}
 use Rattle.optra_bid.specs.Specs.{IsBetween}
@@ -34,7 +34,6 @@ use Rattle.optra_prices.specs.declared.numbering.Groups.{Groups}
 use Rattle.optra_prices.specs.declared.numbering.Touch.{Touch}
 use Rattle.optra_prices.specs.declared.rooms.Room.{Room}
 use Rattle.optra_prices.proofs.ListLemmas.{some_at, all_at}
-use Rattle.optra_prices.proofs.NumberLemmas.{push_cases}
 use Rattle.optra_prices.proofs.RoomLemmas.{same_room, room_free}
 use Rattle.optra_prices.proofs.StandLemmas.{set_same, set_other, set_length}
 use Rattle.optra_prices.proofs.TableLemmas.{table_kept}
@@ -284,6 +283,18 @@ module _ {R : Type 0} (net : Net) (rows : Rows R) (used : TypeId → Leg → Lis
         so_far.left number b x (omega arith) b_at (sym (set_other tables n number new apart) ∙ x_at);
   }
 
+  -- one more table, which is at the node
+  pub tables_skip : (n : ℕ) (tables : List BidTable) → AreTablesUpTo net rows used bids node numbered groups n tables
+      → ((bid : Bid) (table : BidTable) → slice_get bids n ≡ Some bid → slice_get tables n ≡ Some table → IsBidTable (setting net rows used bids node) n numbered groups bid table) → AreTablesUpTo net rows used bids node numbered groups (n + 1) tables
+  tables_skip n tables so_far here = record {
+    count_is = so_far.count_is;
+    done = λ number b x l b_at x_at. elim (cases_eq number n) as (λ _. IsBidTable (setting net rows used bids node) number numbered groups b x) [
+      | inl e ↦ subst (λ (j : ℕ). IsBidTable (setting net rows used bids node) j numbered groups b x) (sym e) (here b x (ap (slice_get bids) (sym e) ∙ b_at) (ap (slice_get tables) (sym e) ∙ x_at))
+      | inr apart ↦ so_far.done number b x (omega arith) b_at x_at
+    ];
+    left = λ number b x l b_at x_at. so_far.left number b x (omega arith) b_at x_at;
+  }
+
   pub tables_all : (n : ℕ) (tables : List BidTable) → AreTablesUpTo net rows used bids node numbered groups n tables → length bids ≤ n → AreTables (setting net rows used bids node) (length bids) numbered groups tables
   tables_all n tables so_far l = record {
     count_is = so_far.count_is;
@@ -296,37 +307,55 @@ neither true b e = cc
 neither false b e = (refl, e)
 
 -- what has changed of the first tables is known, and the others are as they were
-pub record AreBroughtUpTo (n : ℕ) (changed : List Bool) (old new : List BidTable) : Type 0 where
+pub record AreBroughtUpTo (n : ℕ) (told changed : List Bool) (old new : List BidTable) : Type 0 where
   pub count_is : length new ≡ length old
-  pub changed_count : length changed ≡ n
-  pub done : (number : ℕ) (c : Bool) (before after : BidTable) → slice_get changed number ≡ Some c → slice_get old number ≡ Some before → slice_get new number ≡ Some after → IsBrought c before after
+  pub changed_count : length changed ≡ length told
+  pub done : (number : ℕ) (c : Bool) (before after : BidTable) → number < n → slice_get changed number ≡ Some c → slice_get old number ≡ Some before → slice_get new number ≡ Some after → IsBrought c before after
   pub left : (number : ℕ) → n ≤ number → slice_get new number ≡ slice_get old number
+  pub told_left : (number : ℕ) → n ≤ number → slice_get changed number ≡ slice_get told number
 
-pub brought_none : (tables : List BidTable) → AreBroughtUpTo 0 [] tables tables
-brought_none tables = record { count_is = refl; changed_count = refl; done = λ number c before after x b a. absurd (none-some c x); left = λ number l. refl }
+pub brought_none : (told : List Bool) (tables : List BidTable) → AreBroughtUpTo 0 told told tables tables
+brought_none told tables = record { count_is = refl; changed_count = refl; done = λ number c before after l x b a. absurd (omega arith); left = λ number l. refl; told_left = λ number l. refl }
 
--- one more table
-pub brought_more : (n : ℕ) (changed : List Bool) (old new : List BidTable) (c : Bool) (table after : BidTable) → AreBroughtUpTo n changed old new → slice_get new n ≡ Some table → IsBrought c table after
-    → AreBroughtUpTo (n + 1) (changed ++ c ∷ []) old (set new n after)
-brought_more n changed old new c table after so_far at is = record {
-  count_is = set_length new n after ∙ so_far.count_is;
-  changed_count = let l = length-append changed (c ∷ []) in let e = so_far.changed_count in omega arith;
-  done = λ number x y z x_at y_at z_at. elim (push_cases changed c number x x_at) as (λ _. IsBrought x y z) [
-    | inl before ↦
-        let w = slice_get_within changed number x before in
-        let e = so_far.changed_count in
-        let apart : number ≢ n = omega arith in
-        so_far.done number x y z before y_at (sym (set_other new n number after apart) ∙ z_at)
-    | inr now ↦
-        let place : number ≡ n = now.0 ∙ so_far.changed_count in
-        let here : slice_get (set new n after) n ≡ Some z = ap (slice_get (set new n after)) (sym place) ∙ z_at in
-        let w = slice_get_within new n table at in
-        let same_after : after ≡ z = set_same new n after z w here in
-        let same : table ≡ y = same_Some table y (sym at ∙ so_far.left n (omega arith) ∙ ap (slice_get old) (sym place) ∙ y_at) in
-        subst (λ (b : Bool). IsBrought b y z) now.1 (subst (λ (u : BidTable). IsBrought c y u) same_after (subst (λ (u : BidTable). IsBrought c u after) same is))
+-- a table that stays
+pub brought_skip : (n : ℕ) (told changed : List Bool) (old new : List BidTable) → AreBroughtUpTo n told changed old new → AreBroughtUpTo (n + 1) told changed old new
+brought_skip n told changed old new so_far = record {
+  count_is = so_far.count_is;
+  changed_count = so_far.changed_count;
+  done = λ number x y z l x_at y_at z_at. elim (cases_eq number n) as (λ _. IsBrought x y z) [
+    | inl e ↦
+        let same : y ≡ z = same_Some y z (sym y_at ∙ sym (so_far.left number (omega arith)) ∙ z_at) in
+        subst (λ (u : BidTable). IsBrought x y u) same (record { graph = refl; groups = refl; arcs = λ e. refl; forced = λ e. refl })
+    | inr apart ↦ so_far.done number x y z (omega arith) x_at y_at z_at
   ];
-  left = λ number l. let apart : number ≢ n = omega arith in set_other new n number after apart ∙ so_far.left number (omega arith);
+  left = λ number l. so_far.left number (omega arith);
+  told_left = λ number l. so_far.told_left number (omega arith);
 }
 
-pub brought_all : (n : ℕ) (changed : List Bool) (old new : List BidTable) → AreBroughtUpTo n changed old new → n ≡ length old → AreBrought changed old new
-brought_all n changed old new so_far all = record { count_is = so_far.count_is; changed_count = so_far.changed_count ∙ all; each = so_far.done }
+-- one more table
+pub brought_more : (n : ℕ) (told changed : List Bool) (old new : List BidTable) (c : Bool) (table after : BidTable) → AreBroughtUpTo n told changed old new → slice_get new n ≡ Some table → n < length changed → IsBrought c table after
+    → AreBroughtUpTo (n + 1) told (set changed n c) old (set new n after)
+brought_more n told changed old new c table after so_far at within is = record {
+  count_is = set_length new n after ∙ so_far.count_is;
+  changed_count = set_length changed n c ∙ so_far.changed_count;
+  done = λ number x y z l x_at y_at z_at. elim (cases_eq number n) as (λ _. IsBrought x y z) [
+    | inl e ↦
+        let x_here : slice_get (set changed n c) n ≡ Some x = ap (slice_get (set changed n c)) (sym e) ∙ x_at in
+        let z_here : slice_get (set new n after) n ≡ Some z = ap (slice_get (set new n after)) (sym e) ∙ z_at in
+        let w = slice_get_within new n table at in
+        let same_mark : c ≡ x = set_same changed n c x within x_here in
+        let same_after : after ≡ z = set_same new n after z w z_here in
+        let same : table ≡ y = same_Some table y (sym at ∙ so_far.left n (omega arith) ∙ ap (slice_get old) (sym e) ∙ y_at) in
+        subst (λ (b : Bool). IsBrought b y z) same_mark (subst (λ (u : BidTable). IsBrought c y u) same_after (subst (λ (u : BidTable). IsBrought c u after) same is))
+    | inr apart ↦ so_far.done number x y z (omega arith) (sym (set_other changed n number c apart) ∙ x_at) y_at (sym (set_other new n number after apart) ∙ z_at)
+  ];
+  left = λ number l. let apart : number ≢ n = omega arith in set_other new n number after apart ∙ so_far.left number (omega arith);
+  told_left = λ number l. let apart : number ≢ n = omega arith in set_other changed n number c apart ∙ so_far.told_left number (omega arith);
+}
+
+pub brought_all : (n : ℕ) (told changed : List Bool) (old new : List BidTable) → AreBroughtUpTo n told changed old new → length old ≤ n → length told ≡ length old → AreBrought changed old new
+brought_all n told changed old new so_far past count = record {
+  count_is = so_far.count_is;
+  changed_count = so_far.changed_count ∙ count;
+  each = λ number c before after x b a. so_far.done number c before after (let w = slice_get_within old number before b in omega arith) x b a;
+}

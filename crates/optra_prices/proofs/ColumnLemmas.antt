@@ -1,5 +1,5 @@
 -- Marks and prices of groups, one group after the other.
-use Rattle.std.proofs.Common.{◌≡◌, ◌≢◌, ℕ, zero, suc, ◌+◌, ◌-◌, ◌<◌, ◌≤◌, ◌⊎◌, List, [], ◌∷◌, length, map, set, take, get_or, refl, sym, ap, ◌∙◌, subst, arith, inl, inr}
+use Rattle.std.proofs.Common.{◌≡◌, ◌≢◌, ℕ, zero, suc, ◌+◌, ◌<◌, ◌≤◌, ◌⊎◌, List, [], ◌∷◌, length, map, set, take, get_or, refl, sym, ap, ◌∙◌, subst, arith, inl, inr}
 use Rattle.std.specs.Prelude.{All, Contains, ℤ, pos, ◌*ℤ◌, ◌≤ℤ◌, slice_index, slice_index_or}
 use Rattle.std.proofs.lemmas.Bool.{cases_eq, cases_lt}
 use Rattle.std.specs.Int.{int_max}
@@ -21,7 +21,8 @@ use Rattle.optra_node.proofs.LoadLemmas.{contains_head, contains_later}
 use Rattle.optra_node.proofs.SumLemmas.{sum_of-cons}
 use Rattle.optra_prices.proofs.ChainLemmas.{chain_end, chain_next, link_back}
 use Rattle.optra_prices.proofs.ValueOfLemmas.{set_elsewhere}
-use Rattle.optra_prices.proofs.LevelLemmas.{IsLeft, all_left, left_next, none_left}
+use Rattle.optra_prices.specs.Levels.{IsLeft}
+use Rattle.optra_prices.proofs.LevelLemmas.{all_left, left_next, none_left}
 
 -- ---- marks
 pub cases_still : (mark : Mark) → (mark ≡ Still) ⊎ (mark ≡ Still → ⊥)

@@ -1,5 +1,5 @@
 -- What is kept at a node while prices go along a path.
-use Rattle.std.proofs.Common.{◌≡◌, ℕ, ◌<◌, List, [], length, Some, slice_get, refl, sym, ap, ◌∙◌, subst}
+use Rattle.std.proofs.Common.{◌≡◌, ℕ, ◌<◌, Vec, Global, List, [], length, Some, slice_get, refl, sym, ap, ◌∙◌, subst}
 use Rattle.std.specs.Prelude.{All, Contains, ℤ, pos, ◌*ℤ◌, slice_index, slice_index_or}
 use Rattle.std.specs.BTreeMap.{IsOrdered}
 use Rattle.std.specs.declared.cmp.Ordering.{Ordering}
@@ -12,7 +12,8 @@ use Rattle.optra_node.specs.Laws.{TestsTellAllowed, PricesByUsedRows}
 use Rattle.optra_node.proofs.LeastLemmas.{at_contains}
 use Rattle.optra_prices.specs.Columns.{IsColumns}
 use Rattle.optra_prices.specs.Courses.{listed, prices_at, zero_valuation, HaveCapacities, AreSetUp, IsCourse, IsPriced}
-use Rattle.optra_prices.specs.Levels.{IsLevels, AreUnused}
+use Rattle.optra_prices.specs.Levels.{IsLevels}
+use Rattle.optra_prices.specs.Uses.{AreCounted, paths_in}
 use Rattle.optra_prices.specs.Listings.{capacity_sum, capacity_below}
 use Rattle.optra_prices.specs.Replies.{IsValuation}
 use Rattle.optra_prices.specs.Steps.{AreProper}
@@ -106,24 +107,26 @@ module _ {R : Type 0} (cmp : R → R → Ordering) (s : Setting R) (c : ArcTable
   tables_same : AreTables s (length s.bids) c.numbering.rows.items c.columns.groups c.tables.items → AreTables s (length s.bids) c.numbering.rows.items columns.groups c.tables.items
   tables_same = subst (λ groups. AreTables s (length s.bids) c.numbering.rows.items groups c.tables.items) (sym is_columns.groups_are)
 
-  -- after prices of rows have moved on, what is set up stays so
-  pub set_up_on : (levels : Levels) → AreSetUp cmp s c → IsLevels levels → AreUnused levels → length levels.prices.items ≡ length c.levels.prices.items → levels.capacities ≡ c.levels.capacities → columns.grouped ≡ c.columns.grouped
-      → AreSetUp cmp s (record c { levels = levels; columns = columns })
-  set_up_on levels is is_levels unused count capacities grouped = record {
+  -- after prices of rows have moved on and other paths were counted, what is set up stays so
+  pub counted_on : (levels : Levels) (counted : Vec (Vec ℕ Global) Global) → AreSetUp cmp s c → IsLevels levels → AreCounted c.columns.groups c.tables.items (paths_in counted.items) levels.uses.items → length levels.prices.items ≡ length c.levels.prices.items → levels.capacities ≡ c.levels.capacities → columns.grouped ≡ c.columns.grouped
+      → AreSetUp cmp s (record c { levels = levels; columns = columns; counted = counted })
+  counted_on levels counted is is_levels counts count capacities grouped = record {
     numbering = is.numbering;
     rows = is.rows;
     order = is.order;
     capacities = subst (λ cs. HaveCapacities s.rows c.numbering.rows.items cs.items) (sym capacities) is.capacities;
     price_count = count ∙ is.price_count;
     levels = is_levels;
-    unused = unused;
+    counted = subst (λ groups. AreCounted groups c.tables.items (paths_in counted.items) levels.uses.items) (sym is_columns.groups_are) counts;
     columns = own_columns c.columns.groups columns is_columns;
     tables = tables_same is.tables;
     stand = subst (λ prices. AllStand c.tables.items prices.items c.standings.items) (sym grouped) is.stand;
     zero = is.zero;
     holders = is.holders;
+    decided = is.decided;
   }
 
--- what isn't used stays so where uses stay
-pub unused_on : (old new : Levels) → new.uses ≡ old.uses → AreUnused old → AreUnused new
-unused_on old new same unused n = ap (λ uses. slice_index uses.items n) same ∙ unused n
+  -- so does it where uses stay
+  pub set_up_on : (levels : Levels) → AreSetUp cmp s c → IsLevels levels → levels.uses ≡ c.levels.uses → length levels.prices.items ≡ length c.levels.prices.items → levels.capacities ≡ c.levels.capacities → columns.grouped ≡ c.columns.grouped
+      → AreSetUp cmp s (record c { levels = levels; columns = columns })
+  set_up_on levels is is_levels uses = counted_on levels c.counted is is_levels (subst (λ v. AreCounted c.columns.groups c.tables.items (paths_in c.counted.items) v.items) (sym uses) is.counted)

@@ -1,6 +1,6 @@
 -- What a map holds of rows while uses are added, and the prices that it gives.
-use Rattle.std.proofs.Common.{◌≡◌, ℕ, zero, suc, ◌+◌, ◌<◌, Bool, true, false, cond, List, [], ◌∷◌, map, length, take, get_or, Option, Some, None, slice_get, refl, sym, ap, ◌∙◌, subst, arith, inl, inr}
-use Rattle.std.specs.Prelude.{◌↔◌, All, Contains, MatchOption, ℤ, pos, negsuc, ◌+ℤ◌, ◌-ℤ◌, ◌*ℤ◌, ◌≤ℤ◌}
+use Rattle.std.proofs.Common.{◌≡◌, ℕ, zero, suc, ◌+◌, ◌-◌, ◌*◌, ◌<◌, ◌≤◌, Bool, true, false, cond, List, [], ◌∷◌, map, length, take, get_or, Option, Some, None, slice_get, refl, sym, ap, ◌∙◌, subst, arith, inl, inr}
+use Rattle.std.specs.Prelude.{◌↔◌, All, Contains, MatchOption, ℤ, pos, negsuc, neg_ℤ, ◌+ℤ◌, ◌-ℤ◌, ◌*ℤ◌, ◌≤ℤ◌}
 use Rattle.std.specs.List.Sorted.{IsStrictlySortedBy}
 use Rattle.std.specs.Int.{is_positive}
 use Rattle.std.specs.BTreeMap.{BTreeMap, get, is_at}
@@ -26,7 +26,8 @@ use Rattle.optra_network.specs.declared.TypeId.{TypeId}
 use Rattle.optra_node.proofs.SumLemmas.{sum_by-map}
 use Rattle.optra_node.proofs.RowLemmas.{equal_is}
 use Rattle.optra_node.proofs.LoadLemmas.{contains_cases}
-use Rattle.std.proofs.Math.IntN.{*ℤ-zero}
+use Rattle.std.proofs.Math.IntN.{*ℤ-zero, pos-*ℤ-pos, pos-*ℤ-negsuc}
+use Rattle.std.proofs.Math.Nat.{mul-zero}
 use Rattle.optra_prices.specs.Steps.{price_within, next_price}
 use Rattle.optra_prices.specs.Holdings.{Holds, Adds, entries_one, stepped, more_used, Bumps, part_of}
 use Rattle.optra_prices.specs.declared.holding.Held.{Held}
@@ -175,20 +176,33 @@ module _ {R : Type 0} (cmp : R → R → Ordering) (total : IsTotalOrder cmp) (a
           omega (arith, ints)
       by false tie false q i = i
 
--- a row with neither a price nor a use keeps price 0, and prices stay within their bounds
-minus : (n room : ℕ) → (pos n *ℤ (pos 0 -ℤ pos room)) ≤ℤ pos 0
-minus n zero = let z = *ℤ-zero (pos n) in omega (arith, ints)
-minus n (suc room) =
-    let e : pos 0 -ℤ pos (suc room) ≡ negsuc room = omega (arith, ints) in
-    let q : (pos n *ℤ negsuc room) ≤ℤ pos 0 = omega (arith, ints) in
-    subst (λ (z : ℤ). (pos n *ℤ z) ≤ℤ pos 0) (sym e) q
+-- a length times uses above a capacity, or below it
+pub rising : (n used room : ℕ) → room ≤ used → pos n *ℤ (pos used -ℤ pos room) ≡ pos (n * (used - room))
+rising n used room l =
+    let e : pos used -ℤ pos room ≡ pos (used - room) = omega (arith, ints) in
+    ap (λ (z : ℤ). pos n *ℤ z) e ∙ pos-*ℤ-pos n (used - room)
+
+pub falling : (n used room : ℕ) → used ≤ room → pos n *ℤ (pos used -ℤ pos room) ≡ neg_ℤ (pos (n * (room - used)))
+falling n used room l = by (room - used) refl ∙ refl
+  where
+    by : (d : ℕ) → room - used ≡ d → pos n *ℤ (pos used -ℤ pos room) ≡ neg_ℤ (pos (n * (room - used)))
+    by zero e =
+        let none : pos used -ℤ pos room ≡ pos 0 = omega (arith, ints) in
+        ap (λ (z : ℤ). pos n *ℤ z) none ∙ *ℤ-zero (pos n) ∙ sym (ap (λ (k : ℕ). neg_ℤ (pos k)) (ap (λ (k : ℕ). n * k) e ∙ mul-zero n))
+    by (suc d) e =
+        let some : pos used -ℤ pos room ≡ negsuc d = omega (arith, ints) in
+        ap (λ (z : ℤ). pos n *ℤ z) some ∙ pos-*ℤ-negsuc n d ∙ ap (λ (k : ℕ). neg_ℤ (pos (n * k))) (sym e)
 
 low_within : (z : ℤ) → z ≤ℤ pos 0 → price_within z ≡ pos 0
 low_within z l = omega (arith, ints, clamps)
 
+-- a row with no price and no more uses than capacity keeps price 0, and prices stay within their bounds
+pub next_idle : (by : ℤ) (used room : ℕ) → pos 1 ≤ℤ by → used ≤ room → next_price by (pos 0) used room ≡ pos 0
+next_idle (negsuc n) used room l few = absurd (omega (arith, ints))
+next_idle (pos n) used room l few = low_within (pos 0 +ℤ pos n *ℤ (pos used -ℤ pos room)) (let m = falling n used room few in omega (arith, ints))
+
 pub next_none : (by : ℤ) (room : ℕ) → pos 1 ≤ℤ by → next_price by (pos 0) 0 room ≡ pos 0
-next_none (negsuc n) room l = absurd (omega (arith, ints))
-next_none (pos n) room l = low_within (pos 0 +ℤ pos n *ℤ (pos 0 -ℤ pos room)) (let m = minus n room in omega (arith, ints))
+next_none by room l = next_idle by 0 room l (omega arith)
 
 pub next_low : (z : ℤ) → pos 0 ≤ℤ price_within z
 next_low z = omega (arith, ints, clamps)

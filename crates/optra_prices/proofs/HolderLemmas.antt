@@ -1,13 +1,13 @@
 -- Bids that are added to those that have the groups of their arcs, and those to which the groups that fell lead.
-use Rattle.std.proofs.Common.{◌≡◌, ◌≢◌, ℕ, zero, suc, ◌+◌, ◌≤◌, ◌<◌, Bool, true, false, List, [], ◌∷◌, ◌++◌, ◌-◌, length, take, replicate, set, get_or, Some, slice_get, refl, sym, ap, ◌∙◌, subst, arith, inl, inr}
+use Rattle.std.proofs.Common.{◌≡◌, ℕ, zero, suc, ◌+◌, ◌≤◌, ◌<◌, Bool, true, false, List, [], ◌∷◌, ◌++◌, ◌-◌, length, take, replicate, set, get_or, Some, slice_get, refl, sym, ap, ◌∙◌, subst, arith, inl, inr}
 use Rattle.std.specs.Prelude.{◌⊎◌, ◌||◌, All, Contains, slice_index}
 use Rattle.std.proofs.lemmas.Bool.{cases_lt, cases_eq}
 use Rattle.std.proofs.lemmas.List.{get_or-set_same, get_or-set_other, get_or_default, get_or_past, length-set, take_all}
 use Rattle.std.proofs.lemmas.Option.{same_Some, slice_get_within}
 use Rattle.optra_prices.specs.Chains.{link_at, IsOnChain, AreChains, ChainHas, KeepsChains, AddsLink}
-use Rattle.optra_prices.specs.Columns.{HasNotFallen, mark_at}
-use Rattle.optra_prices.specs.Holders.{groups_of, Holds, AreHolders, is_told, KeepsTold, TellsHolders, TellsGroup, HaveNotFallen, TellsFallen}
-use Rattle.optra_prices.specs.Keepings.{IsBrought, AreBrought}
+use Rattle.optra_prices.specs.Columns.{mark_at}
+use Rattle.optra_prices.specs.Holders.{groups_of, Holds, AreHolders, is_told, KeepsTold, TellsHolders, TellsGroup, TellsFallen}
+use Rattle.optra_prices.specs.Keepings.{AreBrought}
 use Rattle.optra_prices.specs.Tables.{no_arc}
 use Rattle.optra_prices.specs.declared.chains.Chains.{Chains}
 use Rattle.optra_prices.specs.declared.chains.Link.{Link}

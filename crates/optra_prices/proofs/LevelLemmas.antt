@@ -1,15 +1,17 @@
 -- Prices of rows by number, of which few move.
-use Rattle.std.proofs.Common.{◌≡◌, ◌≢◌, ℕ, zero, suc, ◌+◌, ◌*◌, ◌<◌, ◌≤◌, ◌⊎◌, List, [], ◌∷◌, ◌++◌, length, map, set, get_or, replicate, refl, sym, ap, ◌∙◌, subst, arith, inl, inr}
+use Rattle.std.proofs.Common.{◌≡◌, ◌≢◌, ℕ, zero, suc, ◌+◌, ◌-◌, ◌*◌, ◌<◌, ◌≤◌, ◌⊎◌, Bool, true, false, Vec, Global, List, [], ◌∷◌, ◌++◌, length, map, set, get_or, replicate, refl, sym, ap, ◌∙◌, subst, arith, inl, inr}
 use Rattle.std.specs.Prelude.{All, Contains, ℤ, pos, negsuc, ◌+ℤ◌, ◌-ℤ◌, ◌*ℤ◌, slice_index, slice_index_or}
 use Rattle.std.proofs.lemmas.Bool.{cases_eq, cases_lt}
 use Rattle.std.proofs.lemmas.Int.{ints}
-use Rattle.std.proofs.lemmas.List.{length-replicate, get_or-set_same, get_or-set_other, get_or_past, get_or_append_left, length-append}
+use Rattle.std.proofs.lemmas.List.{length-replicate, length-set, length-take-le, get_or-set_same, get_or-set_other, get_or-take, get_or_default, get_or_past, get_or_append_left, length-append}
+use Rattle.std.proofs.Math.Seq.{get_or-append_seam}
+use Rattle.std.specs.List.{swap_remove}
 use Rattle.std.proofs.lemmas.List.Elements.{All-head, All-tail, All-set, All-map, All-push, All-weaker, All-contains, Contains-push, Contains-append_left, Contains-get_or}
 use Rattle.std.proofs.lemmas.Nat.{mul-le}
 use Rattle.std.proofs.Math.IntN.{pos-*ℤ-pos, zero-*ℤ}
 use Rattle.optra_bid.specs.Specs.{IsBetween}
 use Rattle.optra_node.proofs.LoadLemmas.{contains_cases, contains_head, contains_later}
-use Rattle.optra_prices.specs.Levels.{IsLevels, IsIdle, AreUnused, IsMove, MovesTo, HoldsPrices, Wakes, moved_by, price_of}
+use Rattle.optra_prices.specs.Levels.{IsLevels, IsIdle, IsLeft, StandOnce, AreUnused, IsMove, GoesOn, MovesRow, MovesTo, HoldsPrices, moved_by, price_of, use_of, capacity_of, is_listed}
 use Rattle.optra_prices.specs.Listings.{capacity_below}
 use Rattle.optra_prices.specs.Tables.{IsRowPrice}
 use Rattle.optra_prices.specs.declared.levels.Levels.{Levels}
@@ -71,11 +73,6 @@ pub moved_count : (moves : List (ℕ × ℤ)) (prices : List ℤ) → length (mo
 moved_count [] prices = refl
 moved_count (move ∷ moves) prices = moved_count moves (set prices move.0 move.1) ∙ set_count prices move.0 move.1
 
-pub moved_range : (count : ℕ) (moves : List (ℕ × ℤ)) (prices : List ℤ) → All (IsMove count) moves → All IsRowPrice prices → All IsRowPrice (moved_by moves prices)
-moved_range count [] prices are range = range
-moved_range count (move ∷ moves) prices are range =
-    moved_range count moves (set prices move.0 move.1) (All-tail (IsMove count) move moves are) (All-set IsRowPrice prices move.0 move.1 (All-head (IsMove count) move moves are).1 range)
-
 -- a row that has its price, or is to have it, has it at the end
 pub moved_at : (to : ℕ → ℤ) (moves : List (ℕ × ℤ)) (prices : List ℤ) (n : ℕ) → All (λ move. move.1 ≡ to move.0) moves → n < length prices
     → (slice_index_or prices n (pos 0) ≡ to n) ⊎ Contains moves (n, to n) → slice_index_or (moved_by moves prices) n (pos 0) ≡ to n
@@ -94,10 +91,6 @@ moved_at to (move ∷ moves) prices n each l is = moved_at to moves (set prices 
       | inr later ↦ inr later
     ]
 
--- each row has the price that it was to have
-pub moved_to : (to : ℕ → ℤ) (l : Levels) (moves : List (ℕ × ℤ)) → MovesTo to l moves → (n : ℕ) → n < length l.prices.items → slice_index_or (moved_by moves l.prices.items) n (pos 0) ≡ to n
-moved_to to l moves is n within = moved_at to moves l.prices.items n is.each within (is.others n within)
-
 same_prices : (xs ys : List ℤ) → length xs ≡ length ys → ((n : ℕ) → n < length xs → slice_index_or xs n (pos 0) ≡ slice_index_or ys n (pos 0)) → xs ≡ ys
 same_prices [] [] l h = refl
 same_prices [] (y ∷ ys) l h = absurd (omega arith)
@@ -108,11 +101,11 @@ same_prices (x ∷ xs) (y ∷ ys) l h =
     λ i. e i ∷ t i
 
 -- all prices are moved to 0
-pub moved_zero : (l : Levels) (moves : List (ℕ × ℤ)) → MovesTo (λ n. pos 0) l moves → moved_by moves l.prices.items ≡ replicate (length l.prices.items) (pos 0)
-moved_zero l moves is =
-    let count = moved_count moves l.prices.items in
-    same_prices (moved_by moves l.prices.items) (replicate (length l.prices.items) (pos 0)) (count ∙ sym (length-replicate (length l.prices.items) (pos 0)))
-    (λ n m. moved_to (λ n. pos 0) l moves is n (omega arith) ∙ sym (zeros_at (length l.prices.items) n))
+pub all_zero : (old new : Levels) → MovesTo (λ n. pos 0) old new → new.prices.items ≡ replicate (length old.prices.items) (pos 0)
+all_zero old new is =
+    let count = is.count in
+    same_prices new.prices.items (replicate (length old.prices.items) (pos 0)) (count ∙ sym (length-replicate (length old.prices.items) (pos 0)))
+    (λ n m. is.each n (omega arith) ∙ sym (zeros_at (length old.prices.items) n))
 
 -- prices that were copied come back from zero prices
 pub copied : (l : Levels) (moves : List (ℕ × ℤ)) → HoldsPrices l moves → moved_by moves (replicate (length l.prices.items) (pos 0)) ≡ l.prices.items
@@ -127,30 +120,191 @@ copied l moves is =
     by n (inr has) = inr has
 
 -- ---- active rows that are gone through one after the other
--- the row stands at this place or at one after it
-pub record IsLeft (active : List ℕ) (k n : ℕ) : Type 0 where
-  pub place : ℕ
-  pub from : k ≤ place
-  pub within : place < length active
-  pub is : get_or active place 0 ≡ n
-
 pub all_left : (active : List ℕ) (n : ℕ) → Contains active n → IsLeft active 0 n
-all_left active n has = record { place = has.0; from = omega arith; within = has.1; is = get_or_same active has.0 n 0 has.1 ∙ has.2 }
-  where
-    get_or_same : (xs : List ℕ) (k d e : ℕ) → k < length xs → get_or xs k e ≡ get_or xs k d
-    get_or_same [] k d e l = absurd (omega arith)
-    get_or_same (x ∷ xs) zero d e l = refl
-    get_or_same (x ∷ xs) (suc k) d e l = get_or_same xs k d e (omega arith)
+all_left active n has = record { place = has.0; from = omega arith; within = has.1; is = get_or_default active has.0 0 n has.1 ∙ has.2 }
+
+pub left_has : (active : List ℕ) (k n : ℕ) → IsLeft active k n → Contains active n
+left_has active k n left = (left.place, left.within, get_or_default active left.place n 0 left.within ∙ left.is)
 
 -- it stands here or is left
-pub left_next : (active : List ℕ) (k n : ℕ) → IsLeft active k n → (get_or active k 0 ≡ n) ⊎ IsLeft active (k + 1) n
-left_next active k n left = elim (cases_eq left.place k) as (λ _. (get_or active k 0 ≡ n) ⊎ IsLeft active (k + 1) n) [
-  | inl here ↦ inl (ap (λ (j : ℕ). get_or active j 0) (sym here) ∙ left.is)
+pub left_next : (active : List ℕ) (k n : ℕ) → IsLeft active k n → (slice_index active k ≡ n) ⊎ IsLeft active (k + 1) n
+left_next active k n left = elim (cases_eq left.place k) as (λ _. (slice_index active k ≡ n) ⊎ IsLeft active (k + 1) n) [
+  | inl here ↦ inl (ap (slice_index active) (sym here) ∙ left.is)
   | inr apart ↦ inr (let from = left.from in record { place = left.place; from = omega arith; within = left.within; is = left.is })
 ]
 
 pub none_left : (active : List ℕ) (k n : ℕ) → length active ≤ k → IsLeft active k n → ⊥
 none_left active k n past left = let from = left.from in let within = left.within in absurd (omega arith)
+
+-- where no number stands twice, what is left after a place isn't what stands there
+left_apart : (active : List ℕ) (k n : ℕ) → StandOnce active → IsLeft active (k + 1) n → slice_index active k ≡ n → ⊥
+left_apart active k n once left here = once k left.place (let from = left.from in omega arith) left.within (here ∙ sym left.is)
+
+-- the next place is one on
+pub goes_next : (active : List ℕ) (k : ℕ) → StandOnce active → k < length active → GoesOn k (k + 1) active active
+goes_next active k once l = record {
+  kept = left_next active k;
+  left = λ n left. (let from = left.from in record { place = left.place; from = omega arith; within = left.within; is = left.is }, left_apart active k n once left);
+  fewer = omega arith;
+  within = omega arith;
+}
+
+-- the last one stands in the place of one that is let go
+module _ (active : List ℕ) (k d : ℕ) (l : k < length active) where
+  abbrev pub less : List ℕ
+  less = swap_remove active k d
+
+  last_is : slice_index_or active (length active - 1) d ≡ slice_index active (length active - 1)
+  last_is = get_or_default active (length active - 1) d 0 (omega arith)
+
+  less_count : length less + 1 ≡ length active
+  less_count =
+      let set_long = length-set active k (slice_index_or active (length active - 1) d) in
+      let short = length-take-le (length active - 1) (set active k (slice_index_or active (length active - 1) d)) (omega arith) in
+      omega arith
+
+  less_other : (i : ℕ) → i < length less → i ≢ k → slice_index less i ≡ slice_index active i
+  less_other i m apart =
+      let count = less_count in
+      get_or-take (length active - 1) (set active k (slice_index_or active (length active - 1) d)) i 0 (omega arith) ∙ get_or-set_other active k i (slice_index_or active (length active - 1) d) 0 apart
+
+  less_here : k < length less → slice_index less k ≡ slice_index active (length active - 1)
+  less_here m =
+      let count = less_count in
+      get_or-take (length active - 1) (set active k (slice_index_or active (length active - 1) d)) k 0 (omega arith) ∙ get_or-set_same active k (slice_index_or active (length active - 1) d) 0 l ∙ last_is
+
+  -- each place that is left was one before, after place k
+  was : (i : ℕ) → i < length less → (j : ℕ) × (j < length active) × (slice_index less i ≡ slice_index active j) × ((j ≡ i) × (i ≢ k) ⊎ (j + 1 ≡ length active) × (i ≡ k))
+  was i m = let count = less_count in elim (cases_eq i k) as (λ _. (j : ℕ) × (j < length active) × (slice_index less i ≡ slice_index active j) × ((j ≡ i) × (i ≢ k) ⊎ (j + 1 ≡ length active) × (i ≡ k))) [
+    | inl here ↦ (length active - 1, omega arith, ap (slice_index less) here ∙ less_here (subst (λ (p : ℕ). p < length less) here m), inr (omega arith, here))
+    | inr apart ↦ (i, omega arith, less_other i m apart, inl (refl, apart))
+  ]
+
+  pub once_less : StandOnce active → StandOnce less
+  once_less once i j before m same =
+      let a = was i (omega arith) in
+      let b = was j m in
+      by a.0 b.0 a.1 b.1 a.3 b.3 (sym a.2 ∙ same ∙ b.2)
+    where
+      by : (p q : ℕ) → p < length active → q < length active → ((p ≡ i) × (i ≢ k) ⊎ (p + 1 ≡ length active) × (i ≡ k)) → ((q ≡ j) × (j ≢ k) ⊎ (q + 1 ≡ length active) × (j ≡ k)) → slice_index active p ≡ slice_index active q → ⊥
+      by p q u v (inl x) (inl y) e = let x0 = x.0 in let y0 = y.0 in once p q (omega arith) v e
+      by p q u v (inl x) (inr y) e = let x0 = x.0 in let y0 = y.0 in let y1 = y.1 in let count = less_count in once p q (omega arith) v e
+      by p q u v (inr x) (inl y) e = let x0 = x.0 in let y0 = y.0 in let count = less_count in once q p (omega arith) u (sym e)
+      by p q u v (inr x) (inr y) e = let x1 = x.1 in let y1 = y.1 in absurd (omega arith)
+
+  -- what is left was left before, and isn't what was let go
+  less_left : StandOnce active → (n : ℕ) → IsLeft less k n → IsLeft active k n × (slice_index active k ≡ n → ⊥)
+  less_left once n left = let w = was left.place left.within in by w.0 w.1 w.3 (sym w.2 ∙ left.is)
+    where
+      by : (p : ℕ) → p < length active → ((p ≡ left.place) × (left.place ≢ k) ⊎ (p + 1 ≡ length active) × (left.place ≡ k)) → slice_index active p ≡ n → IsLeft active k n × (slice_index active k ≡ n → ⊥)
+      by p u (inl x) e = let x0 = x.0 in let x1 = x.1 in let from = left.from in (record { place = p; from = omega arith; within = u; is = e }, λ here. once k p (omega arith) u (here ∙ sym e))
+      by p u (inr x) e = let x0 = x.0 in let x1 = x.1 in let within = left.within in let count = less_count in (record { place = p; from = omega arith; within = u; is = e }, λ here. once k p (omega arith) u (here ∙ sym e))
+
+  -- what was left is left, but for what was let go
+  less_kept : (n : ℕ) → IsLeft active k n → (slice_index active k ≡ n) ⊎ IsLeft less k n
+  less_kept n left = elim (cases_eq left.place k) as (λ _. (slice_index active k ≡ n) ⊎ IsLeft less k n) [
+    | inl here ↦ inl (ap (slice_index active) (sym here) ∙ left.is)
+    | inr apart ↦
+        let count = less_count in
+        let from = left.from in
+        let within = left.within in
+        inr (elim (cases_eq (left.place + 1) (length active)) as (λ _. IsLeft less k n) [
+          | inl last ↦
+              let e : length active - 1 ≡ left.place = omega arith in
+              let m : k < length less = omega arith in
+              record { place = k; from = omega arith; within = m; is = less_here m ∙ ap (slice_index active) e ∙ left.is }
+          | inr before ↦
+              let m : left.place < length less = omega arith in
+              record { place = left.place; from = left.from; within = m; is = less_other left.place m apart ∙ left.is }
+        ])
+  ]
+
+  pub goes_less : StandOnce active → GoesOn k k active less
+  goes_less once = let count = less_count in record { kept = less_kept; left = less_left once; fewer = omega arith; within = omega arith }
+
+  pub less_has : (n : ℕ) → Contains less n → Contains active n × (StandOnce active → slice_index active k ≡ n → ⊥)
+  less_has n has = let w = was has.0 has.1 in by w.0 w.1 w.3 (sym w.2 ∙ get_or_default less has.0 0 n has.1 ∙ has.2)
+    where
+      by : (p : ℕ) → p < length active → ((p ≡ has.0) × (has.0 ≢ k) ⊎ (p + 1 ≡ length active) × (has.0 ≡ k)) → slice_index active p ≡ n → Contains active n × (StandOnce active → slice_index active k ≡ n → ⊥)
+      by p u (inl x) e = let x0 = x.0 in let x1 = x.1 in (
+        (p, u, get_or_default active p n 0 u ∙ e),
+        λ once here. elim (cases_lt k p) as (λ _. ⊥) [
+          | inl before ↦ once k p before u (here ∙ sym e)
+          | inr after ↦ once p k (omega arith) l (e ∙ sym here)
+        ],
+      )
+      by p u (inr x) e = let x0 = x.0 in let x1 = x.1 in let w = has.1 in let count = less_count in ((p, u, get_or_default active p n 0 u ∙ e), λ once here. once k p (omega arith) u (here ∙ sym e))
+
+  pub has_less : (n : ℕ) → Contains active n → (slice_index active k ≡ n → ⊥) → Contains less n
+  has_less n has apart =
+      let count = less_count in
+      let at = get_or_default active has.0 0 n has.1 ∙ has.2 in
+      let elsewhere : has.0 ≢ k = λ e. apart (ap (slice_index active) (sym e) ∙ at) in
+      elim (cases_eq (has.0 + 1) (length active)) as (λ _. Contains less n) [
+        | inl last ↦
+            let e : length active - 1 ≡ has.0 = omega arith in
+            let h = has.1 in
+            let m : k < length less = omega arith in
+            (k, m, get_or_default less k n 0 m ∙ less_here m ∙ ap (slice_index active) e ∙ at)
+        | inr before ↦
+            let h = has.1 in
+            let m : has.0 < length less = omega arith in
+            (has.0, m, get_or_default less has.0 n 0 m ∙ less_other has.0 m elsewhere ∙ at)
+      ]
+
+-- ---- prices that are moved row by row
+-- so far each row has the price that it is to have, or is left and has the price that it had
+pub record AreMoving (to : ℕ → ℤ) (first now : Levels) (k : ℕ) : Type 0 where
+  pub count : length now.prices.items ≡ length first.prices.items
+  pub done : (n : ℕ) → n < length first.prices.items → (price_of now n ≡ to n) ⊎ IsLeft now.active.items k n
+  pub left : (n : ℕ) → IsLeft now.active.items k n → price_of now n ≡ price_of first n
+
+pub moving_first : (to : ℕ → ℤ) (l : Levels) → IsLevels l → ((n : ℕ) → IsIdle l n → price_of l n ≡ to n) → AreMoving to l l 0
+moving_first to l is idle_stays = record {
+  count = refl;
+  done = λ n m. elim (is.covers n m) as (λ _. (price_of l n ≡ to n) ⊎ IsLeft l.active.items 0 n) [
+    | inl idle ↦ inl (idle_stays n idle)
+    | inr has ↦ inr (all_left l.active.items n has)
+  ];
+  left = λ n left. refl;
+}
+
+-- one more row has the price that it is to have
+pub moving_next : (to : ℕ → ℤ) (first old new : Levels) (k next : ℕ) (price : ℤ) → AreMoving to first old k → MovesRow k price next old new → slice_index old.active.items k < length old.prices.items
+    → price ≡ to (slice_index old.active.items k) → AreMoving to first new next
+moving_next to first old new k next price so_far moves l is = record {
+  count = ap length moves.prices ∙ set_count old.prices.items row price ∙ so_far.count;
+  done = λ n m. elim (cases_eq n row) as (λ _. (price_of new n ≡ to n) ⊎ IsLeft new.active.items next n) [
+    | inl same ↦ inl (here n same)
+    | inr apart ↦ elim (so_far.done n m) as (λ _. (price_of new n ≡ to n) ⊎ IsLeft new.active.items next n) [
+      | inl has ↦ inl (elsewhere n apart ∙ has)
+      | inr left ↦ elim (moves.on.kept n left) as (λ _. (price_of new n ≡ to n) ⊎ IsLeft new.active.items next n) [
+        | inl at ↦ absurd (apart (sym at))
+        | inr later ↦ inr later
+      ]
+    ]
+  ];
+  left = λ n left. let before = moves.on.left n left in elsewhere n (λ e. before.1 (sym e)) ∙ so_far.left n before.0;
+}
+  where
+    row : ℕ
+    row = slice_index old.active.items k
+
+    here : (n : ℕ) → n ≡ row → price_of new n ≡ to n
+    here n same = ap (λ (ps : List ℤ). slice_index_or ps n (pos 0)) moves.prices ∙ set_at old.prices.items row n price l same ∙ is ∙ ap to (sym same)
+
+    elsewhere : (n : ℕ) → (n ≡ row → ⊥) → price_of new n ≡ price_of old n
+    elsewhere n apart = ap (λ (ps : List ℤ). slice_index_or ps n (pos 0)) moves.prices ∙ set_elsewhere old.prices.items row n price apart
+
+-- when none is left
+pub moving_all : (to : ℕ → ℤ) (first now : Levels) (k : ℕ) → AreMoving to first now k → length now.active.items ≤ k → MovesTo to first now
+moving_all to first now k so_far past = record {
+  count = so_far.count;
+  each = λ n l. elim (so_far.done n l) as (λ _. price_of now n ≡ to n) [
+    | inl is ↦ is
+    | inr left ↦ absurd (none_left now.active.items k n past left)
+  ];
+}
 
 -- ---- lists that have one more
 pub kept_push : (xs ys : List ℕ) (y : ℕ) → ys ≡ xs ++ y ∷ [] → All (Contains ys) xs
@@ -169,149 +323,168 @@ contains_map f (y ∷ xs) x has = elim (contains_cases y xs x has) as (λ _. Con
   | inr later ↦ contains_later (f y) (map f xs) (f x) (contains_map f xs x later)
 ]
 
--- ---- a row that is made active
-module _ (number : ℕ) (old woken : Levels) (wakes : Wakes number old woken) (is : IsLevels old) where
-  kept_within : (n : ℕ) → Contains old.active.items n → Contains woken.active.items n
-  kept_within n has = All-contains (Contains woken.active.items) old.active.items n wakes.kept has
+-- ---- a row that is made active or let go
+once_push : (xs : List ℕ) (y : ℕ) → StandOnce xs → (Contains xs y → ⊥) → StandOnce (xs ++ y ∷ [])
+once_push xs y once none i j before l same =
+    let long = length-append xs (y ∷ []) in
+    let first = get_or_append_left xs (y ∷ []) 0 i (omega arith) in
+    elim (cases_eq j (length xs)) as (λ _. ⊥) [
+      | inl last ↦
+          let at = ap (slice_index (xs ++ y ∷ [])) last ∙ get_or-append_seam xs y [] 0 in
+          let m : i < length xs = omega arith in
+          none (i, m, get_or_default xs i y 0 m ∙ sym first ∙ same ∙ at)
+      | inr apart ↦
+          let m : j < length xs = omega arith in
+          once i j before m (sym first ∙ same ∙ get_or_append_left xs (y ∷ []) 0 j m)
+    ]
 
-  same_count : length woken.prices.items ≡ length old.prices.items
-  same_count = ap (λ v. length v.items) wakes.prices
-
-  pub woken_levels : IsLevels woken
-  woken_levels = record {
-    use_count = ap (λ v. length v.items) wakes.uses ∙ is.use_count ∙ sym same_count;
-    capacity_count = ap (λ v. length v.items) wakes.capacities ∙ is.capacity_count ∙ sym same_count;
-    range = subst (λ v. All IsRowPrice v.items) (sym wakes.prices) is.range;
-    small = subst (λ v. All (λ (capacity : ℕ). capacity ≤ 65535) v.items) (sym wakes.capacities) is.small;
-    capacity_is = wakes.capacity ∙ is.capacity_is ∙ ap (λ v. capacity_below v.items old.capacities.items (length v.items)) (sym wakes.prices) ∙ ap (λ v. capacity_below woken.prices.items v.items (length woken.prices.items)) (sym wakes.capacities);
-    within = subst (λ (count : ℕ). All (λ (n : ℕ). n < count) woken.active.items) (sym same_count) (wakes.within is.within);
-    covers = λ n l. elim (is.covers n (let e = same_count in omega arith)) as (λ _. IsIdle woken n ⊎ Contains woken.active.items n) [
-      | inl idle ↦ inl (ap (λ v. slice_index_or v.items n (pos 0)) wakes.prices ∙ idle.0, ap (λ v. slice_index v.items n) wakes.uses ∙ idle.1)
-      | inr has ↦ inr (kept_within n has)
+module _ (old : Levels) (is : IsLevels old) where
+  -- one more row is active and marked
+  pub woken_levels : (number : ℕ) (active : Vec ℕ Global) (listed : Vec Bool Global) → number < length old.prices.items → (is_listed old number ≡ true → ⊥) → active.items ≡ old.active.items ++ number ∷ []
+      → listed.items ≡ set old.listed.items number true → IsLevels (record old { active = active; listed = listed })
+  woken_levels number active listed l unmarked pushed marks = record {
+    use_count = is.use_count;
+    capacity_count = is.capacity_count;
+    mark_count = ap length marks ∙ length-set old.listed.items number true ∙ is.mark_count;
+    range = is.range;
+    small = is.small;
+    capacity_is = is.capacity_is;
+    within = all_push (λ (n : ℕ). n < length old.prices.items) old.active.items active.items number pushed l is.within;
+    once = subst StandOnce (sym pushed) (once_push old.active.items number is.once (λ has. unmarked (All-contains (λ (n : ℕ). is_listed old n ≡ true) old.active.items number is.marked has)));
+    marked = all_push (λ (n : ℕ). slice_index_or listed.items n false ≡ true) old.active.items active.items number pushed here
+        (All-weaker (λ (n : ℕ). is_listed old n ≡ true) (λ (n : ℕ). slice_index_or listed.items n false ≡ true) mark_stays old.active.items is.marked);
+    found = λ n marked. elim (cases_eq n number) as (λ _. Contains active.items n) [
+      | inl same ↦ subst (Contains active.items) (sym same) (has_push old.active.items active.items number pushed)
+      | inr apart ↦ stays n (is.found n (sym (elsewhere n apart) ∙ marked))
+    ];
+    covers = λ n m. elim (is.covers n m) as (λ _. IsIdle old n ⊎ Contains active.items n) [
+      | inl idle ↦ inl idle
+      | inr has ↦ inr (stays n has)
     ];
   }
+    where
+      here : slice_index_or listed.items number false ≡ true
+      here = ap (λ (ms : List Bool). slice_index_or ms number false) marks ∙ get_or-set_same old.listed.items number true false (let count = is.mark_count in omega arith)
 
-  pub woken_here : number < length old.prices.items → Contains woken.active.items number
-  woken_here l = elim (is.covers number l) as (λ _. Contains woken.active.items number) [
-    | inl idle ↦ wakes.here idle
-    | inr has ↦ kept_within number has
-  ]
+      elsewhere : (n : ℕ) → (n ≡ number → ⊥) → slice_index_or listed.items n false ≡ is_listed old n
+      elsewhere n apart = ap (λ (ms : List Bool). slice_index_or ms n false) marks ∙ get_or-set_other old.listed.items number n true false apart
 
--- active rows cover those with a price or a use when one that is active gets another price
-pub covers_priced : (prices : List ℤ) (uses active : List ℕ) (k : ℕ) (x : ℤ) → Contains active k
-    → ((n : ℕ) → n < length prices → ((slice_index_or prices n (pos 0) ≡ pos 0) × (slice_index uses n ≡ 0)) ⊎ Contains active n)
-    → (n : ℕ) → n < length (set prices k x) → ((slice_index_or (set prices k x) n (pos 0) ≡ pos 0) × (slice_index uses n ≡ 0)) ⊎ Contains active n
-covers_priced prices uses active k x has covers n l = elim (cases_eq n k) as (λ _. ((slice_index_or (set prices k x) n (pos 0) ≡ pos 0) × (slice_index uses n ≡ 0)) ⊎ Contains active n) [
+      mark_stays : (n : ℕ) → is_listed old n ≡ true → slice_index_or listed.items n false ≡ true
+      mark_stays n marked = elim (cases_eq n number) as (λ _. slice_index_or listed.items n false ≡ true) [
+        | inl same ↦ ap (λ (m : ℕ). slice_index_or listed.items m false) same ∙ here
+        | inr apart ↦ elsewhere n apart ∙ marked
+      ]
+
+      stays : (n : ℕ) → Contains old.active.items n → Contains active.items n
+      stays n has = All-contains (Contains active.items) old.active.items n (kept_push old.active.items active.items number pushed) has
+
+  -- an idle row is active and marked no more
+  pub rested_levels : (k d : ℕ) (active : Vec ℕ Global) (listed : Vec Bool Global) → k < length old.active.items → IsIdle old (slice_index old.active.items k) → active.items ≡ swap_remove old.active.items k d
+      → listed.items ≡ set old.listed.items (slice_index old.active.items k) false → IsLevels (record old { active = active; listed = listed })
+  rested_levels k d active listed l idle removed marks = record {
+    use_count = is.use_count;
+    capacity_count = is.capacity_count;
+    mark_count = ap length marks ∙ length-set old.listed.items row false ∙ is.mark_count;
+    range = is.range;
+    small = is.small;
+    capacity_is = is.capacity_is;
+    within = all_of (λ (n : ℕ). n < length old.prices.items) (λ n has. All-contains (λ (m : ℕ). m < length old.prices.items) old.active.items n is.within (stood n has).0);
+    once = subst StandOnce (sym removed) (once_less old.active.items k d l is.once);
+    marked = all_of (λ (n : ℕ). slice_index_or listed.items n false ≡ true) (λ n has. let before = stood n has in elsewhere n (λ e. before.1 is.once (sym e)) ∙ All-contains (λ (m : ℕ). is_listed old m ≡ true) old.active.items n is.marked before.0);
+    found = λ n marked.
+        let apart : n ≢ row = λ e. cc (sym marked ∙ ap (λ (m : ℕ). slice_index_or listed.items m false) e ∙ here) in
+        stays n (is.found n (sym (elsewhere n apart) ∙ marked)) (λ e. apart (sym e));
+    covers = λ n m. elim (cases_eq n row) as (λ _. IsIdle old n ⊎ Contains active.items n) [
+      | inl same ↦ inl (subst (IsIdle old) (sym same) idle)
+      | inr apart ↦ elim (is.covers n m) as (λ _. IsIdle old n ⊎ Contains active.items n) [
+        | inl idle_too ↦ inl idle_too
+        | inr has ↦ inr (stays n has (λ e. apart (sym e)))
+      ]
+    ];
+  }
+    where
+      row : ℕ
+      row = slice_index old.active.items k
+
+      within_marks : row < length old.listed.items
+      within_marks = let count = is.mark_count in let w : row < length old.prices.items = is.within k 0 l in omega arith
+
+      here : slice_index_or listed.items row false ≡ false
+      here = ap (λ (ms : List Bool). slice_index_or ms row false) marks ∙ get_or-set_same old.listed.items row false false within_marks
+
+      elsewhere : (n : ℕ) → (n ≡ row → ⊥) → slice_index_or listed.items n false ≡ is_listed old n
+      elsewhere n apart = ap (λ (ms : List Bool). slice_index_or ms n false) marks ∙ get_or-set_other old.listed.items row n false false apart
+
+      stood : (n : ℕ) → Contains active.items n → Contains old.active.items n × (StandOnce old.active.items → row ≡ n → ⊥)
+      stood n has = less_has old.active.items k d l n (subst (λ (xs : List ℕ). Contains xs n) removed has)
+
+      stays : (n : ℕ) → Contains old.active.items n → (row ≡ n → ⊥) → Contains active.items n
+      stays n has apart = subst (λ (xs : List ℕ). Contains xs n) (sym removed) (has_less old.active.items k d l n has apart)
+
+      all_of : (P : ℕ → Type 0) → ((n : ℕ) → Contains active.items n → P n) → All P active.items
+      all_of P h i e m = h (get_or active.items i e) (Contains-get_or active.items i e m)
+
+-- active rows cover those with a price or more uses than capacity when one that is active gets another price
+pub covers_priced : (prices : List ℤ) (uses capacities active : List ℕ) (k : ℕ) (x : ℤ) → Contains active k
+    → ((n : ℕ) → n < length prices → ((slice_index_or prices n (pos 0) ≡ pos 0) × (slice_index uses n ≤ slice_index capacities n)) ⊎ Contains active n)
+    → (n : ℕ) → n < length (set prices k x) → ((slice_index_or (set prices k x) n (pos 0) ≡ pos 0) × (slice_index uses n ≤ slice_index capacities n)) ⊎ Contains active n
+covers_priced prices uses capacities active k x has covers n l = elim (cases_eq n k) as (λ _. ((slice_index_or (set prices k x) n (pos 0) ≡ pos 0) × (slice_index uses n ≤ slice_index capacities n)) ⊎ Contains active n) [
   | inl same ↦ inr (subst (Contains active) (sym same) has)
-  | inr apart ↦ elim (covers n (let c = set_count prices k x in omega arith)) as (λ _. ((slice_index_or (set prices k x) n (pos 0) ≡ pos 0) × (slice_index uses n ≡ 0)) ⊎ Contains active n) [
+  | inr apart ↦ elim (covers n (let c = set_count prices k x in omega arith)) as (λ _. ((slice_index_or (set prices k x) n (pos 0) ≡ pos 0) × (slice_index uses n ≤ slice_index capacities n)) ⊎ Contains active n) [
     | inl idle ↦ inl (set_elsewhere prices k n x apart ∙ idle.0, idle.1)
     | inr active_too ↦ inr active_too
   ]
 ]
 
--- or another use
-pub covers_used : (prices : List ℤ) (uses active : List ℕ) (k x : ℕ) → Contains active k
-    → ((n : ℕ) → n < length prices → ((slice_index_or prices n (pos 0) ≡ pos 0) × (slice_index uses n ≡ 0)) ⊎ Contains active n)
-    → (n : ℕ) → n < length prices → ((slice_index_or prices n (pos 0) ≡ pos 0) × (slice_index (set uses k x) n ≡ 0)) ⊎ Contains active n
-covers_used prices uses active k x has covers n l = elim (cases_eq n k) as (λ _. ((slice_index_or prices n (pos 0) ≡ pos 0) × (slice_index (set uses k x) n ≡ 0)) ⊎ Contains active n) [
-  | inl same ↦ inr (subst (Contains active) (sym same) has)
-  | inr apart ↦ elim (covers n l) as (λ _. ((slice_index_or prices n (pos 0) ≡ pos 0) × (slice_index (set uses k x) n ≡ 0)) ⊎ Contains active n) [
-    | inl idle ↦ inl (idle.0, get_or-set_other uses k n x 0 apart ∙ idle.1)
-    | inr active_too ↦ inr active_too
-  ]
-]
-
--- ---- moves of the active rows
-pub moves_made : (to : ℕ → ℤ) (l : Levels) → IsLevels l → ((n : ℕ) → IsRowPrice (to n)) → ((n : ℕ) → IsIdle l n → price_of l n ≡ to n) → MovesTo to l (map (λ (n : ℕ). (n, to n)) l.active.items)
-moves_made to l is range idle_stays = record {
-  are = All-map (IsMove (length l.prices.items)) (λ (n : ℕ). (n, to n)) l.active.items (All-weaker (λ (n : ℕ). n < length l.prices.items) (λ (n : ℕ). IsMove (length l.prices.items) (n, to n)) (λ n within. (within, range n)) l.active.items is.within);
-  each = All-map (λ (move : ℕ × ℤ). move.1 ≡ to move.0) (λ (n : ℕ). (n, to n)) l.active.items (λ k d m. refl);
-  others = λ n m. elim (is.covers n m) as (λ _. (price_of l n ≡ to n) ⊎ Contains {X = ℕ × ℤ} (map (λ (n : ℕ). (n, to n)) l.active.items) (n, to n)) [
-    | inl idle ↦ inl (idle_stays n idle)
-    | inr active ↦ inr (contains_map (λ (n : ℕ). (n, to n)) l.active.items n active)
-  ];
-}
-
-pub prices_held : (l : Levels) → IsLevels l → HoldsPrices l (map (λ (n : ℕ). (n, price_of l n)) l.active.items)
-prices_held l is =
-    let moves = moves_made (price_of l) l is (λ n. row_price_or l.prices.items n is.range) (λ n idle. refl) in
-    record {
-      are = moves.are;
-      each = moves.each;
-      others = λ n m. elim (is.covers n m) as (λ _. (price_of l n ≡ pos 0) ⊎ Contains {X = ℕ × ℤ} (map (λ (n : ℕ). (n, price_of l n)) l.active.items) (n, price_of l n)) [
-        | inl idle ↦ inl idle.0
-        | inr active ↦ inr (contains_map (λ (n : ℕ). (n, price_of l n)) l.active.items n active)
-      ];
-    }
-
--- ---- uses that are forgotten
--- one more row has no use
-pub zeroed_next : (uses active : List ℕ) (k number n : ℕ) → get_or active k 0 ≡ number → number < length uses → (slice_index uses n ≡ 0) ⊎ IsLeft active k n → (slice_index (set uses number 0) n ≡ 0) ⊎ IsLeft active (k + 1) n
-zeroed_next uses active k number n here l so_far = elim (cases_eq n number) as (λ _. (slice_index (set uses number 0) n ≡ 0) ⊎ IsLeft active (k + 1) n) [
-  | inl same ↦ inl (ap (slice_index (set uses number 0)) same ∙ get_or-set_same uses number 0 0 l)
-  | inr apart ↦ elim so_far as (λ _. (slice_index (set uses number 0) n ≡ 0) ⊎ IsLeft active (k + 1) n) [
-    | inl zero_use ↦ inl (get_or-set_other uses number n 0 0 apart ∙ zero_use)
-    | inr left ↦ elim (left_next active k n left) as (λ _. (slice_index (set uses number 0) n ≡ 0) ⊎ IsLeft active (k + 1) n) [
-      | inl is ↦ absurd (apart (sym is ∙ here))
-      | inr later ↦ inr later
+-- or when a row has another use, unless it was idle, isn't active and is used above its capacity now
+pub used_levels : (old : Levels) (uses : Vec ℕ Global) (k x : ℕ) → IsLevels old → k < length old.prices.items → uses.items ≡ set old.uses.items k x → (IsIdle old k → (x ≤ capacity_of old k) ⊎ Contains old.active.items k)
+    → IsLevels (record old { uses = uses })
+used_levels old uses k x is l e active = record {
+  use_count = ap length e ∙ length-set old.uses.items k x ∙ is.use_count;
+  capacity_count = is.capacity_count;
+  mark_count = is.mark_count;
+  range = is.range;
+  small = is.small;
+  capacity_is = is.capacity_is;
+  within = is.within;
+  once = is.once;
+  marked = is.marked;
+  found = is.found;
+  covers = λ n m. elim (cases_eq n k) as (λ _. IsIdle (record old { uses = uses }) n ⊎ Contains old.active.items n) [
+    | inl same ↦ subst (λ (i : ℕ). IsIdle (record old { uses = uses }) i ⊎ Contains old.active.items i) (sym same) at_row
+    | inr apart ↦ elim (is.covers n m) as (λ _. IsIdle (record old { uses = uses }) n ⊎ Contains old.active.items n) [
+      | inl idle ↦ inl (idle.0, let u = elsewhere n apart in let few = idle.1 in omega arith)
+      | inr has ↦ inr has
     ]
-  ]
-]
-
--- one more row is listed that has a price
-pub listed_next : (prices : List ℤ) (active spare more : List ℕ) (k number n : ℕ) → get_or active k 0 ≡ number → All (Contains more) spare → (slice_index_or prices number (pos 0) ≡ pos 0) ⊎ Contains more number
-    → (slice_index_or prices n (pos 0) ≡ pos 0) ⊎ (Contains spare n ⊎ IsLeft active k n) → (slice_index_or prices n (pos 0) ≡ pos 0) ⊎ (Contains more n ⊎ IsLeft active (k + 1) n)
-listed_next prices active spare more k number n here kept one (inl none) = inl none
-listed_next prices active spare more k number n here kept one (inr (inl has)) = inr (inl (All-contains (Contains more) spare n kept has))
-listed_next prices active spare more k number n here kept one (inr (inr left)) = elim (left_next active k n left) as (λ _. (slice_index_or prices n (pos 0) ≡ pos 0) ⊎ (Contains more n ⊎ IsLeft active (k + 1) n)) [
-  | inl is ↦ subst (λ (m : ℕ). (slice_index_or prices m (pos 0) ≡ pos 0) ⊎ (Contains more m ⊎ IsLeft active (k + 1) m)) (sym here ∙ is) (elim one as (λ _. (slice_index_or prices number (pos 0) ≡ pos 0) ⊎ (Contains more number ⊎ IsLeft active (k + 1) number)) [
-    | inl none ↦ inl none
-    | inr has ↦ inr (inl has)
-  ])
-  | inr later ↦ inr (inr later)
-]
-
--- nothing is used, and the rows with a price are active
-pub rested : (old now : Levels) → IsLevels old → now.prices ≡ old.prices → now.capacities ≡ old.capacities → now.capacity ≡ old.capacity → length now.uses.items ≡ length old.uses.items → AreUnused now
-    → ((n : ℕ) → (price_of old n ≡ pos 0) ⊎ Contains now.active.items n) → All (λ n. n < length old.prices.items) now.active.items → IsLevels now
-rested old now is prices capacities capacity count unused listed within = record {
-  use_count = count ∙ is.use_count ∙ sym same_count;
-  capacity_count = ap (λ v. length v.items) capacities ∙ is.capacity_count ∙ sym same_count;
-  range = subst (λ v. All IsRowPrice v.items) (sym prices) is.range;
-  small = subst (λ v. All (λ (capacity : ℕ). capacity ≤ 65535) v.items) (sym capacities) is.small;
-  capacity_is = capacity ∙ is.capacity_is ∙ ap (λ v. capacity_below v.items old.capacities.items (length v.items)) (sym prices) ∙ ap (λ v. capacity_below now.prices.items v.items (length now.prices.items)) (sym capacities);
-  within = subst (λ (most : ℕ). All (λ (n : ℕ). n < most) now.active.items) (sym same_count) within;
-  covers = λ n l. elim (listed n) as (λ _. IsIdle now n ⊎ Contains now.active.items n) [
-    | inl none ↦ inl (ap (λ v. slice_index_or v.items n (pos 0)) prices ∙ none, unused n)
-    | inr has ↦ inr has
   ];
 }
   where
-    same_count : length now.prices.items ≡ length old.prices.items
-    same_count = ap (λ v. length v.items) prices
+    here : slice_index uses.items k ≡ x
+    here = ap (λ (us : List ℕ). slice_index us k) e ∙ get_or-set_same old.uses.items k x 0 (let count = is.use_count in omega arith)
 
-pub first_unused : (l : Levels) → IsLevels l → (n : ℕ) → (slice_index l.uses.items n ≡ 0) ⊎ IsLeft l.active.items 0 n
-first_unused l is n = elim (cases_lt n (length l.prices.items)) as (λ _. (slice_index l.uses.items n ≡ 0) ⊎ IsLeft l.active.items 0 n) [
-  | inl within ↦ elim (is.covers n within) as (λ _. (slice_index l.uses.items n ≡ 0) ⊎ IsLeft l.active.items 0 n) [
-    | inl idle ↦ inl idle.1
-    | inr has ↦ inr (all_left l.active.items n has)
-  ]
-  | inr past ↦ inl (get_or_past l.uses.items n 0 (let count = is.use_count in omega arith))
-]
+    elsewhere : (n : ℕ) → (n ≡ k → ⊥) → slice_index uses.items n ≡ use_of old n
+    elsewhere n apart = ap (λ (us : List ℕ). slice_index us n) e ∙ get_or-set_other old.uses.items k n x 0 apart
 
-pub first_listed : (l : Levels) (spare : List ℕ) → IsLevels l → (n : ℕ) → (price_of l n ≡ pos 0) ⊎ (Contains spare n ⊎ IsLeft l.active.items 0 n)
-first_listed l spare is n = elim (cases_lt n (length l.prices.items)) as (λ _. (price_of l n ≡ pos 0) ⊎ (Contains spare n ⊎ IsLeft l.active.items 0 n)) [
-  | inl within ↦ elim (is.covers n within) as (λ _. (price_of l n ≡ pos 0) ⊎ (Contains spare n ⊎ IsLeft l.active.items 0 n)) [
+    at_row : IsIdle (record old { uses = uses }) k ⊎ Contains old.active.items k
+    at_row = elim (is.covers k l) as (λ _. IsIdle (record old { uses = uses }) k ⊎ Contains old.active.items k) [
+      | inl idle ↦ elim (active idle) as (λ _. IsIdle (record old { uses = uses }) k ⊎ Contains old.active.items k) [
+        | inl few ↦ inl (idle.0, let u = here in omega arith)
+        | inr has ↦ inr has
+      ]
+      | inr has ↦ inr has
+    ]
+
+-- ---- prices that are copied
+pub prices_held : (l : Levels) → IsLevels l → HoldsPrices l (map (λ (n : ℕ). (n, price_of l n)) l.active.items)
+prices_held l is = record {
+  are = All-map (IsMove (length l.prices.items)) (λ (n : ℕ). (n, price_of l n)) l.active.items
+      (All-weaker (λ (n : ℕ). n < length l.prices.items) (λ (n : ℕ). IsMove (length l.prices.items) (n, price_of l n)) (λ n within. (within, row_price_or l.prices.items n is.range)) l.active.items is.within);
+  each = All-map (λ (move : ℕ × ℤ). move.1 ≡ price_of l move.0) (λ (n : ℕ). (n, price_of l n)) l.active.items (λ k d m. refl);
+  others = λ n m. elim (is.covers n m) as (λ _. (price_of l n ≡ pos 0) ⊎ Contains {X = ℕ × ℤ} (map (λ (n : ℕ). (n, price_of l n)) l.active.items) (n, price_of l n)) [
     | inl idle ↦ inl idle.0
-    | inr has ↦ inr (inr (all_left l.active.items n has))
-  ]
-  | inr past ↦ inl (get_or_past l.prices.items n (pos 0) past)
-]
-
--- when none is left
-pub gone : (X : Type 0) (active : List ℕ) (k n : ℕ) → length active ≤ k → X ⊎ IsLeft active k n → X
-gone X active k n past (inl here) = here
-gone X active k n past (inr left) = absurd (none_left active k n past left)
+    | inr active ↦ inr (contains_map (λ (n : ℕ). (n, price_of l n)) l.active.items n active)
+  ];
+}
 
 -- ---- one more row, at no price and with no use
 push_last : {X : Type 0} (xs : List X) (x d : X) (n : ℕ) → x ≡ d → length xs ≤ n → get_or (xs ++ x ∷ []) n d ≡ d
@@ -341,22 +514,26 @@ capacity_push prices capacities capacity count =
 
 -- the level of one more row
 pub pushed_levels : (old new : Levels) (capacity : ℕ) → IsLevels old → AreUnused new → capacity ≤ 65535 → new.prices.items ≡ old.prices.items ++ pos 0 ∷ [] → new.capacities.items ≡ old.capacities.items ++ capacity ∷ []
-    → length new.uses.items ≡ length old.uses.items + 1 → new.active ≡ old.active → new.capacity ≡ old.capacity → IsLevels new
-pushed_levels old new capacity is unused fits prices capacities uses active total = record {
+    → length new.uses.items ≡ length old.uses.items + 1 → new.active ≡ old.active → new.listed.items ≡ old.listed.items ++ false ∷ [] → new.capacity ≡ old.capacity → IsLevels new
+pushed_levels old new capacity is unused fits prices capacities uses active marks total = record {
   use_count = let a = is.use_count in let b = count in omega arith;
   capacity_count = let a = is.capacity_count in let b = count in let c = ap length capacities ∙ length-append old.capacities.items (capacity ∷ []) in omega arith;
+  mark_count = let a = is.mark_count in let b = count in let c = ap length marks ∙ length-append old.listed.items (false ∷ []) in omega arith;
   range = subst (All IsRowPrice) (sym prices) (All-push IsRowPrice old.prices.items (pos 0) is.range (omega (arith, ints), omega (arith, ints)));
   small = subst (All (λ (c : ℕ). c ≤ 65535)) (sym capacities) (All-push (λ (c : ℕ). c ≤ 65535) old.capacities.items capacity is.small fits);
   capacity_is = total ∙ is.capacity_is ∙ sym (capacity_push old.prices.items old.capacities.items capacity is.capacity_count) ∙ ap (λ (ps : List ℤ). capacity_below ps (old.capacities.items ++ capacity ∷ []) (length ps)) (sym prices)
       ∙ ap (λ (cs : List ℕ). capacity_below new.prices.items cs (length new.prices.items)) (sym capacities);
   within = subst (λ v. All (λ (n : ℕ). n < length new.prices.items) v.items) (sym active)
       (All-weaker (λ (n : ℕ). n < length old.prices.items) (λ (n : ℕ). n < length new.prices.items) (λ n l. let b = count in omega arith) old.active.items is.within);
+  once = subst (λ v. StandOnce v.items) (sym active) is.once;
+  marked = subst (λ v. All (λ (n : ℕ). is_listed new n ≡ true) v.items) (sym active) (All-weaker (λ (n : ℕ). is_listed old n ≡ true) (λ (n : ℕ). is_listed new n ≡ true) (λ n marked. mark n ∙ marked) old.active.items is.marked);
+  found = λ n marked. subst (λ v. Contains v.items n) (sym active) (is.found n (sym (mark n) ∙ marked));
   covers = λ n l. elim (cases_lt n (length old.prices.items)) as (λ _. IsIdle new n ⊎ Contains new.active.items n) [
     | inl within ↦ elim (is.covers n within) as (λ _. IsIdle new n ⊎ Contains new.active.items n) [
-      | inl idle ↦ inl (price n ∙ get_or_append_left old.prices.items (pos 0 ∷ []) (pos 0) n within ∙ idle.0, unused n)
+      | inl idle ↦ inl (price n ∙ get_or_append_left old.prices.items (pos 0 ∷ []) (pos 0) n within ∙ idle.0, let u = unused n in omega arith)
       | inr has ↦ inr (subst (λ v. Contains v.items n) (sym active) has)
     ]
-    | inr past ↦ inl (price n ∙ push_last old.prices.items (pos 0) (pos 0) n refl past, unused n)
+    | inr past ↦ inl (price n ∙ push_last old.prices.items (pos 0) (pos 0) n refl past, let u = unused n in omega arith)
   ];
 }
   where
@@ -365,6 +542,12 @@ pushed_levels old new capacity is unused fits prices capacities uses active tota
 
     price : (n : ℕ) → price_of new n ≡ slice_index_or (old.prices.items ++ pos 0 ∷ []) n (pos 0)
     price n = ap (λ (ps : List ℤ). slice_index_or ps n (pos 0)) prices
+
+    mark : (n : ℕ) → is_listed new n ≡ is_listed old n
+    mark n = ap (λ (ms : List Bool). slice_index_or ms n false) marks ∙ elim (cases_lt n (length old.listed.items)) as (λ _. slice_index_or (old.listed.items ++ false ∷ []) n false ≡ slice_index_or old.listed.items n false) [
+      | inl within ↦ get_or_append_left old.listed.items (false ∷ []) false n within
+      | inr past ↦ push_last old.listed.items false false n refl past ∙ sym (get_or_past old.listed.items n false past)
+    ]
 
 pub push_unused : (uses : List ℕ) (n : ℕ) → slice_index uses n ≡ 0 → slice_index (uses ++ 0 ∷ []) n ≡ 0
 push_unused [] zero none = refl

@@ -39,3 +39,6 @@ pub mod AllowLemmas
 pub mod RoomLemmas
 pub mod PartLemmas
 pub mod KeepLemmas
+pub mod TellingLemmas
+pub mod DecidedLemmas
+pub mod StayLemmas

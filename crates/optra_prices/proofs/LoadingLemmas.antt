@@ -23,7 +23,7 @@ use Rattle.optra_prices.specs.Holdings.{entries_one, part_of}
 use Rattle.optra_prices.specs.Tables.{AreTouches, no_arc}
 use Rattle.optra_prices.specs.Terms.{Setting, AreBidArcs}
 use Rattle.optra_prices.specs.Standings.{Stands, AreTables, AllStand, IsSound, replies_of}
-use Rattle.optra_prices.specs.Uses.{touch_use, touch_uses, arc_touches, path_uses, all_uses, HasGroups}
+use Rattle.optra_prices.specs.Uses.{touch_use, touch_uses, arc_touches, path_uses, all_uses, paths_of, HasGroups}
 use Rattle.optra_prices.specs.declared.numbering.BidTable.{BidTable}
 use Rattle.optra_prices.specs.declared.numbering.Groups.{Groups}
 use Rattle.optra_prices.specs.declared.numbering.Standing.{Standing}
@@ -167,8 +167,8 @@ module _ {R : Type 0} (cmp : R → R → Ordering) (total : IsTotalOrder cmp) (a
   module _ (tables : List BidTable) (prices : List ℤ) (standings : List Standing) (are : AreTables s (length s.bids) numbered groups tables) (sound : All IsSound tables) (stand : AllStand tables prices standings) where
     -- the uses by number of a row are what the replies use of it
     pub uses_load : (once : (i j : ℕ) (row : R) → slice_get numbered i ≡ Some row → slice_get numbered j ≡ Some row → i ≡ j) (n : ℕ) (row : R) → slice_get numbered n ≡ Some row
-        → all_uses groups tables standings n ≡ load_of s.rows row (entries_of s.bids (replies_of tables standings))
-    uses_load once n row at = by_bids row (λ table path. path_uses groups table path n) (λ ts ss. all_uses groups ts ss n) (λ ss. refl) (λ t ts x ss. refl) s.bids tables standings are.count_is stand.count_is
+        → all_uses groups tables (paths_of standings) n ≡ load_of s.rows row (entries_of s.bids (replies_of tables standings))
+    uses_load once n row at = by_bids row (λ table path. path_uses groups table path n) (λ ts ss. all_uses groups ts (paths_of ss) n) (λ ss. refl) (λ t ts x ss. refl) s.bids tables standings are.count_is stand.count_is
         (λ number bid table standing b_at t_at x_at. numbered_load number bid table prices standing (are.each number bid table b_at t_at).arcs_are (all_at IsSound tables number table sound t_at) (stand.each number table standing t_at x_at) once n row at)
 
     -- a row without a number is not used by the replies
@@ -183,4 +183,4 @@ module _ {R : Type 0} (cmp : R → R → Ordering) (total : IsTotalOrder cmp) (a
         let b = some_at s.bids k (omega arith) in
         let at : slice_get tables k ≡ Some (get_or tables k d) = slice_get-get_or tables k d l in
         let arcs = (are.each k b.0 (get_or tables k d) b.1 at).arcs_are in
-        record { are = arcs.groups; sound = sound k d l; within = arcs.terms.within }
+        record { are = arcs.groups; within = arcs.terms.within }

@@ -1,11 +1,11 @@
 -- Legs that have entered keep their groups while rows get numbers and groups are added.
 use Rattle.std.proofs.Common.{◌≡◌, ℕ, List, [], ◌∷◌, ◌++◌, get_or, true, slice_get, sym, ap, ◌∙◌, subst, arith, ℤ, pos, ◌≤ℤ◌}
-use Rattle.std.specs.Prelude.{All, Contains, neg_ℤ}
+use Rattle.std.specs.Prelude.{All, neg_ℤ}
 use Rattle.std.specs.BTreeMap.{BTreeMap, is_at}
 use Rattle.std.specs.Map.{lookup}
 use Rattle.std.specs.declared.cmp.Ordering.{Ordering}
 use Rattle.std.proofs.lemmas.Int.{ints}
-use Rattle.std.proofs.lemmas.List.Elements.{All-contains, All-push}
+use Rattle.std.proofs.lemmas.List.Elements.{All-push}
 use Rattle.std.proofs.lemmas.Option.{none-some}
 use Rattle.optra_network.specs.Net.{Net}
 use Rattle.optra_network.specs.declared.TypeId.{TypeId}

@@ -30,7 +30,7 @@ zip_all P Q [] ys h f = All-nil Q
 zip_all P Q (x ∷ xs) [] h f = absurd h
 zip_all {A} {B} P Q (x ∷ xs) (y ∷ ys) h f = All-cons Q x xs (f x y (contains_head y ys y refl) h.0) (zip_all P Q xs ys h.1 (λ (a : A) (b : B) has is. f a b (contains_later y ys b has) is))
 
-zip_second : {A B : Type 0} (P : A → B → Type 0) (xs : List A) (ys : List B) → AllZip P xs ys → (y : B) → Contains ys y → (x : A) × Contains xs x × P x y
+pub zip_second : {A B : Type 0} (P : A → B → Type 0) (xs : List A) (ys : List B) → AllZip P xs ys → (y : B) → Contains ys y → (x : A) × Contains xs x × P x y
 zip_second P xs [] h y (k, l, e) = absurd (omega arith)
 zip_second P [] (y ∷ ys) h z has = absurd h
 zip_second {A} {B} P (x ∷ xs) (y ∷ ys) h z has = elim (contains_cases y ys z has) as (λ _. (w : A) × Contains (x ∷ xs) w × P w z) [

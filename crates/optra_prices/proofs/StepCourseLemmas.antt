@@ -12,18 +12,17 @@ use Rattle.optra_walk.specs.declared.Leg.{Leg}
 use Rattle.optra_walk.specs.Families.{IsUsable, ListsRows, TellsApart}
 use Rattle.optra_node.specs.Duals.{price_of}
 use Rattle.optra_prices.specs.Courses.{listed, prices_at, AreSetUp}
-use Rattle.optra_prices.specs.Levels.{MovesTo, next_at, moved_by}
+use Rattle.optra_prices.specs.Levels.{MovesTo, next_at}
 use Rattle.optra_prices.specs.Steps.{IsStep, step_length, next_price, reply_load}
 use Rattle.optra_prices.specs.Standings.{IsSound, replies_of}
 use Rattle.optra_prices.specs.Tables.{IsRowPrice}
 use Rattle.optra_prices.specs.Terms.{Setting}
-use Rattle.optra_prices.specs.Uses.{AddsUses, HasGroups, all_uses}
+use Rattle.optra_prices.specs.Uses.{AreUses, HasGroups, paths_of}
 use Rattle.optra_prices.specs.declared.arc_tables.ArcTables.{ArcTables}
 use Rattle.optra_prices.specs.declared.levels.Levels.{Levels}
 use Rattle.optra_prices.proofs.CourseLemmas.{numbered_once}
 use Rattle.optra_prices.proofs.HoldLemmas.{next_none}
 use Rattle.optra_prices.proofs.ListingLemmas.{listed_proper, price_numbered, price_unnumbered}
-use Rattle.optra_prices.proofs.LevelLemmas.{moved_to, moved_range}
 use Rattle.optra_prices.proofs.LoadingLemmas.{uses_load, no_load, tables_grouped}
 use Rattle.optra_prices.proofs.TableLemmas.{tables_sound}
 
@@ -36,10 +35,10 @@ module _ {R : Type 0} (cmp : R → R → Ordering) (total : IsTotalOrder cmp) (a
   course_grouped = tables_grouped cmp total apart s proper lists c.numbering.rows.items c.columns.groups c.tables.items c.columns.grouped.items c.standings.items is.tables sound is.stand
 
   -- prices that are moved by the uses of the replies are those of the step
-  pub step_made : IsOrdered cmp c.numbering.numbers → (k : ℕ) (by : ℤ) → by ≡ step_length s.bids k → pos 1 ≤ℤ by → (l : Levels) → l.prices ≡ c.levels.prices → l.capacities ≡ c.levels.capacities
-      → AddsUses (all_uses c.columns.groups c.tables.items c.standings.items) c.levels.uses.items l.uses.items → (moves : List (ℕ × ℤ)) → MovesTo (next_at by l) l moves
-      → IsStep cmp s.rows s.bids (replies_of c.tables.items c.standings.items) k (prices_at c) (listed c.order.items (moved_by moves l.prices.items))
-  step_made ordered k by by_is low l same_prices same_capacities adds moves moved =
+  pub step_made : IsOrdered cmp c.numbering.numbers → (k : ℕ) (by : ℤ) → by ≡ step_length s.bids k → pos 1 ≤ℤ by → (l moved : Levels) → l.prices ≡ c.levels.prices → l.capacities ≡ c.levels.capacities
+      → length l.uses.items ≡ length l.prices.items → AreUses c.columns.groups c.tables.items (paths_of c.standings.items) l.uses.items → All IsRowPrice moved.prices.items → MovesTo (next_at by l) l moved
+      → IsStep cmp s.rows s.bids (replies_of c.tables.items c.standings.items) k (prices_at c) (listed c.order.items moved.prices.items)
+  step_made ordered k by by_is low l moved same_prices same_capacities use_count uses range moves =
       subst (λ (order : List (R × ℕ)). IsStep cmp s.rows s.bids replies k (listed order c.levels.prices.items) (listed order new)) (sym is.order) (record {
         proper = listed_proper cmp total apart s.rows c.numbering.numbers rows is.numbering is.rows ordered new range;
         each = λ row is_row. at_row row (get cmp c.numbering.numbers row) refl ∙ ap (λ (z : ℤ). next_price z (price_of (eq_by_cmp cmp) (listed c.numbering.numbers.entries c.levels.prices.items) row) (reply_load s.rows s.bids replies row) (s.rows.capacity row)) by_is;
@@ -49,10 +48,7 @@ module _ {R : Type 0} (cmp : R → R → Ordering) (total : IsTotalOrder cmp) (a
       rows = c.numbering.rows.items
 
       new : List ℤ
-      new = moved_by moves l.prices.items
-
-      range : All IsRowPrice new
-      range = moved_range (length l.prices.items) moves l.prices.items moved.are (subst (λ v. All IsRowPrice v.items) (sym same_prices) is.levels.range)
+      new = moved.prices.items
 
       replies : List (Option (List Leg))
       replies = replies_of c.tables.items c.standings.items
@@ -71,18 +67,15 @@ module _ {R : Type 0} (cmp : R → R → Ordering) (total : IsTotalOrder cmp) (a
           let at = is.numbering.found row n e in
           let within : n < length rows = slice_get_within rows n row at in
           let count = is.price_count in
-          let use_count = is.levels.use_count in
           let here : length l.prices.items ≡ length c.levels.prices.items = ap (λ v. length v.items) same_prices in
           let old_price = price_numbered cmp total apart s.rows c.numbering.numbers rows is.numbering is.rows ordered c.levels.prices.items is.levels.range n row at in
-          let inside : n < length c.levels.uses.items = omega arith in
-          let more = adds.each n inside in
-          let first = is.unused n in
+          let counted = uses n (omega arith) in
           let load = uses_load cmp total apart s proper lists rows c.columns.groups c.tables.items c.columns.grouped.items c.standings.items is.tables sound is.stand (numbered_once cmp c is.numbering) n row at in
           let used : slice_index l.uses.items n ≡ reply_load s.rows s.bids replies row = omega arith in
           let room : slice_index l.capacities.items n ≡ s.rows.capacity row = ap (λ v. slice_index v.items n) same_capacities ∙ get_or_from_slice_get c.levels.capacities.items n (s.rows.capacity row) 0 (is.capacities n row at) in
           let old : slice_index_or l.prices.items n (pos 0) ≡ slice_index_or c.levels.prices.items n (pos 0) = ap (λ v. slice_index_or v.items n (pos 0)) same_prices in
           price_numbered cmp total apart s.rows c.numbering.numbers rows is.numbering is.rows ordered new range n row at
-          ∙ moved_to (next_at by l) l moves moved n (omega arith)
+          ∙ moves.each n (omega arith)
           ∙ ap (λ (z : ℤ). next_price by z (slice_index l.uses.items n) (slice_index l.capacities.items n)) (old ∙ sym old_price)
           ∙ ap (λ (m : ℕ). next_price by (price_of (eq_by_cmp cmp) (listed c.numbering.numbers.entries c.levels.prices.items) row) m (slice_index l.capacities.items n)) used
           ∙ ap (λ (m : ℕ). next_price by (price_of (eq_by_cmp cmp) (listed c.numbering.numbers.entries c.levels.prices.items) row) (reply_load s.rows s.bids replies row) m) room

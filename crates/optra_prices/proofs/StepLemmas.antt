@@ -1,9 +1,9 @@
 -- The list of prices after a step.
-use Rattle.std.proofs.Common.{◌≡◌, ℕ, zero, suc, ◌+◌, ◌*◌, ◌≤◌, Bool, true, false, cond, List, [], ◌∷◌, ◌++◌, length, get_or, Option, Some, None, slice_get, refl, sym, ap, ◌∙◌, subst, arith}
-use Rattle.std.specs.Prelude.{All, MatchOption, ℤ, pos, negsuc, ◌+ℤ◌, ◌-ℤ◌, ◌*ℤ◌, ◌≤ℤ◌}
+use Rattle.std.proofs.Common.{◌≡◌, ℕ, zero, suc, ◌+◌, ◌-◌, ◌*◌, ◌≤◌, min, Bool, true, false, cond, List, [], ◌∷◌, ◌++◌, length, get_or, Option, Some, None, slice_get, refl, sym, ap, ◌∙◌, subst, arith}
+use Rattle.std.specs.Prelude.{All, MatchOption, ℤ, unsigned_abs, pos, negsuc, ◌+ℤ◌, ◌-ℤ◌, ◌*ℤ◌, ◌≤ℤ◌}
 use Rattle.std.specs.List.{AllByRecursion, AllPairs}
 use Rattle.std.specs.List.Sorted.{IsStrictlySortedBy}
-use Rattle.std.specs.Int.{is_positive, int_max, int_div_euclid}
+use Rattle.std.specs.Int.{w64, is_positive, int_max, int_div_euclid, saturate_signed}
 use Rattle.std.specs.BTreeMap.{BTreeMap, get, IsOrdered}
 use Rattle.std.specs.Map.{keys_of}
 use Rattle.std.specs.declared.cmp.Ordering.{Ordering}
@@ -16,7 +16,6 @@ use Rattle.std.proofs.lemmas.Map.Entries.{btree_map_get_place}
 use Rattle.std.proofs.lemmas.Map.Keys.{sorted_head, sorted_tail}
 use Rattle.std.proofs.lemmas.Option.{slice_get-get_or}
 use Rattle.std.proofs.lemmas.List.Elements.{All-cons}
-use Rattle.std.proofs.lemmas.Nat.{mul-le}
 use Rattle.std.proofs.Math.Nat.{div-le_self}
 use Rattle.optra_bid.specs.Specs.{IsBetween}
 use Rattle.optra_bid.specs.declared.bids.Bid.{Bid}
@@ -25,10 +24,10 @@ use Rattle.optra_walk.specs.Families.{Rows, TellsApart, load_of, entries_of}
 use Rattle.optra_node.specs.Duals.{PriceList, IsPrice, ArePrices, price_of}
 use Rattle.optra_node.specs.Certificates.{AreAscending}
 use Rattle.optra_node.proofs.LoadLemmas.{all_head, all_tail}
-use Rattle.optra_prices.specs.Steps.{IsStep, step_length, next_price, reply_load}
+use Rattle.optra_prices.specs.Steps.{IsStep, step_length, price_within, next_price, reply_load}
 use Rattle.optra_prices.specs.Holdings.{Holds, stepped, next_held}
 use Rattle.optra_prices.specs.declared.holding.Held.{Held}
-use Rattle.optra_prices.proofs.HoldLemmas.{next_of, stepped_price, next_none, next_low, next_high}
+use Rattle.optra_prices.proofs.HoldLemmas.{next_of, stepped_price, next_none, next_low, next_high, rising, falling}
 
 -- a length is at most the greatest base in thousandths of a cent
 pub length_within : (most : ℤ) (parts : ℕ) → IsBetween (pos 0) (pos 1000000000) most → IsBetween (pos 1) (pos 1000000000000) (int_max (pos 1) (int_div_euclid (most *ℤ pos 1000) (pos parts)))
@@ -38,19 +37,29 @@ length_within (pos m) parts h =
     (omega (arith, ints, clamps), omega (arith, ints, clamps))
 length_within (negsuc m) parts h = absurd (let low = h.0 in omega (arith, ints))
 
--- a length times uses
-pub spent_within : (l d : ℤ) → IsBetween (pos 1) (pos 1000000000000) l → IsBetween (negsuc 4294967294) (pos 18446744073709551615) d → IsBetween (negsuc 4294967295000000000000) (pos 18446744073709551615000000000000) (l *ℤ d)
-spent_within (pos n) (pos m) h k =
-    let a : n ≤ 1000000000000 = let u = h.1 in omega (arith, ints) in
-    let b : m ≤ 18446744073709551615 = let u = k.1 in omega (arith, ints) in
-    let p : n * m ≤ 18446744073709551615000000000000 = mul-le n m 1000000000000 18446744073709551615 a b in
-    (omega (arith, ints), omega (arith, ints))
-spent_within (pos n) (negsuc m) h k =
-    let a : n ≤ 1000000000000 = let u = h.1 in omega (arith, ints) in
-    let b : suc m ≤ 4294967295 = let u = k.0 in omega (arith, ints) in
-    let p : n * suc m ≤ 4294967295000000000000 = mul-le n (suc m) 1000000000000 4294967295 a b in
-    (omega (arith, ints), omega (arith, ints))
-spent_within (negsuc n) d h k = absurd (let low = h.0 in omega (arith, ints))
+-- a number that is saturated in 64 bits gives the price that the number gives
+pub saturated_price : (z : ℤ) → price_within (saturate_signed w64 z) ≡ price_within z
+saturated_price (pos n) = omega (arith, ints, clamps)
+saturated_price (negsuc n) = omega (arith, ints, clamps)
+
+capped_up : (price : ℤ) (way : ℕ) → negsuc 9223372036854775807 ≤ℤ price → price_within (price +ℤ pos (min way 18446744073709551615)) ≡ price_within (price +ℤ pos way)
+capped_up price way low = omega (arith, ints, clamps)
+
+capped_down : (price : ℤ) (way : ℕ) → price ≤ℤ pos 9223372036854775807 → price_within (price -ℤ pos (min way 18446744073709551615)) ≡ price_within (price -ℤ pos way)
+capped_down price way high = omega (arith, ints, clamps)
+
+-- a price that rises or falls by a way that is capped in 64 bits is the next price
+pub risen : (by price : ℤ) (used room : ℕ) → pos 1 ≤ℤ by → negsuc 9223372036854775807 ≤ℤ price → room ≤ used
+    → price_within (saturate_signed w64 (price +ℤ pos (min (unsigned_abs by * (used - room)) 18446744073709551615))) ≡ next_price by price used room
+risen (negsuc n) price used room one low more = absurd (omega (arith, ints))
+risen (pos n) price used room one low more =
+    saturated_price (price +ℤ pos (min (n * (used - room)) 18446744073709551615)) ∙ capped_up price (n * (used - room)) low ∙ ap (λ (z : ℤ). price_within (price +ℤ z)) (sym (rising n used room more))
+
+pub fallen : (by price : ℤ) (used room : ℕ) → pos 1 ≤ℤ by → price ≤ℤ pos 9223372036854775807 → used ≤ room
+    → price_within (saturate_signed w64 (price -ℤ pos (min (unsigned_abs by * (room - used)) 18446744073709551615))) ≡ next_price by price used room
+fallen (negsuc n) price used room one high few = absurd (omega (arith, ints))
+fallen (pos n) price used room one high few =
+    saturated_price (price -ℤ pos (min (n * (room - used)) 18446744073709551615)) ∙ capped_down price (n * (room - used)) high ∙ ap (λ (z : ℤ). price_within (price +ℤ z)) (sym (falling n used room few))
 
 -- one more entry of the map
 pub stepped_turn : {R V : Type 0} (next : R × V → ℤ) (out after whole : PriceList R) (e : R × V) (rest : List (R × V)) (price : ℤ) → out ++ stepped next (e ∷ rest) ≡ whole → price ≡ next e

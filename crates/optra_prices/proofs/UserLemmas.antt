@@ -2,7 +2,7 @@
 use Rattle.std.proofs.Common.{◌≡◌, ℕ, zero, suc, ◌+◌, ◌≤◌, ◌<◌, List, [], ◌∷◌, length, Some, slice_get, refl, sym, ap, ◌∙◌, subst, arith, inl, inr}
 use Rattle.std.proofs.lemmas.Bool.{cases_eq}
 use Rattle.std.proofs.lemmas.Option.{same_Some, slice_get_within}
-use Rattle.optra_prices.specs.Chains.{ChainHas, KeepsChains, AddsLink}
+use Rattle.optra_prices.specs.Chains.{ChainHas, AddsLink}
 use Rattle.optra_prices.specs.Tables.{group_at}
 use Rattle.optra_prices.specs.Users.{IsTouched, AddsUsers, FindsUsers}
 use Rattle.optra_prices.specs.declared.chains.Chains.{Chains}

@@ -1,5 +1,5 @@
 -- Tables of arcs that are brought from one node to another.
-use Rattle.std.specs.Prelude.{◌≡◌, ◌↔◌, ℕ, ◌+◌, ◌<◌, Bool, true, List, [], length, All, Some, slice_get}
+use Rattle.std.specs.Prelude.{◌≡◌, ◌↔◌, ℕ, ◌+◌, ◌<◌, Bool, true, false, List, [], length, All, Some, slice_get}
 use Rattle.optra_network.specs.Net.{Net}
 use Rattle.optra_network.specs.declared.TypeId.{TypeId}
 use Rattle.optra_bid.specs.declared.bids.Bid.{Bid}
@@ -12,7 +12,8 @@ use Rattle.optra_node.specs.Spans.{IsLetBy, IsStartOk}
 use Rattle.optra_prices.specs.Marks.{IsMark}
 use Rattle.optra_prices.specs.Rooms.{HasRoomForAll}
 use Rattle.optra_prices.specs.Tables.{AreGroups, group_at}
-use Rattle.optra_prices.specs.Standings.{IsArcTable}
+use Rattle.optra_prices.specs.Standings.{IsArcTable, IsBidTable}
+use Rattle.optra_prices.specs.Terms.{Setting}
 use Rattle.optra_prices.specs.declared.numbering.ArcTerm.{ArcTerm}
 use Rattle.optra_prices.specs.declared.numbering.BidTable.{BidTable}
 use Rattle.optra_prices.specs.declared.numbering.Groups.{Groups}
@@ -39,6 +40,10 @@ pub record IsTableAnew {R : Type 0} (net : Net) (rows : Rows R) (bids : List Bid
 -- the table is that of a bid
 abbrev pub IsTableFor : {R : Type 0} → Net → Rows R → (TypeId → Leg → List R) → List Bid → List R → Groups → ℕ → BidTable → Type 0
 IsTableFor net rows used bids numbered groups number table = (bid : Bid) × (slice_get bids number ≡ Some bid) × IsArcTable net rows used numbered groups bid table
+
+-- the table of each bid that isn't told is at the node
+abbrev pub AreAtUnlessTold : {R : Type 0} → Setting R → List R → Groups → List Bool → List BidTable → Type 0
+AreAtUnlessTold s numbered groups told tables = (number : ℕ) (bid : Bid) (table : BidTable) → slice_get told number ≡ Some false → slice_get s.bids number ≡ Some bid → slice_get tables number ≡ Some table → IsBidTable s number numbered groups bid table
 
 -- arcs are in groups of touches: that of a start is empty, and there is room for that of a leg exactly where the leg is not blocked
 pub record RoomTells {R : Type 0} (rows : Rows R) (bids : List Bid) (node : List Decision) (number : ℕ) (room : Room) (t : Timed) (groups : Groups) (arcs : List ArcTerm) : Type 0 where

@@ -7,12 +7,14 @@ use Rattle.optra_walk.specs.Families.{Rows}
 use Rattle.optra_node.specs.Duals.{PriceList, capacity_price}
 use Rattle.optra_prices.specs.Columns.{IsColumns, AreStill, PricesAllButDue}
 use Rattle.optra_prices.specs.Holders.{AreHolders}
-use Rattle.optra_prices.specs.Levels.{IsLevels, AreUnused, moved_by}
+use Rattle.optra_prices.specs.Levels.{IsLevels, moved_by}
 use Rattle.optra_prices.specs.Replies.{Valuation, IsValuation}
+use Rattle.optra_prices.specs.Rooms.{IsDecided}
 use Rattle.optra_prices.specs.Steps.{AreProper}
 use Rattle.optra_prices.specs.Tables.{IsNumbering, AreGroupPrices}
 use Rattle.optra_prices.specs.Terms.{Setting}
 use Rattle.optra_prices.specs.Standings.{AreTables, AllStand, valuation_of}
+use Rattle.optra_prices.specs.Uses.{AreCounted, paths_in}
 use Rattle.optra_prices.specs.declared.Priced.{Priced}
 use Rattle.optra_prices.specs.declared.arc_tables.ArcTables.{ArcTables}
 
@@ -53,7 +55,7 @@ zero_candidate c = record { prices = []; dual = zero_valuation c }
 abbrev pub HaveCapacities : {R : Type 0} → Rows R → List R → List ℕ → Type 0
 HaveCapacities {R} rows numbered capacities = (n : ℕ) (row : R) → slice_get numbered n ≡ Some row → slice_get capacities n ≡ Some (rows.capacity row)
 
--- rows by number with prices, groups with prices, a table of each bid at the node, what is known of it at the prices of the groups and at zero prices, and which bids have a group
+-- rows by number with prices, groups with prices, a table of each bid at the node, what is known of it at the prices of the groups and at zero prices, which bids have a group, and what the paths use of rows that were counted
 pub record AreSetUp {R : Type 0} (cmp : R → R → Ordering) (s : Setting R) (c : ArcTables R) : Type 0 where
   pub numbering : IsNumbering cmp c.numbering.numbers c.numbering.rows.items
   pub rows : All (λ row. s.rows.is_row row ≡ true) c.numbering.rows.items
@@ -61,12 +63,13 @@ pub record AreSetUp {R : Type 0} (cmp : R → R → Ordering) (s : Setting R) (c
   pub capacities : HaveCapacities s.rows c.numbering.rows.items c.levels.capacities.items
   pub price_count : length c.levels.prices.items ≡ length c.numbering.rows.items
   pub levels : IsLevels c.levels
-  pub unused : AreUnused c.levels
+  pub counted : AreCounted c.columns.groups c.tables.items (paths_in c.counted.items) c.levels.uses.items
   pub columns : IsColumns c.columns.groups c.columns
   pub tables : AreTables s (length s.bids) c.numbering.rows.items c.columns.groups c.tables.items
   pub stand : AllStand c.tables.items c.columns.grouped.items c.standings.items
   pub zero : AllStand c.tables.items [] c.zero.items
   pub holders : AreHolders c.tables.items c.holders
+  pub decided : IsDecided s.net s.rows s.bids c.numbering.rows.items s.node c.decided
 
 -- the groups have the prices of the rows that they touch, and no mark
 pub record IsCourse {R : Type 0} (cmp : R → R → Ordering) (s : Setting R) (c : ArcTables R) : Type 0 where

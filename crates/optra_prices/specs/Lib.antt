@@ -25,3 +25,4 @@ pub mod Following
 pub mod Uses
 pub mod Listings
 pub mod Parts
+pub mod Tellings

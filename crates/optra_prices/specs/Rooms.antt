@@ -2,8 +2,13 @@
 use Rattle.std.specs.Prelude.{◌≡◌, ◌↔◌, ℕ, ◌+◌, ◌≤◌, ◌<◌, true, cond, nat_eq, List, length, All, Some, slice_get, slice_index, slice_index_or}
 use Rattle.std.specs.declared.cmp.Ordering.{Ordering}
 use Rattle.std.specs.Ordering.{eq_by_cmp}
+use Rattle.optra_network.specs.Net.{Net}
+use Rattle.optra_bid.specs.declared.bids.Bid.{Bid}
 use Rattle.optra_walk.specs.Families.{Rows}
+use Rattle.optra_node.specs.declared.Decision.{Decision}
+use Rattle.optra_node.specs.Nodes.{IsFormedDecision, yes_load}
 use Rattle.optra_prices.specs.Tables.{group_at}
+use Rattle.optra_prices.specs.declared.decided.Decided.{Decided}
 use Rattle.optra_prices.specs.declared.numbering.Groups.{Groups}
 use Rattle.optra_prices.specs.declared.numbering.Touch.{Touch}
 use Rattle.optra_prices.specs.declared.rooms.Room.{Room}
@@ -13,6 +18,12 @@ use Rattle.optra_prices.specs.declared.rooms.Told.{Told}
 pub record IsRoom {R : Type 0} (rows : Rows R) (numbered : List R) (total : R → ℕ) (room : Room) : Type 0 where
   pub uses_are : (n : ℕ) (row : R) → slice_get numbered n ≡ Some row → slice_get room.uses.items n ≡ Some (total row)
   pub capacities_are : (n : ℕ) (row : R) → slice_get numbered n ≡ Some row → slice_get room.capacities.items n ≡ Some (rows.capacity row)
+
+-- the decisions are those of the node, and so much of each row that has a number is used by its yes legs
+pub record IsDecided {R : Type 0} (net : Net) (rows : Rows R) (bids : List Bid) (numbered : List R) (node : List Decision) (decided : Decided) : Type 0 where
+  pub decisions_are : decided.decisions.items ≡ node
+  pub formed : All (IsFormedDecision net (length bids)) node
+  pub room_is : IsRoom rows numbered (yes_load rows bids node) decided.room
 
 -- there is room for the touch
 abbrev pub HasRoomFor : Room → Touch → Type 0

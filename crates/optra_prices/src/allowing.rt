@@ -11,20 +11,19 @@ ghost use Rattle.optra_prices.specs.Terms.{setting};
 ghost use Rattle.optra_prices.specs.Keepings.{IsBrought, AreBrought};
 ghost use Rattle.optra_prices.specs.Rooms.{IsRoom};
 ghost use Rattle.optra_prices.specs.Standings.{AreTables, HoldArcs};
-ghost use Rattle.optra_prices.specs.Allowing.{AreToldAnew, IsTableAnew, IsLetMark, RoomTells, IsTableFor};
+ghost use Rattle.optra_prices.specs.Allowing.{AreAtUnlessTold, AreToldAnew, IsTableAnew, IsLetMark, RoomTells, IsTableFor};
 
 use crate::grouping::either;
 use crate::marking::has_yes;
 use crate::numbering::{ArcTerm, BidTable, Groups, Numbering};
-use crate::rooms::{Room, Told, add_leg, empty_room, take_leg, tell_group};
+use crate::rooms::{Room, Told, add_leg, take_leg, tell_group};
 use optra_graph::TimeGraph;
 use optra_network::{Network, NoMemory, TrackId, TypeId};
 use optra_node::{Decision, Node, Summary};
 use optra_walk::{Instance, RowFamily};
-use std::alloc::Global;
 
 /// The train type of a bid.
-fn kind_at(inst: Instance<'_>, bid: u32) -> TypeId
+pub(crate) fn kind_at(inst: Instance<'_>, bid: u32) -> TypeId
     requires { bid < length inst.bids.now }
     ensures { result ≡ kind_at inst.entry.bids.now bid }
 {
@@ -33,7 +32,7 @@ fn kind_at(inst: Instance<'_>, bid: u32) -> TypeId
 }
 
 /// Whether the type may use the track.
-fn may_use(net: &Network, track: TrackId, kind: TypeId) -> bool
+pub(crate) fn may_use(net: &Network, track: TrackId, kind: TypeId) -> bool
     ensures { IsTrue result ↔ MayUse net.now track kind }
 {
     net.run(track, kind, true, true).is_some()
@@ -84,7 +83,7 @@ fn take_decision<F: RowFamily>(
 }
 
 /// Adds what the yes legs use.
-fn add_decisions<F: RowFamily>(
+pub(crate) fn add_decisions<F: RowFamily>(
     room: &mut Room,
     inst: Instance<'_>,
     rows: &F,
@@ -102,7 +101,7 @@ fn add_decisions<F: RowFamily>(
 }
 
 /// Takes away what the yes legs use.
-fn take_decisions<F: RowFamily>(
+pub(crate) fn take_decisions<F: RowFamily>(
     room: &mut Room,
     inst: Instance<'_>,
     rows: &F,
@@ -217,80 +216,86 @@ fn allow_table<F: RowFamily>(
     either(arcs, forced)
 }
 
+/// Rows by number, and the groups that touch them.
+#[derive(Drop)]
+pub(crate) struct Grouping<'a, R: Copy + Ord> {
+    pub(crate) numbering: &'a Numbering<R>,
+    pub(crate) groups: &'a Groups,
+}
+
 /// Brings the table of a bid to the node, while the bid's own yes legs are out of the room.
 fn allow_bid<F: RowFamily>(
     inst: Instance<'_>,
     rows: &F,
-    node: &Node,
     summary: &Summary<'_, F>,
-    numbering: &Numbering<F::Row>,
-    groups: &Groups,
+    grouping: &Grouping<'_, F::Row>,
     room: &mut Room,
     number: u32,
     table: &mut BidTable<'_>,
 ) -> Result<bool, NoMemory>
     requires bid { number < length inst.bids.now }
-    requires node { IsNode inst.net.now (length inst.bids.now) node.now }
-    requires summary { summary.now ≡ summed rows.now inst.net.now inst.bids.now node.now }
-    requires numbering { IsNumbering F.Row.cmp numbering.now.numbers numbering.now.rows.items }
-    requires room { IsRoom (F.rows_of rows.now inst.net.now) numbering.now.rows.items (yes_load (F.rows_of rows.now inst.net.now) inst.bids.now node.now) room.old }
-    requires table { IsTableFor inst.net.now (F.rows_of rows.now inst.net.now) (F.rows_used rows.now inst.net.now) inst.bids.now numbering.now.rows.items groups.now number table.old }
-    ensures room { OnOk result (IsRoom (F.rows_of rows.now inst.entry.net.now) numbering.now.rows.items (yes_load (F.rows_of rows.now inst.entry.net.now) inst.entry.bids.now node.now) room.new) }
-    ensures anew { OnOk result (IsTableAnew inst.entry.net.now (F.rows_of rows.now inst.entry.net.now) inst.entry.bids.now node.now number table.old table.new) }
+    requires node { IsNode inst.net.now (length inst.bids.now) summary.now.node }
+    requires summary { summary.now ≡ summed rows.now inst.net.now inst.bids.now summary.now.node }
+    requires numbering { IsNumbering F.Row.cmp grouping.now.numbering.now.numbers grouping.now.numbering.now.rows.items }
+    requires room { IsRoom (F.rows_of rows.now inst.net.now) grouping.now.numbering.now.rows.items (yes_load (F.rows_of rows.now inst.net.now) inst.bids.now summary.now.node) room.old }
+    requires table { IsTableFor inst.net.now (F.rows_of rows.now inst.net.now) (F.rows_used rows.now inst.net.now) inst.bids.now grouping.now.numbering.now.rows.items grouping.now.groups.now number table.old }
+    ensures room { OnOk result (IsRoom (F.rows_of rows.now inst.entry.net.now) grouping.now.numbering.now.rows.items (yes_load (F.rows_of rows.now inst.entry.net.now) inst.entry.bids.now summary.now.node) room.new) }
+    ensures anew { OnOk result (IsTableAnew inst.entry.net.now (F.rows_of rows.now inst.entry.net.now) inst.entry.bids.now summary.now.node number table.old table.new) }
     ensures brought { IfOk result (λ changed. IsBrought changed table.old table.new) }
 {
     let _ = inst.net.track_count();
     let own = summary.own(number);
-    take_decisions(room, inst, rows, numbering, own);
-    let changed = allow_table(summary, number, room, groups, table);
-    add_decisions(room, inst, rows, numbering, own)?;
+    take_decisions(room, inst, rows, grouping.numbering, own);
+    let changed = allow_table(summary, number, room, grouping.groups, table);
+    add_decisions(room, inst, rows, grouping.numbering, own)?;
     Ok(changed)
 }
 
 /// The decisions of a node.
-fn decisions_of(node: &Node) -> &[Decision]
+pub(crate) fn decisions_of(node: &Node) -> &[Decision]
     ensures { result.now ≡ node.now }
 {
     &node.decisions
 }
 
-/// Brings the tables of all bids to a node, and tells for each of them whether an arc may now be taken that could not be
-/// before, or the other way round, or whether the bid has a yes leg has changed.
-pub(crate) fn allow_all<F: RowFamily>(
-    alloc: Global,
+/// Brings the tables of the bids that are told to a node; those of the others are at it. Afterwards those are told of which
+/// an arc may now be taken that could not be before, or the other way round, or which had no yes leg and have one, or the
+/// other way round.
+pub(crate) fn allow_told<F: RowFamily>(
     inst: Instance<'_>,
     rows: &F,
-    node: &Node,
-    numbering: &Numbering<F::Row>,
-    groups: &Groups,
+    summary: &Summary<'_, F>,
+    grouping: &Grouping<'_, F::Row>,
+    room: &mut Room,
+    told: &mut Vec<bool>,
     tables: &mut Vec<BidTable<'_>>,
-) -> Result<Vec<bool>, NoMemory>
+) -> Result<(), NoMemory>
     requires few { length inst.bids.now ≤ 1000 }
-    requires node { IsNode inst.net.now (length inst.bids.now) node.now }
-    requires numbering { IsNumbering F.Row.cmp numbering.now.numbers numbering.now.rows.items }
-    requires rows { All (λ row. (F.rows_of rows.now inst.net.now).is_row row ≡ true) numbering.now.rows.items }
-    requires tables { HoldArcs inst.net.now (F.rows_of rows.now inst.net.now) (F.rows_used rows.now inst.net.now) inst.bids.now (length inst.bids.now) numbering.now.rows.items groups.now tables.old.items }
-    ensures tables { OnOk result (AreTables (setting inst.entry.net.now (F.rows_of rows.now inst.entry.net.now) (F.rows_used rows.now inst.entry.net.now) inst.entry.bids.now node.now) (length inst.entry.bids.now) numbering.now.rows.items groups.now tables.new.items) }
-    ensures brought { IfOk result (λ changed. AreBrought changed.items tables.old.items tables.new.items) }
+    requires node { IsNode inst.net.now (length inst.bids.now) summary.now.node }
+    requires summary { summary.now ≡ summed rows.now inst.net.now inst.bids.now summary.now.node }
+    requires numbering { IsNumbering F.Row.cmp grouping.now.numbering.now.numbers grouping.now.numbering.now.rows.items }
+    requires room { IsRoom (F.rows_of rows.now inst.net.now) grouping.now.numbering.now.rows.items (yes_load (F.rows_of rows.now inst.net.now) inst.bids.now summary.now.node) room.old }
+    requires tables { HoldArcs inst.net.now (F.rows_of rows.now inst.net.now) (F.rows_used rows.now inst.net.now) inst.bids.now (length inst.bids.now) grouping.now.numbering.now.rows.items grouping.now.groups.now tables.old.items }
+    requires told { length told.old.items ≡ length tables.old.items }
+    requires others { AreAtUnlessTold (setting inst.net.now (F.rows_of rows.now inst.net.now) (F.rows_used rows.now inst.net.now) inst.bids.now summary.now.node) grouping.now.numbering.now.rows.items grouping.now.groups.now told.old.items tables.old.items }
+    ensures room { OnOk result (IsRoom (F.rows_of rows.now inst.entry.net.now) grouping.now.numbering.now.rows.items (yes_load (F.rows_of rows.now inst.entry.net.now) inst.entry.bids.now summary.now.node) room.new) }
+    ensures tables { OnOk result (AreTables (setting inst.entry.net.now (F.rows_of rows.now inst.entry.net.now) (F.rows_used rows.now inst.entry.net.now) inst.entry.bids.now summary.now.node) (length inst.entry.bids.now) grouping.now.numbering.now.rows.items grouping.now.groups.now tables.new.items) }
+    ensures brought { OnOk result (AreBrought told.new.items tables.old.items tables.new.items) }
 {
-    let summary = Summary::new(alloc, inst, rows, node)?;
-    let mut room = empty_room(alloc, inst.net, rows, numbering)?;
-    add_decisions(&mut room, inst, rows, numbering, decisions_of(node))?;
     let bids = inst.bids;
-    let mut changed = Vec::with_capacity(alloc, bids.len())?;
     for number in 0..bids.len() {
-        let one = allow_bid(
+        if !told[number] {
+            continue;
+        }
+        told[number] = allow_bid(
             inst,
             rows,
-            node,
-            &summary,
-            numbering,
-            groups,
-            &mut room,
+            summary,
+            grouping,
+            room,
             number as u32,
             &mut tables[number],
         )?;
-        changed.push(one)?;
     }
-    Ok(changed)
+    Ok(())
 }

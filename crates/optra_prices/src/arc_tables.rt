@@ -2,6 +2,7 @@
 //! what is known of each bid.
 use crate::chains::Chains;
 use crate::columns::Columns;
+use crate::decided::Decided;
 use crate::levels::Levels;
 use crate::numbering::{BidTable, Numbering, Standing};
 use optra_dag::Buffers;
@@ -19,18 +20,19 @@ pub struct ArcTables<'g, R: Copy + Ord> {
     /// The prices of groups of touches.
     pub(crate) columns: Columns,
     pub(crate) tables: Vec<BidTable<'g>>,
+    /// The decisions of the node at which the tables are, and the room beside its yes legs.
+    pub(crate) decided: Decided,
     /// The bids that have each group on an arc.
     pub(crate) holders: Chains,
     /// What is known of each bid at zero prices.
     pub(crate) zero: Vec<Standing>,
     /// What is known of each bid at the prices.
     pub(crate) standings: Vec<Standing>,
+    /// The path of each bid whose uses of rows are counted.
+    pub(crate) counted: Vec<Vec<u32>>,
     /// The dual value at the prices.
     pub(crate) value: i128,
     pub(crate) buffers: Buffers,
-    /// Rows with the prices that they are to have; lent to what moves prices.
-    pub(crate) moves: Vec<(u32, i64)>,
-    pub(crate) spare: Vec<u32>,
-    /// Which bids have a group whose price fell; lent to each step.
+    /// Which bids have a group whose price fell, or may be changed by a node; lent to each step and to each node.
     pub(crate) fallen: Vec<bool>,
 }

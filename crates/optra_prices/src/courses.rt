@@ -10,11 +10,12 @@ ghost use Rattle.optra_prices.specs.Terms.{setting};
 use crate::Priced;
 use crate::arc_tables::ArcTables;
 use crate::columns::{reprice, still};
+use crate::decided::room_beside;
 use crate::group_prices::GroupPrices;
 use crate::holders::tell_fallen;
-use crate::levels::{next_prices, rest, set_prices, zero_prices};
+use crate::levels::{move_prices, set_prices, zero_prices};
 use crate::listing::{in_order, list_prices, number_more, widen};
-use crate::loading::add_uses;
+use crate::loading::{count_uses, forget_paths};
 use crate::sessions::settle;
 use crate::stepping::step_length;
 use crate::valuing::{assemble, dual_value, entries, put_prices};
@@ -45,7 +46,9 @@ pub(crate) fn admit<F: RowFamily>(
         return Ok(());
     }
     kept.order = in_order(alloc, &kept.numbering.numbers)?;
+    forget_paths(&mut kept.levels, &mut kept.counted);
     widen(&mut kept.levels, inst.net, rows, &kept.numbering.rows)?;
+    kept.decided.room = room_beside(alloc, inst, rows, &kept.numbering, &kept.decided.decisions)?;
     Ok(())
 }
 
@@ -100,8 +103,8 @@ fn leave<F: RowFamily>(
     let _ = inst.net;
     let _ = rows;
     let _ = node;
-    zero_prices(&mut kept.moves, &kept.levels)?;
-    set_prices(&mut kept.levels, &mut kept.columns, &kept.moves)
+    zero_prices(&mut kept.levels, &mut kept.columns)?;
+    Ok(())
 }
 
 /// Goes to listed prices, whose rows have numbers.
@@ -147,16 +150,16 @@ fn step_prices<F: RowFamily>(
     let _ = inst.net.track_count();
     let _ = node;
     let _count = kept.numbering.numbers.len();
-    add_uses(
+    count_uses(
         &mut kept.levels,
         &kept.columns.groups,
         &kept.tables,
+        &mut kept.counted,
         &kept.standings,
     )?;
     let by = step_length(inst.bids, k);
-    next_prices(&mut kept.moves, &kept.levels, by)?;
-    set_prices(&mut kept.levels, &mut kept.columns, &kept.moves)?;
-    rest(&mut kept.levels, &mut kept.spare)
+    move_prices(&mut kept.levels, &mut kept.columns, by)?;
+    Ok(())
 }
 
 /// Makes step `k`, from 0, by the replies.

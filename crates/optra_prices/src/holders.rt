@@ -60,7 +60,7 @@ pub(crate) fn find_holders(alloc: Global, tables: &[BidTable<'_>]) -> Result<Cha
 }
 
 /// Tells a bid.
-fn tell_bid(fallen: &mut Vec<bool>, bid: u32)
+pub(crate) fn tell_bid(fallen: &mut Vec<bool>, bid: u32)
     ensures { fallen.new.items ≡ slice_set fallen.old.items bid true }
 {
     let place = bid as usize;
@@ -70,7 +70,7 @@ fn tell_bid(fallen: &mut Vec<bool>, bid: u32)
 }
 
 /// Tells the bids that have the group.
-fn tell_holders(holders: &Chains, g: u32, fallen: &mut Vec<bool>)
+pub(crate) fn tell_holders(holders: &Chains, g: u32, fallen: &mut Vec<bool>)
     requires { AreChains holders.now }
     ensures { TellsHolders holders.now g fallen.old.items fallen.new.items }
 {
@@ -93,7 +93,7 @@ fn tell_group(marks: &[Mark], holders: &Chains, g: u32, fallen: &mut Vec<bool>)
 }
 
 /// Tells none of so many bids.
-fn tell_none(fallen: &mut Vec<bool>, count: usize) -> Result<(), NoMemory>
+pub(crate) fn tell_none(fallen: &mut Vec<bool>, count: usize) -> Result<(), NoMemory>
     ensures { OnOk result (fallen.new.items ≡ replicate count false) }
 {
     fallen.clear();

@@ -8,24 +8,28 @@ ghost use Rattle.optra_prices.specs.Steps.{AreProper};
 ghost use Rattle.optra_prices.specs.Paths.{IsPathResult};
 ghost use Rattle.optra_prices.specs.Keepings.{AreKept, AreKeptAt, IsFirstStuckIn};
 
-use crate::allowing::allow_all;
+use crate::allowing::{Grouping, allow_told, decisions_of};
 use crate::arc_tables::ArcTables;
 use crate::columns::new_columns;
 use crate::courses::{admit, go_to, priced_at};
+use crate::decided::{Decided, move_room, shared_count};
 use crate::following::go_along;
 use crate::group_prices::GroupPrices;
 use crate::holders::find_holders;
 use crate::levels::no_levels;
 use crate::listing::{in_order, widen};
+use crate::loading::no_paths;
 use crate::making::{Making, new_making};
 use crate::numbering::Standing;
+use crate::rooms::empty_room;
 use crate::sessions::{copy_standings, first_standings, make_tables, renew_all};
+use crate::telling::tell_moved;
 use crate::valuing::entries;
 use crate::{Dead, Dual, Priced};
 use optra_dag::Buffers;
 use optra_graph::Graphs;
 use optra_network::{Cents, NoMemory};
-use optra_node::{Node, Prices, prices_by_used_rows, tests_tell_allowed};
+use optra_node::{Node, Prices, Summary, prices_by_used_rows, tests_tell_allowed};
 use optra_walk::{Instance, RowFamily};
 use std::alloc::Global;
 
@@ -51,7 +55,23 @@ pub fn keep_arcs<'g, F: RowFamily, G: Graphs>(
         groups,
         ..
     } = making;
-    let _changed = allow_all(alloc, inst, rows, &node, &numbering, &groups, &mut tables)?;
+    let decisions = Vec::new(alloc);
+    let mut room = empty_room(alloc, inst.net, rows, &numbering)?;
+    let mut told = vec![in alloc; true; inst.bids.len()]?;
+    let summary = Summary::new(alloc, inst, rows, &node)?;
+    let grouping = Grouping {
+        numbering: &numbering,
+        groups: &groups,
+    };
+    allow_told(
+        inst,
+        rows,
+        &summary,
+        &grouping,
+        &mut room,
+        &mut told,
+        &mut tables,
+    )?;
     let order = in_order(alloc, &numbering.numbers)?;
     let mut levels = no_levels(alloc);
     widen(&mut levels, inst.net, rows, &numbering.rows)?;
@@ -64,6 +84,7 @@ pub fn keep_arcs<'g, F: RowFamily, G: Graphs>(
     };
     let zero = first_standings(alloc, &mut buffers, &tables, free)?;
     let standings = copy_standings(alloc, &zero)?;
+    let counted = no_paths(alloc, tables.len())?;
     Ok(ArcTables {
         numbering,
         order,
@@ -73,11 +94,11 @@ pub fn keep_arcs<'g, F: RowFamily, G: Graphs>(
         holders,
         zero,
         standings,
+        counted,
+        decided: Decided { decisions, room },
         value: 0,
         buffers,
-        moves: Vec::new(alloc),
-        spare: Vec::new(alloc),
-        fallen: Vec::new(alloc),
+        fallen: told,
     })
 }
 
@@ -96,13 +117,22 @@ pub fn bring_to<F: RowFamily>(
     requires kept { AreKept F.Row.cmp inst.net.now (F.rows_of rows.now inst.net.now) (F.rows_used rows.now inst.net.now) inst.bids.now kept.old }
     ensures { OnOk result (AreKeptAt F.Row.cmp inst.entry.net.now (F.rows_of rows.now inst.entry.net.now) (F.rows_used rows.now inst.entry.net.now) inst.entry.bids.now node.now kept.new) }
 {
-    let changed = allow_all(
-        alloc,
+    let _ = inst.net.track_count();
+    let count = shared_count(&kept.decided.decisions, decisions_of(node));
+    tell_moved(inst, rows, node, kept, count)?;
+    move_room(&mut kept.decided, inst, rows, &kept.numbering, node, count)?;
+    let summary = Summary::new(alloc, inst, rows, node)?;
+    let grouping = Grouping {
+        numbering: &kept.numbering,
+        groups: &kept.columns.groups,
+    };
+    allow_told(
         inst,
         rows,
-        node,
-        &kept.numbering,
-        &kept.columns.groups,
+        &summary,
+        &grouping,
+        &mut kept.decided.room,
+        &mut kept.fallen,
         &mut kept.tables,
     )?;
     renew_all(
@@ -112,7 +142,7 @@ pub fn bring_to<F: RowFamily>(
             prices: &[],
             most: 0,
         },
-        &changed,
+        &kept.fallen,
         &mut kept.zero,
     )?;
     renew_all(
@@ -122,7 +152,7 @@ pub fn bring_to<F: RowFamily>(
             prices: &kept.columns.grouped,
             most: kept.columns.highest,
         },
-        &changed,
+        &kept.fallen,
         &mut kept.standings,
     )
 }

@@ -1,12 +1,13 @@
 //! The prices of rows by number, of which few are above zero.
 //!
-//! Rows with a price or a use are active. A step moves these alone, and the price of all capacity is kept by difference.
-ghost use Rattle.std.specs.Prelude.{◌≡◌, ◌⊎◌, ◌<◌, ◌≤◌, ℕ, [], ◌∷◌, ◌++◌, pos, ◌+ℤ◌, ◌-ℤ◌, ◌*ℤ◌, All, Contains, OnOk, length, slice_set};
+//! Rows with a price, or with more uses than capacity, are active. A step moves these alone: the price of any other row is
+//! 0 and stays 0. The price of all capacity is kept by difference.
+ghost use Rattle.std.specs.Prelude.{◌≡◌, ◌<◌, ◌≤◌, true, [], ◌∷◌, ◌++◌, pos, ◌+ℤ◌, ◌-ℤ◌, ◌*ℤ◌, All, IfOk, OnOk, length, slice_set};
 ghost use Rattle.optra_bid.specs.Specs.{IsBetween};
 ghost use Rattle.optra_prices.specs.Columns.{IsColumns, PricesAllButDue};
-ghost use Rattle.optra_prices.specs.Levels.{IsLevels, IsMove, AreUnused, KeepsPrices, KeepsUses, Wakes, MovesTo, HoldsPrices, moved_by, next_at};
+ghost use Rattle.optra_prices.specs.Levels.{IsLevels, IsMove, AreUnused, KeepsPrices, KeepsUses, Wakes, WakesAbove, Rests, MovesRow, MovesTo, HoldsPrices, moved_by, is_listed, next_at};
 ghost use Rattle.optra_prices.specs.Tables.{IsRowPrice};
-ghost use Rattle.optra_prices.specs.Uses.{AddsUses, touch_use};
+ghost use Rattle.optra_prices.specs.Uses.{AddsUses, TakesUses, touch_use};
 
 use crate::columns::{Columns, mark_row};
 use crate::numbering::Touch;
@@ -19,10 +20,12 @@ use std::alloc::{AllocError, Global};
 pub(crate) struct Levels {
     pub(crate) capacities: Vec<u32>,
     pub(crate) prices: Vec<i64>,
-    /// How much the replies use of rows while a step is made, else nothing.
+    /// How much of rows the paths use that were counted last.
     pub(crate) uses: Vec<u64>,
-    /// The rows with a price or a use, and maybe others.
+    /// The rows with a price or with more uses than capacity, and maybe others; none twice.
     pub(crate) active: Vec<u32>,
+    /// Whether a row is active.
+    pub(crate) listed: Vec<bool>,
     /// The price of all capacity.
     pub(crate) capacity: i128,
 }
@@ -59,6 +62,7 @@ pub(crate) fn no_levels(alloc: Global) -> Levels
         prices: Vec::new(alloc),
         uses: Vec::new(alloc),
         active: Vec::new(alloc),
+        listed: Vec::new(alloc),
         capacity: 0,
     }
 }
@@ -76,18 +80,35 @@ pub(crate) fn push_level(levels: &mut Levels, capacity: u32) -> Result<(), NoMem
     levels.capacities.push(capacity)?;
     levels.prices.push(0)?;
     levels.uses.push(0)?;
+    levels.listed.push(false)?;
     Ok(())
 }
 
-/// Makes a row active that has neither a price nor a use, before it gets one.
+/// Makes a row active, before it gets a price or more uses than capacity.
 fn wake(levels: &mut Levels, number: u32) -> Result<(), NoMemory>
+    requires levels { IsLevels levels.old }
     requires within { number < length levels.old.prices.items }
-    requires uses { length levels.old.uses.items ≡ length levels.old.prices.items }
-    ensures { OnOk result (Wakes number levels.old levels.new) }
+    ensures levels { OnOk result (IsLevels levels.new) }
+    ensures wakes { OnOk result (Wakes number levels.old levels.new) }
 {
     let place = number as usize;
-    if levels.prices[place] == 0 && levels.uses[place] == 0 {
-        levels.active.push(number)?;
+    if levels.listed[place] {
+        return Ok(());
+    }
+    levels.active.push(number)?;
+    levels.listed[place] = true;
+    Ok(())
+}
+
+/// Makes a row active that is to have more uses than capacity.
+fn wake_above(levels: &mut Levels, number: u32, uses: u64) -> Result<(), NoMemory>
+    requires levels { IsLevels levels.old }
+    requires within { number < length levels.old.prices.items }
+    ensures levels { OnOk result (IsLevels levels.new) }
+    ensures wakes { OnOk result (WakesAbove number uses levels.old levels.new) }
+{
+    if uses > u64::from(levels.capacities[number as usize]) {
+        wake(levels, number)?;
     }
     Ok(())
 }
@@ -110,6 +131,8 @@ pub(crate) fn set_price(
     ensures prices { OnOk result (levels.new.prices.items ≡ slice_set levels.old.prices.items number price) }
     ensures grouped { OnOk result (columns.new.grouped ≡ columns.old.grouped) }
     ensures rest { OnOk result (KeepsUses levels.old levels.new) }
+    ensures active { OnOk result
+        (is_listed levels.old number ≡ true → levels.new.active ≡ levels.old.active) }
 {
     let place = number as usize;
     let old = levels.prices[place];
@@ -123,23 +146,45 @@ pub(crate) fn set_price(
     Ok(())
 }
 
-/// The prices that rows are to have, of those that are active: their next prices by a step of this length.
-pub(crate) fn next_prices(
-    moves: &mut Vec<(u32, i64)>,
-    levels: &Levels,
-    by: i64,
-) -> Result<(), NoMemory>
-    requires levels { IsLevels levels.now }
-    requires by { IsBetween (pos 1) (pos 1000000000000) by }
-    ensures { OnOk result (MovesTo (next_at by levels.now) levels.now moves.new.items) }
+/// Lets the active row at this place go where it has no price and no more uses than capacity; the last active row then
+/// stands in its place. Tells the place at which to go on.
+fn rest_row(levels: &mut Levels, k: usize) -> usize
+    requires levels { IsLevels levels.old }
+    requires within { k < length levels.old.active.items }
+    ensures levels { IsLevels levels.new }
+    ensures rests { Rests k result levels.old levels.new }
 {
-    moves.clear();
-    for k in 0..levels.active.len() {
-        let number = levels.active[k];
-        let price = next_price_at(levels, number, by);
-        moves.push((number, price))?;
+    let place = levels.active[k] as usize;
+    if levels.prices[place] != 0 || levels.uses[place] > u64::from(levels.capacities[place]) {
+        return k + 1;
     }
-    Ok(())
+    levels.listed[place] = false;
+    levels.active.swap_remove(k);
+    k
+}
+
+/// Sets the price of the active row at this place, and lets the row go where it is to be active no more. Tells the place
+/// at which to go on.
+fn move_row(
+    levels: &mut Levels,
+    columns: &mut Columns,
+    k: usize,
+    price: i64,
+) -> Result<usize, NoMemory>
+    requires levels { IsLevels levels.old }
+    requires columns { IsColumns columns.old.groups columns.old }
+    requires within { k < length levels.old.active.items }
+    requires price { IsRowPrice price }
+    requires due { PricesAllButDue levels.old.prices.items columns.old }
+    ensures levels { OnOk result (IsLevels levels.new) }
+    ensures columns { OnOk result (IsColumns columns.old.groups columns.new) }
+    ensures due { OnOk result (PricesAllButDue levels.new.prices.items columns.new) }
+    ensures grouped { OnOk result (columns.new.grouped ≡ columns.old.grouped) }
+    ensures moves { IfOk result (λ next. MovesRow k price next levels.old levels.new) }
+{
+    let number = levels.active[k];
+    set_price(levels, columns, number, price)?;
+    Ok(rest_row(levels, k))
 }
 
 /// The next price of a row by a step of this length.
@@ -159,14 +204,46 @@ fn next_price_at(levels: &Levels, number: u32, by: i64) -> i64
     )
 }
 
-/// Zero prices, for all rows that are active.
-pub(crate) fn zero_prices(moves: &mut Vec<(u32, i64)>, levels: &Levels) -> Result<(), NoMemory>
-    requires { IsLevels levels.now }
-    ensures { OnOk result (MovesTo (λ number. pos 0) levels.now moves.new.items) }
+/// Gives each active row its next price by a step of this length; the price of each other row stays at 0.
+pub(crate) fn move_prices(
+    levels: &mut Levels,
+    columns: &mut Columns,
+    by: i64,
+) -> Result<(), NoMemory>
+    requires levels { IsLevels levels.old }
+    requires columns { IsColumns columns.old.groups columns.old }
+    requires by { IsBetween (pos 1) (pos 1000000000000) by }
+    requires due { PricesAllButDue levels.old.prices.items columns.old }
+    ensures levels { OnOk result (IsLevels levels.new) }
+    ensures columns { OnOk result (IsColumns columns.old.groups columns.new) }
+    ensures due { OnOk result (PricesAllButDue levels.new.prices.items columns.new) }
+    ensures prices { OnOk result (MovesTo (next_at by levels.old) levels.old levels.new) }
+    ensures grouped { OnOk result (columns.new.grouped ≡ columns.old.grouped) }
+    ensures rest { OnOk result (KeepsUses levels.old levels.new) }
 {
-    moves.clear();
-    for k in 0..levels.active.len() {
-        moves.push((levels.active[k], 0))?;
+    let mut k = 0;
+    'rows: while k < levels.active.len() {
+        let price = next_price_at(levels, levels.active[k], by);
+        k = move_row(levels, columns, k, price)?;
+    }
+    Ok(())
+}
+
+/// Gives each row price 0.
+pub(crate) fn zero_prices(levels: &mut Levels, columns: &mut Columns) -> Result<(), NoMemory>
+    requires levels { IsLevels levels.old }
+    requires columns { IsColumns columns.old.groups columns.old }
+    requires due { PricesAllButDue levels.old.prices.items columns.old }
+    ensures levels { OnOk result (IsLevels levels.new) }
+    ensures columns { OnOk result (IsColumns columns.old.groups columns.new) }
+    ensures due { OnOk result (PricesAllButDue levels.new.prices.items columns.new) }
+    ensures prices { OnOk result (MovesTo (λ number. pos 0) levels.old levels.new) }
+    ensures grouped { OnOk result (columns.new.grouped ≡ columns.old.grouped) }
+    ensures rest { OnOk result (KeepsUses levels.old levels.new) }
+{
+    let mut k = 0;
+    'rows: while k < levels.active.len() {
+        k = move_row(levels, columns, k, 0)?;
     }
     Ok(())
 }
@@ -218,39 +295,35 @@ pub(crate) fn add_touch(levels: &mut Levels, touch: Touch) -> Result<(), NoMemor
     if place >= levels.uses.len() {
         return Ok(());
     }
-    wake(levels, touch.row)?;
     let Some(more) = levels.uses[place].checked_add(u64::from(touch.uses)) else {
         return Err(AllocError);
     };
+    wake_above(levels, touch.row, more)?;
     levels.uses[place] = more;
     Ok(())
 }
 
-/// Lists a row that has a price.
-fn list_priced(list: &mut Vec<u32>, number: u32, price: i64) -> Result<(), NoMemory>
-    ensures here { OnOk result ((price ≡ pos 0) ⊎ Contains list.new.items number) }
-    ensures kept { OnOk result (All (Contains list.new.items) list.old.items) }
-    ensures within { OnOk result ((count : ℕ) → number < count → All (λ n. n < count) list.old.items → All (λ n. n < count) list.new.items) }
+/// Takes away what a touch uses.
+pub(crate) fn take_touch(levels: &mut Levels, touch: Touch)
+    requires { IsLevels levels.old }
+    ensures levels { IsLevels levels.new }
+    ensures uses { TakesUses (touch_use touch) levels.old.uses.items levels.new.uses.items }
+    ensures prices { KeepsPrices levels.old levels.new }
 {
-    if price != 0 {
-        list.push(number)?;
+    let place = touch.row as usize;
+    if place < levels.uses.len() {
+        levels.uses[place] = levels.uses[place].saturating_sub(u64::from(touch.uses));
     }
-    Ok(())
 }
 
-/// Forgets the uses, once a step is made. Rows without a price are active no more.
-pub(crate) fn rest(levels: &mut Levels, spare: &mut Vec<u32>) -> Result<(), NoMemory>
+/// Forgets all uses.
+pub(crate) fn forget_uses(levels: &mut Levels)
     requires { IsLevels levels.old }
-    ensures levels { OnOk result (IsLevels levels.new) }
-    ensures unused { OnOk result (AreUnused levels.new) }
-    ensures prices { OnOk result (KeepsPrices levels.old levels.new) }
+    ensures levels { IsLevels levels.new }
+    ensures unused { AreUnused levels.new }
+    ensures prices { KeepsPrices levels.old levels.new }
 {
-    spare.clear();
-    for k in 0..levels.active.len() {
-        let number = levels.active[k];
-        levels.uses[number as usize] = 0;
-        list_priced(spare, number, levels.prices[number as usize])?;
+    for k in 0..levels.uses.len() {
+        levels.uses[k] = 0;
     }
-    std::mem::swap(&mut levels.active, spare);
-    Ok(())
 }

@@ -1,19 +1,31 @@
 //! How much the replies use of rows, by the numbers of rows.
-ghost use Rattle.std.specs.Prelude.{◌≡◌, ◌<◌, List, ℤ, All, OnOk, length};
-ghost use Rattle.optra_prices.specs.Levels.{IsLevels, KeepsPrices};
-ghost use Rattle.optra_prices.specs.Standings.{AllStand};
-ghost use Rattle.optra_prices.specs.Uses.{touch_uses, arc_touches, path_uses, all_uses, AddsUses, HasGroups};
+//!
+//! What the paths use that were counted last stays from step to step; only a path that is another one now is counted anew.
+ghost use Rattle.std.specs.Prelude.{◌≡◌, ◌≤◌, [], All, IfOk, OnOk, length, replicate, take};
+ghost use Rattle.optra_prices.specs.Levels.{IsLevels, AreUnused, KeepsPrices};
+ghost use Rattle.optra_prices.specs.Uses.{touch_uses, arc_touches, path_uses, AreCounted, AddsUses, TakesUses, CountsPath, AreEmpty, HasGroups, paths_of, paths_in};
 
 use crate::grouping::group;
-use crate::levels::{Levels, add_touch};
+use crate::levels::{Levels, add_touch, forget_uses, take_touch};
 use crate::numbering::{BidTable, Groups, Standing, Touch};
+use crate::settling::group_of;
 use optra_network::NoMemory;
+use std::alloc::Global;
+
+/// What an arc touches.
+fn arc_touches<'a>(groups: &'a Groups, table: &BidTable<'_>, k: u32) -> &'a [Touch]
+    requires { HasGroups groups.now table.now }
+    ensures { result.now ≡ arc_touches groups.now table.now k }
+{
+    group(groups, group_of(&table.arcs, k) as usize)
+}
 
 /// Adds what a group uses.
 fn add_group(levels: &mut Levels, touches: &[Touch]) -> Result<(), NoMemory>
     requires { IsLevels levels.old }
     ensures levels { OnOk result (IsLevels levels.new) }
-    ensures uses { OnOk result (AddsUses (touch_uses touches.now) levels.old.uses.items levels.new.uses.items) }
+    ensures uses { OnOk result
+        (AddsUses (touch_uses touches.now) levels.old.uses.items levels.new.uses.items) }
     ensures prices { OnOk result (KeepsPrices levels.old levels.new) }
 {
     for touch in touches {
@@ -22,22 +34,16 @@ fn add_group(levels: &mut Levels, touches: &[Touch]) -> Result<(), NoMemory>
     Ok(())
 }
 
-/// Adds what an arc uses.
-fn add_arc(
-    levels: &mut Levels,
-    groups: &Groups,
-    table: &BidTable<'_>,
-    k: u32,
-) -> Result<(), NoMemory>
-    requires levels { IsLevels levels.old }
-    requires groups { HasGroups groups.now table.now }
-    requires within { k < length table.now.arcs.items }
-    ensures levels { OnOk result (IsLevels levels.new) }
-    ensures uses { OnOk result (AddsUses (touch_uses (arc_touches groups.now table.now k)) levels.old.uses.items levels.new.uses.items) }
-    ensures prices { OnOk result (KeepsPrices levels.old levels.new) }
+/// Takes away what a group uses.
+fn take_group(levels: &mut Levels, touches: &[Touch])
+    requires { IsLevels levels.old }
+    ensures levels { IsLevels levels.new }
+    ensures uses { TakesUses (touch_uses touches.now) levels.old.uses.items levels.new.uses.items }
+    ensures prices { KeepsPrices levels.old levels.new }
 {
-    let g = table.arcs[k as usize].group as usize;
-    add_group(levels, group(groups, g))
+    for touch in touches {
+        take_touch(levels, *touch);
+    }
 }
 
 /// Adds what the arcs of a path use.
@@ -49,33 +55,119 @@ fn add_path(
 ) -> Result<(), NoMemory>
     requires levels { IsLevels levels.old }
     requires groups { HasGroups groups.now table.now }
-    requires within { All (λ k. k < length table.now.arcs.items) path.now }
     ensures levels { OnOk result (IsLevels levels.new) }
-    ensures uses { OnOk result (AddsUses (path_uses groups.now table.now path.now) levels.old.uses.items levels.new.uses.items) }
+    ensures uses { OnOk result
+        (AddsUses (path_uses groups.now table.now path.now)
+        levels.old.uses.items levels.new.uses.items) }
     ensures prices { OnOk result (KeepsPrices levels.old levels.new) }
 {
     for k in path {
-        add_arc(levels, groups, table, *k)?;
+        add_group(levels, arc_touches(groups, table, *k))?;
     }
     Ok(())
 }
 
-/// Adds what the replies of all bids use.
-pub(crate) fn add_uses(
+/// Takes away what the arcs of a path use.
+fn take_path(levels: &mut Levels, groups: &Groups, table: &BidTable<'_>, path: &[u32])
+    requires levels { IsLevels levels.old }
+    requires groups { HasGroups groups.now table.now }
+    ensures levels { IsLevels levels.new }
+    ensures uses { TakesUses (path_uses groups.now table.now path.now)
+        levels.old.uses.items levels.new.uses.items }
+    ensures prices { KeepsPrices levels.old levels.new }
+{
+    for k in path {
+        take_group(levels, arc_touches(groups, table, *k));
+    }
+}
+
+/// How many arcs two paths share from their start on.
+fn same_start(a: &[u32], b: &[u32]) -> usize
+    ensures within { (result ≤ length a.now) × (result ≤ length b.now) }
+    ensures same { take result a.now ≡ take result b.now }
+{
+    let most = a.len().min(b.len());
+    for k in 0..most {
+        if a[k] != b[k] {
+            return k;
+        }
+    }
+    most
+}
+
+/// Counts a bid's path in place of the one that was counted, from the first arc on in which they differ.
+fn count_path(
+    levels: &mut Levels,
+    groups: &Groups,
+    table: &BidTable<'_>,
+    counted: &mut Vec<u32>,
+    path: &[u32],
+) -> Result<(), NoMemory>
+    requires levels { IsLevels levels.old }
+    requires groups { HasGroups groups.now table.now }
+    ensures levels { OnOk result (IsLevels levels.new) }
+    ensures path { OnOk result (counted.new.items ≡ path.now) }
+    ensures uses { OnOk result
+        (CountsPath groups.now table.now counted.old.items path.now
+        levels.old.uses.items levels.new.uses.items) }
+    ensures prices { OnOk result (KeepsPrices levels.old levels.new) }
+{
+    let same = same_start(counted, path);
+    take_path(levels, groups, table, &counted[same..]);
+    add_path(levels, groups, table, &path[same..])?;
+    counted.truncate(same);
+    counted.extend_from_slice(&path[same..])?;
+    Ok(())
+}
+
+/// Counts what the replies of all bids use.
+pub(crate) fn count_uses(
     levels: &mut Levels,
     groups: &Groups,
     tables: &[BidTable<'_>],
+    counted: &mut Vec<Vec<u32>>,
     standings: &[Standing],
 ) -> Result<(), NoMemory>
     requires levels { IsLevels levels.old }
     requires groups { All (HasGroups groups.now) tables.now }
-    requires stand { (grouped : List ℤ) × AllStand tables.now grouped standings.now }
+    requires counted { AreCounted groups.now tables.now (paths_in counted.old.items)
+        levels.old.uses.items }
+    requires standings { length standings.now ≡ length tables.now }
     ensures levels { OnOk result (IsLevels levels.new) }
-    ensures uses { OnOk result (AddsUses (all_uses groups.now tables.now standings.now) levels.old.uses.items levels.new.uses.items) }
+    ensures counted { OnOk result
+        (AreCounted groups.now tables.now (paths_in counted.new.items) levels.new.uses.items) }
+    ensures paths { OnOk result (paths_in counted.new.items ≡ paths_of standings.now) }
     ensures prices { OnOk result (KeepsPrices levels.old levels.new) }
 {
     for number in 0..tables.len() {
-        add_path(levels, groups, &tables[number], &standings[number].path)?;
+        let path = &standings[number].path;
+        count_path(levels, groups, &tables[number], &mut counted[number], path)?;
     }
     Ok(())
+}
+
+/// Forgets each path that is counted, and what they use.
+pub(crate) fn forget_paths(levels: &mut Levels, counted: &mut Vec<Vec<u32>>)
+    requires { IsLevels levels.old }
+    ensures levels { IsLevels levels.new }
+    ensures unused { AreUnused levels.new }
+    ensures prices { KeepsPrices levels.old levels.new }
+    ensures count { length (paths_in counted.new.items) ≡ length (paths_in counted.old.items) }
+    ensures empty { AreEmpty (paths_in counted.new.items) }
+{
+    for number in 0..counted.len() {
+        counted[number].clear();
+    }
+    forget_uses(levels);
+}
+
+/// For each of so many bids a path without an arc.
+pub(crate) fn no_paths(alloc: Global, count: usize) -> Result<Vec<Vec<u32>>, NoMemory>
+    ensures { IfOk result (λ counted. paths_in counted.items ≡ replicate count []) }
+{
+    let mut counted = Vec::with_capacity(alloc, count)?;
+    for _number in 0..count {
+        counted.push(Vec::new(alloc))?;
+    }
+    Ok(counted)
 }

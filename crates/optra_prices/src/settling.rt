@@ -99,7 +99,7 @@ pub(crate) fn renew_where(
 }
 
 /// The group of an arc.
-fn group_of(arcs: &[ArcTerm], k: u32) -> u32
+pub(crate) fn group_of(arcs: &[ArcTerm], k: u32) -> u32
     ensures { result ≡ (slice_index_or arcs.now k no_arc).group }
 {
     match arcs.get(k as usize) {

@@ -1,5 +1,5 @@
 //! Price steps.
-ghost use Rattle.std.specs.Prelude.{◌≡◌, ◌+◌, ◌*◌, ◌++◌, ◌∷◌, [], true, cond, pos, negsuc, ◌+ℤ◌, ◌-ℤ◌, ◌*ℤ◌, All, IfOk, OnOk};
+ghost use Rattle.std.specs.Prelude.{◌≡◌, ◌+◌, ◌-◌, ◌*◌, ◌^◌, ◌++◌, ◌∷◌, [], true, cond, min, pos, unsigned_abs, ◌*ℤ◌, All, IfOk, OnOk};
 ghost use Rattle.std.specs.Int.{int_max, int_div_euclid, is_positive};
 ghost use Rattle.optra_bid.specs.Specs.{IsBetween};
 ghost use Rattle.optra_walk.specs.Choices.{IsChoice};
@@ -17,7 +17,7 @@ use std::alloc::Global;
 use std::collections::BTreeMap;
 
 /// The greatest price, in thousandths of a cent.
-const MOST_PRICE: i128 = 2_000_000_000_000;
+const MOST_PRICE: i64 = 2_000_000_000_000;
 
 /// The greater of two numbers of cents.
 fn greater(most: i64, base: i64) -> i64
@@ -70,51 +70,33 @@ pub(crate) fn step_length(bids: &[Bid], k: u32) -> i64
 }
 
 /// A price within 0 to 2,000,000,000,000.
-fn price_within(price: i128) -> i64
+fn price_within(price: i64) -> i64
     ensures value { result ≡ price_within price }
     ensures range { IsBetween (pos 0) (pos 2000000000000) result }
 {
-    price.max(0).min(MOST_PRICE) as i64
+    price.max(0).min(MOST_PRICE)
 }
 
-/// What is used above a capacity.
-fn above(used: u64, capacity: u32) -> i128
-    ensures value { result ≡ pos used -ℤ pos capacity }
-    ensures range { IsBetween (negsuc 4294967294) (pos 18446744073709551615) result }
+/// How far a step of this length moves a price for so many uses: exact, or more than any price moves within its bounds.
+fn way(length: i64, uses: u64) -> u64
+    requires { IsBetween (pos 1) (pos 1000000000000) length }
+    ensures { result ≡ min (unsigned_abs length * uses) (2 ^ 64 - 1) }
 {
-    i128::from(used) - i128::from(capacity)
+    length.unsigned_abs().saturating_mul(uses)
 }
 
-/// A length times a number of uses.
-fn spent(length: i64, uses: i128) -> i128
-    requires length { IsBetween (pos 1) (pos 1000000000000) length }
-    requires uses { IsBetween (negsuc 4294967294) (pos 18446744073709551615) uses }
-    ensures { result ≡ length *ℤ uses }
-{
-    i128::from(length) * uses
-}
-
-/// A price and a change of it.
-fn moved(price: i64, change: i128) -> i128
-    requires { IsBetween (negsuc 4294967295000000000000) (pos 18446744073709551615000000000000) change }
-    ensures { result ≡ price +ℤ change }
-{
-    i128::from(price) + change
-}
-
-/// The next price of a row. Most rows cost nothing and aren't full, and such a price stays at 0.
+/// The next price of a row. What saturates is past a bound of prices, so that the price ends at that bound either way.
 pub(crate) fn next_price(length: i64, price: i64, used: u64, capacity: u32) -> i64
     requires { IsBetween (pos 1) (pos 1000000000000) length }
     ensures value { result ≡ next_price length price used capacity }
     ensures range { IsBetween (pos 0) (pos 2000000000000) result }
 {
-    if price == 0 && used <= u64::from(capacity) {
-        return 0;
+    let room = u64::from(capacity);
+    if used > room {
+        price_within(price.saturating_add_unsigned(way(length, used - room)))
+    } else {
+        price_within(price.saturating_sub_unsigned(way(length, room - used)))
     }
-    let uses = above(used, capacity);
-    let change = spent(length, uses);
-    let next = moved(price, change);
-    price_within(next)
 }
 
 /// Adds a price above zero to a list.

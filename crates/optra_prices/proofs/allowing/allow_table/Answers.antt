@@ -1,5 +1,4 @@
-use Rattle.std.proofs.Common.{◌≡◌, Bool, true, false, refl, sym, ◌∙◌}
-use Rattle.std.specs.Prelude.{◌||◌}
+use Rattle.std.proofs.Common.{refl, sym, ◌∙◌}
 use Rattle.optra_prices.proofs.HolderLemmas.{same_groups, neither}
 use Rattle.optra_prices.proofs.allowing.allow_table.Goals as goal
 

@@ -1,9 +1,16 @@
 use Rattle.std.proofs.Common.{List, length, take, sym, ap, ◌∙◌, subst, arith}
+use Rattle.std.specs.Prelude.{All}
+use Rattle.optra_node.specs.declared.Decision.{Decision}
+use Rattle.optra_node.specs.Nodes.{IsFormedDecision, yes_load}
 use Rattle.optra_prices.specs.Courses.{HaveCapacities}
+use Rattle.optra_prices.specs.Listings.{AddsZeros}
+use Rattle.optra_prices.specs.Rooms.{IsRoom}
 use Rattle.optra_prices.specs.Terms.{Setting, setting}
 use Rattle.optra_prices.specs.Tables.{group_at}
+use Rattle.optra_prices.specs.Uses.{paths_in}
 use Rattle.optra_prices.proofs.AdmitLemmas.{extends_longer, capacities_before, prices_read}
 use Rattle.optra_prices.proofs.AllowLemmas.{tables_kept}
+use Rattle.optra_prices.proofs.UseLemmas.{none_counted}
 use Rattle.optra_prices.proofs.courses.admit.Goals as goal
 
 pub widen-requires-clause-few : goal.widen-requires-clause-few
@@ -12,14 +19,19 @@ widen-requires-clause-few g c =
     let l = extends_longer kept.numbering.rows.items c.number_more.new.numbering.rows.items c.in_ok-number_more.ensures.extends in
     let n = c.requires.course.is.price_count in
     let e = ap length c.deref.ensures.value in
+    let same = ap (λ v. length v.items) c.forget_paths.ensures.prices.prices in
     omega arith
 
 pub widen-requires-clause-capacities : goal.widen-requires-clause-capacities
 widen-requires-clause-capacities g c =
     let kept = c.args.kept.now in
+    let forgot = c.forget_paths.new.levels in
+    let keeps = c.forget_paths.ensures.prices in
     let rows = g.F.RowFamily.rows_of c.args.rows.now c.args.inst.net.now in
-    subst (λ (rs : List g.row.F-Row.Denot). HaveCapacities rows (take (length kept.levels.prices.items) rs) kept.levels.capacities.items) (sym c.deref.ensures.value)
-    (capacities_before rows kept.numbering.rows.items c.number_more.new.numbering.rows.items (length kept.levels.prices.items) kept.levels.capacities.items c.requires.course.is.price_count c.in_ok-number_more.ensures.extends c.requires.course.is.capacities)
+    let numbered = c.number_more.new.numbering.rows.items in
+    let before = capacities_before rows kept.numbering.rows.items numbered (length kept.levels.prices.items) kept.levels.capacities.items c.requires.course.is.price_count c.in_ok-number_more.ensures.extends c.requires.course.is.capacities in
+    subst (λ (rs : List g.row.F-Row.Denot). HaveCapacities rows (take (length forgot.prices.items) rs) forgot.capacities.items) (sym c.deref.ensures.value)
+    (subst (λ v. HaveCapacities rows (take (length v.items) numbered) forgot.capacities.items) (sym keeps.prices) (subst (λ v. HaveCapacities rows (take (length kept.levels.prices.items) numbered) v.items) (sym keeps.capacities) before))
 
 pub returns-clause-course : goal.returns-clause-course
 returns-clause-course g c =
@@ -41,13 +53,23 @@ returns-clause-course g c =
         capacities = subst (λ (rs : List g.row.F-Row.Denot). HaveCapacities rows rs c.widen.new.levels.capacities.items) c.deref.ensures.value wide.capacities;
         price_count = wide.count ∙ ap length c.deref.ensures.value;
         levels = wide.levels;
-        unused = wide.unused;
+        counted = none_counted kept.columns.groups kept.tables.items (paths_in c.forget_paths.new.counted.items) c.widen.new.levels.uses.items (c.forget_paths.ensures.count ∙ is.counted.count) c.forget_paths.ensures.empty wide.unused;
         columns = is.columns;
         tables = tables_kept s (length s.bids) kept.numbering.rows.items numbering.rows.items kept.columns.groups kept.tables.items more.extends is.tables;
         stand = is.stand;
         zero = is.zero;
         holders = is.holders;
+        decided = record {
+          decisions_are = is.decided.decisions_are;
+          formed = is.decided.formed;
+          room_is = subst (λ (ds : List Decision). IsRoom rows numbering.rows.items (yes_load rows c.args.inst.bids.now ds) c.in_ok-kept-2.field-0) (c.deref-2.ensures.value ∙ is.decided.decisions_are) c.in_ok-kept-2.ensures;
+        };
       };
       still = course.still;
-      grouped = λ h l. course.grouped h l ∙ sym (prices_read kept.levels.prices.items c.widen.new.levels.prices.items wide.prices (group_at kept.columns.groups.starts.items kept.columns.groups.touches.items h));
+      grouped = λ h l. course.grouped h l ∙ sym (prices_read kept.levels.prices.items c.widen.new.levels.prices.items (subst (λ v. AddsZeros v.items c.widen.new.levels.prices.items) c.forget_paths.ensures.prices.prices wide.prices) (group_at kept.columns.groups.starts.items kept.columns.groups.touches.items h));
     }
+
+pub room_beside-requires-clause-decisions : goal.room_beside-requires-clause-decisions
+room_beside-requires-clause-decisions g c =
+    let decided = c.requires.course.is.decided in
+    subst (All (IsFormedDecision c.args.inst.net.now (length c.args.inst.bids.now))) (sym (c.deref-2.ensures.value ∙ decided.decisions_are)) decided.formed

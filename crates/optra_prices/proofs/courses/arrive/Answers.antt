@@ -6,6 +6,7 @@ use Rattle.optra_prices.specs.Holders.{AreHolders, TellsFallen}
 use Rattle.optra_prices.specs.Standings.{AllStand, AreTables, IsSound, IsTermSize, value_of}
 use Rattle.optra_prices.specs.Tables.{AreGroupPrices, AreUpTo}
 use Rattle.optra_prices.specs.Terms.{Setting, setting}
+use Rattle.optra_prices.specs.Uses.{AreCounted, paths_in}
 use Rattle.optra_prices.specs.declared.columns.Mark.{Mark}
 use Rattle.optra_prices.specs.declared.numbering.BidTable.{BidTable}
 use Rattle.optra_prices.specs.declared.numbering.Standing.{Standing}
@@ -100,12 +101,13 @@ returns-clause-priced g c =
         capacities = is.capacities;
         price_count = is.price_count;
         levels = is.levels;
-        unused = is.unused;
+        counted = subst (λ groups. AreCounted groups tables (paths_in kept.counted.items) kept.levels.uses.items) (sym (same ∙ c.reprice.ensures.columns.groups_are)) is.counted;
         columns = own_columns priced.groups columns c.still.ensures.columns;
         tables = subst (λ groups. AreTables s (length s.bids) kept.numbering.rows.items groups tables) (sym (same ∙ c.reprice.ensures.columns.groups_are)) is.tables;
         stand = subst (λ v. AllStand tables v.items standings) (sym c.still.ensures.same) stand;
         zero = is.zero;
         holders = is.holders;
+        decided = is.decided;
       };
       still = c.still.ensures.still;
       grouped = subst (λ groups. AreGroupPrices prices groups.starts.items groups.touches.items columns.grouped.items) (sym same) (subst (λ v. AreGroupPrices prices priced.groups.starts.items priced.groups.touches.items v.items) (sym c.still.ensures.same) grouped);

@@ -7,7 +7,7 @@ use Rattle.optra_prices.specs.Courses.{listed}
 use Rattle.optra_prices.specs.Standings.{Agrees}
 use Rattle.optra_prices.specs.Tables.{IsRowPrice}
 use Rattle.optra_prices.specs.Terms.{Setting, setting}
-use Rattle.optra_prices.proofs.CourseLemmas.{set_up_on, unused_on}
+use Rattle.optra_prices.proofs.CourseLemmas.{set_up_on}
 use Rattle.optra_prices.proofs.ListingLemmas.{listed_one}
 use Rattle.optra_prices.proofs.courses.go_to.Goals as goal
 
@@ -24,8 +24,7 @@ arrive-requires-clause-moved g c =
     let is = c.in_ok-leave.ensures.moved.is in
     let put = c.in_ok-put_prices.ensures in
     record {
-      is = set_up_on g.F.Row.Ord.cmp s c.leave.new.kept c.put_prices.new.columns put.columns c.put_prices.new.levels is put.levels
-          (unused_on c.leave.new.kept.levels c.put_prices.new.levels put.rest.uses is.unused) (put.count ∙ sym is.price_count) put.rest.capacities put.grouped;
+      is = set_up_on g.F.Row.Ord.cmp s c.leave.new.kept c.put_prices.new.columns put.columns c.put_prices.new.levels is put.levels put.rest.uses (put.count ∙ sym is.price_count) put.rest.capacities put.grouped;
       due = put.due;
     }
 

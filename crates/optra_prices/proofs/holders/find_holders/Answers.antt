@@ -1,5 +1,5 @@
 -- One more bid is added.
-use Rattle.std.proofs.Common.{◌≡◌, ◌≤◌, ◌<◌, List, length, get_or, Some, slice_get, sym, subst, arith}
+use Rattle.std.proofs.Common.{◌≡◌, ◌≤◌, ◌<◌, List, length, get_or, Some, slice_get, subst, arith}
 use Rattle.std.proofs.lemmas.Option.{slice_get-get_or}
 use Rattle.optra_prices.specs.Holders.{Holds}
 use Rattle.optra_prices.specs.declared.numbering.ArcTerm.{ArcTerm}

@@ -1,4 +1,4 @@
-use Rattle.std.proofs.Common.{◌-◌, List, Bool, length, ap, ◌∙◌, sym, subst, arith}
+use Rattle.std.proofs.Common.{◌-◌, List, Bool, ap, ◌∙◌, sym, subst, arith}
 use Rattle.std.specs.Prelude.{slice_index}
 use Rattle.std.proofs.lemmas.List.{get_or_read}
 use Rattle.optra_prices.specs.declared.chains.Link.{Link}

@@ -8,7 +8,8 @@ use Rattle.optra_prices.specs.Columns.{PricesAllButDue}
 use Rattle.optra_prices.specs.Listings.{capacity_below}
 use Rattle.optra_prices.specs.Tables.{IsRowPrice}
 use Rattle.optra_prices.proofs.ColumnLemmas.{moved_due}
-use Rattle.optra_prices.proofs.LevelLemmas.{woken_levels, woken_here, capacity_range, capacity_set, covers_priced}
+use Rattle.optra_prices.proofs.ListingLemmas.{row_price_or}
+use Rattle.optra_prices.proofs.LevelLemmas.{capacity_range, capacity_set, covers_priced}
 use Rattle.optra_prices.proofs.levels.set_price.Goals as goal
 
 pub returns-then-old-price-clause-prices : goal.returns-then-old-price-clause-prices
@@ -23,7 +24,7 @@ returns-then-old-price-clause-prices c =
 pub capacity_after-levels-requires-clause-total : goal.capacity_after-levels-requires-clause-total
 capacity_after-levels-requires-clause-total c =
     let woken = c.wake.new.levels in
-    let is = woken_levels c.args.number c.args.levels.now woken c.in_ok-wake.ensures c.requires.levels in
+    let is = c.in_ok-wake.ensures.levels in
     let range = capacity_range woken.prices.items woken.capacities.items (length woken.prices.items) is.range is.small in
     let a = is.capacity_is in
     let b = range.0 in
@@ -39,8 +40,8 @@ pub returns-clause-levels : goal.returns-clause-levels
 returns-clause-levels c =
     let old = c.args.levels.now in
     let woken = c.wake.new.levels in
-    let wakes = c.in_ok-wake.ensures in
-    let is = woken_levels c.args.number old woken wakes c.requires.levels in
+    let wakes = c.in_ok-wake.ensures.wakes in
+    let is = c.in_ok-wake.ensures.levels in
     let number = c.args.number in
     let prices = woken.prices.items in
     let capacities = woken.capacities.items in
@@ -67,11 +68,15 @@ returns-clause-levels c =
     record {
       use_count = is.use_count ∙ sym long;
       capacity_count = is.capacity_count ∙ sym long;
+      mark_count = is.mark_count ∙ sym long;
       range = All-set IsRowPrice prices number price range is.range;
       small = is.small;
       capacity_is = after ∙ sym (capacity_set prices capacities number price count within within) ∙ ap (capacity_below (set prices number price) capacities) (sym long);
       within = subst (λ (most : ℕ). All (λ (n : ℕ). n < most) woken.active.items) (sym long) is.within;
-      covers = covers_priced prices woken.uses.items woken.active.items number price (woken_here number old woken wakes c.requires.levels c.requires.within) is.covers;
+      once = is.once;
+      marked = is.marked;
+      found = is.found;
+      covers = covers_priced prices woken.uses.items woken.capacities.items woken.active.items number price wakes.here is.covers;
     }
 
 pub returns-clause-due : goal.returns-clause-due
@@ -79,5 +84,13 @@ returns-clause-due c =
     let old = c.args.levels.now in
     let price = to_z w64 (of_z w64 c.args.price) in
     let marked = c.in_ok-mark_row.ensures in
-    subst (λ v. PricesAllButDue (set v.items c.args.number price) c.mark_row.new.columns) (sym c.in_ok-wake.ensures.prices)
+    subst (λ v. PricesAllButDue (set v.items c.args.number price) c.mark_row.new.columns) (sym c.in_ok-wake.ensures.wakes.prices)
     (moved_due old.prices.items c.args.number price c.args.columns.now c.mark_row.new.columns c.requires.columns marked.columns.groups_are marked.row c.requires.due)
+
+pub capacity_after-levels-requires-clause-old : goal.capacity_after-levels-requires-clause-old
+capacity_after-levels-requires-clause-old c =
+    let old = c.args.levels.now in
+    let before = c.index-old.result.now in
+    let fits : FitsSigned w64 before = search rules in
+    let is = to_z-of_z w64 before fits ∙ get_or_read old.prices.items c.args.number before c.requires.within c.index-old.ensures (pos 0) in
+    subst IsRowPrice (sym is) (row_price_or old.prices.items c.args.number c.requires.levels.range)

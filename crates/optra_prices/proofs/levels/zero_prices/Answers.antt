@@ -1,14 +1,38 @@
-use Rattle.std.proofs.Common.{◌∙◌, ℕ, map, sym, ap, subst, arith}
+use Rattle.std.proofs.Common.{◌<◌, ◌≤◌, length, refl, ◌∙◌, subst, arith}
 use Rattle.std.specs.Prelude.{pos}
-use Rattle.std.proofs.lemmas.Int.{ints}
-use Rattle.std.proofs.lemmas.List.{take_all}
-use Rattle.optra_prices.specs.Levels.{MovesTo}
-use Rattle.optra_prices.proofs.LevelLemmas.{moves_made}
+use Rattle.optra_prices.specs.Columns.{IsColumns}
+use Rattle.optra_prices.proofs.LevelLemmas.{moving_first, moving_next, moving_all}
 use Rattle.optra_prices.proofs.levels.zero_prices.Goals as goal
 
-pub returns : goal.returns
-returns c =
-    let levels = c.args.levels.now in
-    let active = levels.active.items in
-    let all = ap (map (λ (n : ℕ). (n, pos 0))) (take_all c.loop-k.k active (omega arith)) in
-    subst (MovesTo (λ n. pos 0) levels) (sym (c.loop-k.invariant ∙ all)) (moves_made (λ n. pos 0) levels c.requires (λ n. (omega (arith, ints), omega (arith, ints))) (λ n idle. idle.0))
+pub rows-init : goal.rows-init
+rows-init c = record {
+  levels = c.requires.levels;
+  columns = c.requires.columns;
+  due = c.requires.due;
+  moving = moving_first (λ n. pos 0) c.args.levels.now c.requires.levels (λ n idle. idle.0);
+  grouped = refl;
+  rest = record { uses = refl; capacities = refl };
+}
+
+pub rows-preserved : goal.rows-preserved
+rows-preserved c =
+    let now = c.rows.levels in
+    let inv = c.rows.invariant in
+    let is = c.in_ok-k.ensures in
+    let k = c.rows.k in
+    let l : k < length now.active.items = omega (arith, c.len.ensures, now.active.ok.0) in
+    record {
+      levels = is.levels;
+      columns = subst (λ groups. IsColumns groups c.move_row.new.columns) inv.columns.groups_are is.columns;
+      due = is.due;
+      moving = moving_next (λ n. pos 0) c.args.levels.now now c.move_row.new.levels k c.in_ok-k.k (pos 0) inv.moving is.moves (inv.levels.within k 0 l) refl;
+      grouped = is.grouped ∙ inv.grouped;
+      rest = record { uses = is.moves.rest.uses ∙ inv.rest.uses; capacities = is.moves.rest.capacities ∙ inv.rest.capacities };
+    }
+
+pub returns-clause-prices : goal.returns-clause-prices
+returns-clause-prices c =
+    let now = c.rows.levels in
+    let past : length now.active.items ≤ c.rows.k = omega (arith, c.len.ensures, now.active.ok.0) in
+    let all = moving_all (λ n. pos 0) c.args.levels.now now c.rows.k c.rows.invariant.moving past in
+    record { count = all.count; each = all.each }

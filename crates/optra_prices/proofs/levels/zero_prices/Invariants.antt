@@ -1,6 +1,19 @@
-use Rattle.std.proofs.Common.{◌≡◌, ℕ, map, take}
+use Rattle.std.proofs.Common.{◌≡◌, ◌-◌, length}
 use Rattle.std.specs.Prelude.{pos}
+use Rattle.optra_prices.specs.Columns.{IsColumns, PricesAllButDue}
+use Rattle.optra_prices.specs.Levels.{IsLevels, KeepsUses}
+use Rattle.optra_prices.proofs.LevelLemmas.{AreMoving}
 use Rattle.optra_prices.proofs.levels.zero_prices.Given as goal
 
-abbrev pub invariant-loop-k : goal.invariant-loop-k
-invariant-loop-k l = l.moves.items ≡ map (λ (n : ℕ). (n, pos 0)) (take l.k l.levels.active.items)
+abbrev pub invariant-rows : goal.invariant-rows
+invariant-rows l = record {
+  levels : IsLevels l.levels;
+  columns : IsColumns l.fn.columns.groups l.columns;
+  due : PricesAllButDue l.levels.prices.items l.columns;
+  moving : AreMoving (λ number. pos 0) l.fn.levels l.levels l.k;
+  grouped : l.columns.grouped ≡ l.fn.columns.grouped;
+  rest : KeepsUses l.fn.levels l.levels;
+}
+
+abbrev pub decreases-rows : goal.decreases-rows
+decreases-rows l = length l.levels.active.items - l.k

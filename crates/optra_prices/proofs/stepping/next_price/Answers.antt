@@ -1,33 +1,41 @@
-use Rattle.std.proofs.Common.{ap, ◌∙◌, rules, arith, to_z, of_z}
-use Rattle.std.specs.Prelude.{ℤ, ◌+ℤ◌, ◌*ℤ◌, FitsSigned}
-use Rattle.std.specs.Int.{w64, w128}
+use Rattle.std.proofs.Common.{◌≡◌, ℕ, ◌-◌, ◌*◌, ◌≤◌, min, ap, ◌∙◌, rules, arith}
+use Rattle.std.specs.Prelude.{ℤ, pos, negsuc, unsigned_abs, ◌+ℤ◌, ◌-ℤ◌, ◌≤ℤ◌, FitsSigned}
+use Rattle.std.specs.Int.{w64, saturate_signed}
 use Rattle.std.proofs.lemmas.Int.{ints, to_z-of_z}
 use Rattle.optra_prices.specs.Steps.{price_within}
-use Rattle.optra_prices.proofs.StepLemmas.{spent_within}
+use Rattle.optra_prices.proofs.StepLemmas.{risen, fallen}
 use Rattle.optra_prices.proofs.stepping.next_price.Goals as goal
 
-pub moved-next-requires : goal.moved-next-requires
-moved-next-requires c =
-    let fits : FitsSigned w128 c.above-uses.result = search rules in
-    let length : FitsSigned w64 c.args.length = search rules in
-    let whole : FitsSigned w128 c.spent-change.result = search rules in
-    let is = c.spent-change.ensures ∙ ap (λ (z : ℤ). z *ℤ to_z w128 (of_z w128 c.above-uses.result)) (to_z-of_z w64 c.args.length length) ∙ ap (λ (z : ℤ). c.args.length *ℤ z) (to_z-of_z w128 c.above-uses.result fits) in
-    let within = spent_within c.args.length c.above-uses.result c.requires c.above-uses.ensures.range in
-    let low = within.0 in
-    let high = within.1 in
-    (omega (arith, ints), omega (arith, ints))
-
-pub returns-clause-value : goal.returns-clause-value
-returns-clause-value c =
+pub returns-then-used-room-clause-value : goal.returns-then-used-room-clause-value
+returns-then-used-room-clause-value c =
+    let by = c.args.length in
+    let price = c.args.price in
+    let used = c.args.used in
     let f1 : FitsSigned w64 c.price_within.result = search rules in
-    let f2 : FitsSigned w128 c.moved-next.result = search rules in
-    let f3 : FitsSigned w128 c.spent-change.result = search rules in
-    let f4 : FitsSigned w128 c.above-uses.result = search rules in
-    let f5 : FitsSigned w64 c.args.length = search rules in
-    let f6 : FitsSigned w64 c.args.price = search rules in
-    let change =
-    to_z-of_z w128 c.spent-change.result f3 ∙ c.spent-change.ensures ∙ ap (λ (z : ℤ). z *ℤ to_z w128 (of_z w128 c.above-uses.result)) (to_z-of_z w64 c.args.length f5)
-    ∙ ap (λ (z : ℤ). c.args.length *ℤ z) (to_z-of_z w128 c.above-uses.result f4 ∙ c.above-uses.ensures.value)
-    in
-    let next = to_z-of_z w128 c.moved-next.result f2 ∙ c.moved-next.ensures ∙ ap (λ (z : ℤ). z +ℤ to_z w128 (of_z w128 c.spent-change.result)) (to_z-of_z w64 c.args.price f6) ∙ ap (λ (z : ℤ). c.args.price +ℤ z) change in
-    to_z-of_z w64 c.price_within.result f1 ∙ c.price_within.ensures.value ∙ ap price_within next
+    let f2 : FitsSigned w64 c.saturating_add_unsigned.result = search rules in
+    let f3 : FitsSigned w64 by = search rules in
+    let f4 : FitsSigned w64 price = search rules in
+    let room = c.from-room.ensures in
+    let one = c.requires.0 in
+    let low : negsuc 9223372036854775807 ≤ℤ price = omega (arith, ints) in
+    let more : c.args.capacity ≤ used = omega arith in
+    let way : c.way.result ≡ min (unsigned_abs by * (used - c.args.capacity)) 18446744073709551615 = c.way.ensures ∙ ap (λ (z : ℤ). min (unsigned_abs z * (used - c.from-room.result)) 18446744073709551615) (to_z-of_z w64 by f3) ∙ ap (λ (r : ℕ). min (unsigned_abs by * (used - r)) 18446744073709551615) room in
+    let next = to_z-of_z w64 c.saturating_add_unsigned.result f2 ∙ c.saturating_add_unsigned.ensures ∙ ap (λ (z : ℤ). saturate_signed w64 (z +ℤ pos c.way.result)) (to_z-of_z w64 price f4) ∙ ap (λ (n : ℕ). saturate_signed w64 (price +ℤ pos n)) way in
+    to_z-of_z w64 c.price_within.result f1 ∙ c.price_within.ensures.value ∙ ap price_within next ∙ risen by price used c.args.capacity one low more
+
+pub returns-else-used-room-clause-value : goal.returns-else-used-room-clause-value
+returns-else-used-room-clause-value c =
+    let by = c.args.length in
+    let price = c.args.price in
+    let used = c.args.used in
+    let f1 : FitsSigned w64 c.price_within-else-used-room.result = search rules in
+    let f2 : FitsSigned w64 c.saturating_sub_unsigned.result = search rules in
+    let f3 : FitsSigned w64 by = search rules in
+    let f4 : FitsSigned w64 price = search rules in
+    let room = c.from-room.ensures in
+    let one = c.requires.0 in
+    let high : price ≤ℤ pos 9223372036854775807 = omega (arith, ints) in
+    let few : used ≤ c.args.capacity = omega arith in
+    let way : c.way-else-used-room.result ≡ min (unsigned_abs by * (c.args.capacity - used)) 18446744073709551615 = c.way-else-used-room.ensures ∙ ap (λ (z : ℤ). min (unsigned_abs z * (c.from-room.result - used)) 18446744073709551615) (to_z-of_z w64 by f3) ∙ ap (λ (r : ℕ). min (unsigned_abs by * (r - used)) 18446744073709551615) room in
+    let next = to_z-of_z w64 c.saturating_sub_unsigned.result f2 ∙ c.saturating_sub_unsigned.ensures ∙ ap (λ (z : ℤ). saturate_signed w64 (z -ℤ pos c.way-else-used-room.result)) (to_z-of_z w64 price f4) ∙ ap (λ (n : ℕ). saturate_signed w64 (price -ℤ pos n)) way in
+    to_z-of_z w64 c.price_within-else-used-room.result f1 ∙ c.price_within-else-used-room.ensures.value ∙ ap price_within next ∙ fallen by price used c.args.capacity one high few

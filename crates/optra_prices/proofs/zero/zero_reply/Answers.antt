@@ -1,9 +1,8 @@
 -- The path that is known of the bid at zero prices is that of its reply.
-use Rattle.std.proofs.Common.{◌≡◌, ◌<◌, Option, ℕ, [], List, length, refl, sym, ap, ◌∙◌, subst, arith}
+use Rattle.std.proofs.Common.{◌<◌, [], length, refl, sym, ap, ◌∙◌, subst, arith}
 use Rattle.std.proofs.lemmas.Option.{slice_get_read}
 use Rattle.std.proofs.lemmas.Result.{IfOk-weaker}
 use Rattle.optra_graph.specs.Timed.{IsRoute}
-use Rattle.optra_walk.specs.declared.Leg.{Leg}
 use Rattle.optra_prices.specs.Arcs.{path_reply}
 use Rattle.optra_prices.specs.Replies.{IsReply}
 use Rattle.optra_prices.specs.Terms.{Setting, setting}

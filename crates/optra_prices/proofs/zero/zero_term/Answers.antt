@@ -1,5 +1,5 @@
 -- What is known of the bid at zero prices has its term.
-use Rattle.std.proofs.Common.{◌≡◌, ◌<◌, [], length, refl, sym, subst, arith, rules}
+use Rattle.std.proofs.Common.{◌<◌, [], length, refl, sym, subst, arith, rules}
 use Rattle.std.specs.Prelude.{FitsSigned}
 use Rattle.std.specs.Int.{w128}
 use Rattle.std.proofs.lemmas.Int.{to_z-of_z}

@@ -1,0 +1,11 @@
+use Rattle.std.proofs.Common.{take}
+use Rattle.optra_prices.specs.Levels.{IsLevels, KeepsPrices}
+use Rattle.optra_prices.specs.Uses.{TakesUses, touch_uses}
+use Rattle.optra_prices.proofs.loading.take_group.Given as goal
+
+abbrev pub invariant-loop-touch : goal.invariant-loop-touch
+invariant-loop-touch l = record {
+  levels : IsLevels l.levels;
+  uses : TakesUses (touch_uses (take l.touch-index l.touches)) l.fn.levels.uses.items l.levels.uses.items;
+  prices : KeepsPrices l.fn.levels l.levels;
+}

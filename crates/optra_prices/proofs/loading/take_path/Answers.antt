@@ -1,0 +1,18 @@
+use Rattle.std.proofs.Common.{List, ◌∙◌, subst}
+use Rattle.optra_prices.specs.Uses.{TakesUses, touch_uses}
+use Rattle.optra_prices.specs.declared.numbering.Touch.{Touch}
+use Rattle.optra_prices.proofs.UseLemmas.{takes_on, path_more}
+use Rattle.optra_prices.proofs.loading.take_path.Goals as goal
+
+pub loop-k-preserved : goal.loop-k-preserved
+loop-k-preserved c =
+    let inv = c.loop-k.invariant in
+    let is = c.take_group.ensures in
+    let mid = c.loop-k.levels.uses.items in
+    let new = c.take_group.new.levels.uses.items in
+    let less = subst (λ (touches : List Touch). TakesUses (touch_uses touches) mid new) c.arc_touches.ensures is.uses in
+    record {
+      levels = is.levels;
+      uses = takes_on c.args.levels.now.uses.items mid new _ _ _ (λ n. path_more c.args.groups.now c.args.table.now c.args.path.now c.loop-k.k-index 0 n c.loop-k-test.true) inv.uses less;
+      prices = record { prices = is.prices.prices ∙ inv.prices.prices; capacities = is.prices.capacities ∙ inv.prices.capacities };
+    }
