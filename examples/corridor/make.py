@@ -1,9 +1,9 @@
 #!/usr/bin/env python3
 """Writes the tables of the corridor anew from its distances and speeds: python3 examples/corridor/make.py
 
-The numbers are ours: a main line of twelve stations with a track each way, and a branch of three more. A train needs its distance at
-the speed of its type, rounded up to whole minutes, and more where it has to brake for a stop or to start from one. The bids stand in
-this file as an operator would write them.
+The numbers are ours: a main line of twelve stations with a track each way, and a branch of three more on a single track. A train needs
+its distance at the speed of its type, rounded up to whole minutes, and more where it has to brake for a stop or to start from one. The
+bids stand in this file as an operator would write them.
 """
 import math
 import os
@@ -15,19 +15,28 @@ MAIN = [("Seaport", 0), ("Dunes", 7), ("Marsh", 15), ("Kirkby", 23), ("Junction"
         ("Lakeside", 66), ("Upton", 74), ("Brook", 83), ("Capital", 92)]
 BRANCH = [("Junction", 0), ("Quarry", 9), ("Glen", 17), ("Mine", 24)]
 
+# How many trains may stand at a small station at once; the others have no limit.
+PLACES = {"Dunes": 1, "Marsh": 2, "Kirkby": 2, "Weir": 1, "Aldbury": 2, "Forest": 1, "Upton": 2, "Brook": 1, "Quarry": 2, "Glen": 1}
+
 # Kilometres an hour, and the minutes that starting from a stop and braking for one take.
 TYPES = {"fast": (140, 1, 1), "regional": (100, 1, 1), "freight": (80, 2, 2)}
+
+# The types that may use the tracks of a line.
+ON_MAIN, ON_BRANCH = list(TYPES), ["regional", "freight"]
 
 # The least minutes between two trains on a track, before the second one's being faster is added.
 APART = 3
 
+# The minutes that setting the route takes on the single track, behind a train and before the next one in the other direction.
+ROUTE = 1
+
 
 def sections():
-    """Each track with its ends and its kilometres."""
-    for line in (MAIN, BRANCH):
+    """Each track with its ends, its kilometres and the types that may use it."""
+    for line, kinds in ((MAIN, ON_MAIN), (BRANCH, ON_BRANCH)):
         for (a, at), (b, to) in zip(line, line[1:]):
-            yield f"{a}-{b}", a, b, to - at
-            yield f"{b}-{a}", b, a, to - at
+            yield f"{a}-{b}", a, b, to - at, kinds
+            yield f"{b}-{a}", b, a, to - at, kinds
 
 
 def pure(kind, km):
@@ -46,6 +55,11 @@ def headway(first, second, km):
     return APART + max(0, pure(first, km) - pure(second, km))
 
 
+def crossing(first, km):
+    """Whatever comes the other way on a single track starts when the first train is off it, at its slowest, and the route is set."""
+    return running(first, km)[3] + ROUTE
+
+
 def write(name, lines):
     path = os.path.join(HERE, name)
     os.makedirs(os.path.dirname(path), exist_ok=True)
@@ -55,20 +69,28 @@ def write(name, lines):
 
 def network():
     stations = [name for name, _ in MAIN] + [name for name, _ in BRANCH[1:]]
-    write("net/stations.csv", ["station", *stations])
+    write("net/stations.csv", ["station,halt_max"] + [f"{name},{PLACES.get(name, 0)}" for name in stations])
     write("net/types.csv", ["type", *TYPES])
-    write("net/tracks.csv", ["track,from,to"] + [f"{track},{a},{b}" for track, a, b, _ in sections()])
+    write("net/tracks.csv", ["track,from,to"] + [f"{track},{a},{b}" for track, a, b, _, _ in sections()])
     write("net/running.csv", ["track,type,pass_pass,pass_halt,halt_pass,halt_halt"]
-          + [",".join(map(str, [track, kind, *running(kind, km)])) for track, _, _, km in sections() for kind in TYPES])
+          + [",".join(map(str, [track, kind, *running(kind, km)])) for track, _, _, km, kinds in sections() for kind in kinds])
     write("net/headways.csv", ["track,first,second,minutes"]
-          + [f"{track},{first},{second},{headway(first, second, km)}" for track, _, _, km in sections()
-             for first in TYPES for second in TYPES])
+          + [f"{track},{first},{second},{headway(first, second, km)}" for track, _, _, km, kinds in sections()
+             for first in kinds for second in kinds])
+    write("net/crossings.csv", ["first_track,second_track,first,second,minutes"]
+          + [f"{a}-{b},{b}-{a},{first},{second},{crossing(first, km)}" for track, a, b, km, _ in sections() if is_single(a, b)
+             for first in ON_BRANCH for second in ON_BRANCH])
+
+
+def is_single(a, b):
+    """Whether the two tracks between the stations are one single track."""
+    return {a, b} <= {name for name, _ in BRANCH}
 
 
 def way(origin, destination):
     """The kilometres of each track from a station to another."""
-    ends = {a: {} for _, a, _, _ in sections()}
-    for _, a, b, km in sections():
+    ends = {a: {} for _, a, *_ in sections()}
+    for _, a, b, km, _ in sections():
         ends[a][b] = km
     waiting, seen = [(origin, [])], {origin}
     while waiting:
@@ -114,18 +136,18 @@ BIDS = [
     ("R12", "Coastline", "regional", "Capital", "Junction", 370, 3, 8, 40000, [("Upton", 1, 2), ("Lakeside", 1, 2), ("Aldbury", 1, 2)]),
     ("R13", "Coastline", "regional", "Junction", "Capital", 445, 3, 8, 40000, [("Aldbury", 1, 2), ("Lakeside", 1, 2), ("Upton", 1, 2)]),
     ("R14", "Coastline", "regional", "Capital", "Junction", 430, 3, 8, 40000, [("Upton", 1, 2), ("Lakeside", 1, 2), ("Aldbury", 1, 2)]),
-    ("B1", "Valley", "regional", "Junction", "Mine", 375, 5, 10, 20000, [("Glen", 1, 2)]),
-    ("B2", "Valley", "regional", "Mine", "Junction", 375, 5, 10, 20000, [("Glen", 1, 2)]),
-    ("B3", "Valley", "regional", "Junction", "Mine", 435, 5, 10, 20000, [("Glen", 1, 2)]),
-    ("B4", "Valley", "regional", "Mine", "Junction", 435, 5, 10, 20000, [("Glen", 1, 2)]),
-    ("V1", "Valley", "regional", "Mine", "Capital", 383, 5, 10, 45000, [("Junction", 2, 3), ("Aldbury", 1, 2)]),
-    ("O1", "Orehaul", "freight", "Mine", "Seaport", 440, 2, 6, 35000, [("Junction", 2, 3)]),
-    ("O2", "Orehaul", "freight", "Seaport", "Mine", 380, 2, 6, 35000, [("Junction", 2, 3)]),
     ("F1", "Orehaul", "freight", "Seaport", "Capital", 392, 0, 0, 50000, [("Kirkby", 0, 1)]),
     ("F2", "Northfreight", "freight", "Seaport", "Capital", 392, 0, 0, 52000, [("Kirkby", 0, 1)]),
     ("F3", "Northfreight", "freight", "Capital", "Seaport", 396, 2, 6, 45000, [("Aldbury", 0, 20)]),
     ("F4", "Northfreight", "freight", "Lakeside", "Seaport", 470, 2, 6, 30000, [("Junction", 0, 1)]),
     ("F5", "Northfreight", "freight", "Seaport", "Lakeside", 488, 2, 6, 30000, [("Kirkby", 0, 1)]),
+    ("B1", "Coastline", "regional", "Junction", "Mine", 365, 0, 0, 20000, [("Quarry", 1, 4), ("Glen", 1, 1)]),
+    ("B2", "Coastline", "regional", "Mine", "Junction", 360, 2, 2, 20000, [("Glen", 1, 1), ("Quarry", 1, 4)]),
+    ("B3", "Coastline", "regional", "Junction", "Mine", 435, 0, 0, 22000, [("Quarry", 1, 1), ("Glen", 1, 1)]),
+    ("B4", "Coastline", "regional", "Mine", "Junction", 444, 0, 0, 20000, [("Glen", 1, 1), ("Quarry", 1, 1)]),
+    ("V1", "Coastline", "regional", "Mine", "Capital", 391, 1, 3, 45000, [("Junction", 2, 3), ("Aldbury", 1, 2)]),
+    ("O1", "Orehaul", "freight", "Mine", "Seaport", 466, 2, 6, 35000, [("Junction", 2, 3)]),
+    ("O2", "Orehaul", "freight", "Seaport", "Mine", 380, 2, 6, 35000, [("Junction", 3, 12)]),
 ]
 
 HEADER = ("bid,bidder,type,origin,destination,depart_from,depart_ideal,depart_to,arrive_from,arrive_ideal,arrive_to,base,early_depart,"
