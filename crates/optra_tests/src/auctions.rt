@@ -2,12 +2,13 @@
 ghost use Rattle.std.specs.Prelude.{IfOk};
 ghost use Rattle.optra_auction.specs.Machine.{AreSpecs};
 
-use crate::instances::{PLAIN, network};
+use crate::instances::{Check, PLAIN, check_read};
 use optra_auction::{Auction, Refusal, Rules};
 use optra_bid::Bid;
-use optra_network::{Cents, NetRefusal};
+use optra_network::{Cents, NetRefusal, Network};
 use optra_rounds::take_actions;
 use optra_tables::{Kind, ReadError, Table, TableFault, read_actions, read_bids, read_rules};
+use optra_walk::Instance;
 use std::alloc::Global;
 use std::process::Abort;
 use std::test::Fail;
@@ -149,15 +150,13 @@ static ROUNDS: [Round; 4] = [
 ];
 
 /// A slot with a reserve of 500, and a later one with a reserve of 1,100.
-fn specs(alloc: Global) -> Result<Vec<Bid>, ReadError>
+fn specs(alloc: Global, net: &Network) -> Result<Vec<Bid>, ReadError>
     ensures { IfOk result (λ specs. AreSpecs specs.items) }
 {
-    let net = network(alloc, &PLAIN)?;
     let bids =
         "bid,bidder,type,origin,destination,depart_from,depart_ideal,depart_to,arrive_from,arrive_ideal,arrive_to,base,early_depart,late_depart,early_arrive,late_arrive,travel,wait,wait_max\ns1,ann,ic,A,B,2,2,2,0,16,60,500,0,0,0,0,0,0,0\ns2,ann,ic,A,B,20,20,20,0,34,60,1100,0,0,0,0,0,0,0\n";
     let stops = "bid,station,min_dwell,max_dwell,arrive_from,arrive_to\n";
-    let specs = read_bids(alloc, &net, bids.as_bytes(), stops.as_bytes())?;
-    Ok(specs)
+    read_bids(alloc, net, bids.as_bytes(), stops.as_bytes())
 }
 
 /// Takes the actions of a round and closes it, where the auction isn't closed.
@@ -184,19 +183,27 @@ fn check_awards(rt: &impl Abort, auction: &Auction, awards: &[Option<Cents>]) {
     }
 }
 
-#[test]
-fn an_auction_takes_and_refuses_round_by_round(rt: HostRuntime) -> Result<(), Fail> {
-    let alloc = rt.alloc();
-    let mut auction = Auction::new(
-        alloc,
-        specs(alloc)?,
-        read_rules(alloc, RULES[0].0.as_bytes())?,
-    )?;
+fn check_rounds(rt: &(impl Abort + AllocGlobal), auction: &mut Auction) -> Result<(), Fail> {
     for round in &ROUNDS {
-        play(&rt, alloc, &mut auction, round)?;
-        check_awards(&rt, &auction, round.awards);
+        play(rt, rt.alloc(), auction, round)?;
+        check_awards(rt, auction, round.awards);
     }
     assert!(rt; auction.closed());
     assert_eq!(rt; auction.round(), 3);
     Ok(())
+}
+
+struct Rounds;
+
+impl Check for Rounds {
+    fn check<R: Abort + AllocGlobal>(&self, rt: &R, inst: Instance<'_>) -> Result<(), Fail> {
+        let specs = specs(rt.alloc(), inst.net)?;
+        let mut auction = Auction::new(rt.alloc(), specs, RAISES)?;
+        check_rounds(rt, &mut auction)
+    }
+}
+
+#[test]
+fn an_auction_takes_and_refuses_round_by_round(rt: HostRuntime) -> Result<(), Fail> {
+    check_read(&rt, &PLAIN, &Rounds)
 }

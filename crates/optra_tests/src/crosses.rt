@@ -1,8 +1,9 @@
 //! Rows of crossings, at values worked by hand.
-use crate::crossings::{CROSSED, network};
+use crate::crossings::LINE;
+use crate::instances::{Check, check_read};
 use optra_cross::{CRow, CrossRows};
 use optra_network::{Network, TrackId, TypeId};
-use optra_walk::{Action, Leg, RowFamily};
+use optra_walk::{Action, Instance, Leg, RowFamily};
 use std::process::Abort;
 use std::test::Fail;
 
@@ -51,12 +52,19 @@ static TOUCHED: [(u16, u16, u32, Option<Numbers>); 11] = [
     (1, 100, 18, None),
 ];
 
+struct RowsTouched;
+
+impl Check for RowsTouched {
+    fn check<R: Abort + AllocGlobal>(&self, rt: &R, inst: Instance<'_>) -> Result<(), Fail> {
+        for (track, depart, k, want) in &TOUCHED {
+            let found = touched(rt, inst.net, *track, *depart, *k);
+            assert_eq!(rt; found, want.map(row), "{track} {depart} {k}");
+        }
+        Ok(())
+    }
+}
+
 #[test]
 fn a_leg_uses_the_rows_of_uses_that_come_too_near(rt: HostRuntime) -> Result<(), Fail> {
-    let net = network(&rt, rt.alloc(), &CROSSED)?;
-    for (track, depart, k, want) in &TOUCHED {
-        let found = touched(&rt, &net, *track, *depart, *k);
-        assert_eq!(rt; found, want.map(row), "{track} {depart} {k}");
-    }
-    Ok(())
+    check_read(&rt, &LINE, &RowsTouched)
 }

@@ -142,14 +142,23 @@ fn check_calls(
     Ok(())
 }
 
+/// Makes calls of a disk with this room, of which these fail.
+fn check_disk(
+    rt: &(impl Abort + AllocGlobal),
+    room: u64,
+    fails: &[u64],
+    calls: &[(Call, Result<u64, DiskFailed>)],
+) -> Result<(), Fail> {
+    let alloc = rt.alloc();
+    let mut disk = MemoryDisk::new(alloc, room, Vec::from_slice(alloc, fails)?)?;
+    check_calls(rt, &mut disk, calls)?;
+    Ok(())
+}
+
 #[test]
 fn a_disk_in_memory_fails_where_it_is_told(rt: HostRuntime) -> Result<(), Fail> {
-    let alloc = rt.alloc();
-    let mut full = MemoryDisk::new(alloc, 131, Vec::new(alloc))?;
-    check_calls(&rt, &mut full, &FULL)?;
-    let mut failing = MemoryDisk::new(alloc, 1000, Vec::from_slice(alloc, &[3])?)?;
-    check_calls(&rt, &mut failing, &FAILING)?;
-    Ok(())
+    check_disk(&rt, 131, &[], &FULL)?;
+    check_disk(&rt, 1000, &[3], &FAILING)
 }
 
 /// Writes and syncs a file, and writes over a part of it.

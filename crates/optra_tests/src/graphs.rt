@@ -3,7 +3,7 @@ ghost use Rattle.std.specs.Prelude.{◌≡◌, All};
 ghost use Rattle.optra_bid.specs.Specs.{IsPathOn};
 ghost use Rattle.optra_bid.specs.Instances.{IsInstance};
 
-use crate::instances::{PLAIN, Rows, read};
+use crate::instances::{Check, PLAIN, Rows, check_read};
 use optra_bid::Bid;
 use optra_dag::{Weight, first_best};
 use optra_graph::{Builds, FreshGraphs, Graphs, TimeGraph, build};
@@ -127,44 +127,56 @@ fn check_served<G: Graphs>(
     Ok(())
 }
 
+/// Graphs that are served are built once each.
+fn check_fresh(rt: &(impl Abort + AllocGlobal), inst: Instance<'_>) -> Result<(), NoMemory>
+    requires { All (λ bid. IsPathOn inst.net.now bid.path) inst.bids.now }
+{
+    let mut graphs = FreshGraphs::new(inst.net);
+    check_served(rt, inst, &mut graphs)?;
+    assert_eq!(rt; graphs.builds(), 9);
+    Ok(())
+}
+
+/// A store builds the graph of a bid when it is asked for, and keeps it.
+fn check_asked(
+    rt: &impl Abort,
+    store: &mut GraphStore<'_>,
+    bid: &Bid,
+    want: u32,
+) -> Result<(), NoMemory> {
+    assert!(rt; !store.holds(bid));
+    let arcs = store.graph_for(bid)?.dag().arcs();
+    assert_eq!(rt; arcs, want);
+    assert!(rt; store.holds(bid));
+    Ok(())
+}
+
 /// A store builds each graph once and keeps it.
 fn check_kept(rt: &(impl Abort + AllocGlobal), inst: Instance<'_>) -> Result<(), NoMemory>
     requires { All (λ bid. IsPathOn inst.net.now bid.path) inst.bids.now }
 {
     let mut store = GraphStore::new(rt.alloc(), inst.net)?;
+    if let Some(bid) = inst.bids.first() {
+        check_asked(rt, &mut store, bid, GRAPHS[0].0)?;
+    }
+    assert_eq!(rt; store.builds(), 1);
     check_served(rt, inst, &mut store)?;
     assert_eq!(rt; store.builds(), 9);
-    let mut other = GraphStore::new(rt.alloc(), inst.net)?;
-    let Some(bid) = inst.bids.first() else {
-        return Ok(());
-    };
-    assert!(rt; store.holds(bid));
-    assert!(rt; !other.holds(bid));
-    let arcs = other.graph_for(bid)?.dag().arcs();
-    assert_eq!(rt; arcs, GRAPHS[0].0);
-    assert!(rt; other.holds(bid));
-    assert_eq!(rt; other.builds(), 1);
     Ok(())
 }
 
-fn check_all(rt: &(impl Abort + AllocGlobal), inst: Instance<'_>) -> Result<(), NoMemory>
-    requires { All (λ bid. IsPathOn inst.net.now bid.path) inst.bids.now }
-{
-    check_built(rt, inst)?;
-    let mut graphs = FreshGraphs::new(inst.net);
-    check_served(rt, inst, &mut graphs)?;
-    assert_eq!(rt; graphs.builds(), 9);
-    check_kept(rt, inst)?;
-    Ok(())
+struct Counted;
+
+impl Check for Counted {
+    fn check<R: Abort + AllocGlobal>(&self, rt: &R, inst: Instance<'_>) -> Result<(), Fail> {
+        check_built(rt, inst)?;
+        check_fresh(rt, inst)?;
+        check_kept(rt, inst)?;
+        Ok(())
+    }
 }
 
 #[test]
 fn graphs_have_the_arcs_that_were_counted_by_hand(rt: HostRuntime) -> Result<(), Fail> {
-    let held = read(rt.alloc(), &BIDS)?;
-    let inst = Instance {
-        net: &held.net,
-        bids: &held.bids,
-    };
-    check_all(&rt, inst)?;
-    Ok(())
+    check_read(&rt, &BIDS, &Counted)
 }

@@ -6,8 +6,10 @@ ghost use Rattle.optra_walk.specs.Choices.{IsChoice};
 use optra_bid::Bid;
 use optra_network::Network;
 use optra_tables::{NetFiles, ReadError, read_bids, read_network, version};
-use optra_walk::{Walk, follows};
+use optra_walk::{Instance, Walk, follows};
 use std::alloc::{AllocError, Global};
+use std::process::Abort;
+use std::test::Fail;
 
 /// The rows of the tables, without their headers.
 #[derive(Clone, Copy)]
@@ -45,13 +47,6 @@ pub static PAIRS: Rows = Rows {
     ..PLAIN
 };
 
-/// A network and its bids.
-#[derive(Drop)]
-pub struct Held {
-    pub net: Network,
-    pub bids: Vec<Bid>,
-}
-
 /// A table: a header and the rows under it.
 fn table(alloc: Global, header: &str, rows: &str) -> Result<String, AllocError> {
     let mut text = String::from_str(alloc, header)?;
@@ -80,7 +75,7 @@ fn crossings_in(version: u8, crossings: &str) -> Option<&[u8]>
 }
 
 /// The network that the tables mean.
-pub fn network(alloc: Global, rows: &Rows) -> Result<Network, ReadError> {
+fn network(alloc: Global, rows: &Rows) -> Result<Network, ReadError> {
     let stations = table(alloc, stations_header(rows), rows.stations)?;
     let tracks = table(alloc, "track,from,to", rows.tracks)?;
     let types = table(alloc, "type", rows.types)?;
@@ -109,7 +104,7 @@ pub fn network(alloc: Global, rows: &Rows) -> Result<Network, ReadError> {
 }
 
 /// The bids that the tables mean on a network.
-pub fn bids(alloc: Global, net: &Network, rows: &Rows) -> Result<Vec<Bid>, ReadError>
+fn bids(alloc: Global, net: &Network, rows: &Rows) -> Result<Vec<Bid>, ReadError>
     ensures { IfOk result (λ bids. IsInstance net.now bids.items) }
 {
     let header =
@@ -120,13 +115,34 @@ pub fn bids(alloc: Global, net: &Network, rows: &Rows) -> Result<Vec<Bid>, ReadE
     read_bids(alloc, net, bids.as_bytes(), stops.as_bytes())
 }
 
-/// The network and the bids that the tables mean.
-pub fn read(alloc: Global, rows: &Rows) -> Result<Held, ReadError>
-    ensures { IfOk result (λ held. IsInstance held.net held.bids.items) }
-{
-    let net = network(alloc, rows)?;
-    let bids = bids(alloc, &net, rows)?;
-    Ok(Held { net, bids })
+/// What is asked of a network and its bids.
+///
+/// A function that owns a network is dear to prove, and the dearer the more it does. So one function owns each that is
+/// read, and lends it to a check.
+pub trait Check {
+    fn check<R: Abort + AllocGlobal>(&self, rt: &R, inst: Instance<'_>) -> Result<(), Fail>
+        requires { IsInstance inst.net.now inst.bids.now };
+}
+
+/// Checks a network and the bids that the tables mean on it.
+fn check_bids<C: Check>(
+    rt: &(impl Abort + AllocGlobal),
+    net: &Network,
+    rows: &Rows,
+    check: &C,
+) -> Result<(), Fail> {
+    let bids = bids(rt.alloc(), net, rows)?;
+    check.check(rt, Instance { net, bids: &bids })
+}
+
+/// Checks what the tables mean.
+pub fn check_read<C: Check>(
+    rt: &(impl Abort + AllocGlobal),
+    rows: &Rows,
+    check: &C,
+) -> Result<(), Fail> {
+    let net = network(rt.alloc(), rows)?;
+    check_bids(rt, &net, rows, check)
 }
 
 /// Whether there is an entry for each bid, and each that is there is a walk of its bid.

@@ -42,6 +42,4 @@ mod tables;
 #[cfg(test)]
 mod texts;
 #[cfg(test)]
-mod trees;
-#[cfg(test)]
 mod walks;

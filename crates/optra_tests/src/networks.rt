@@ -1,6 +1,7 @@
 //! What a network says of its tables, and when two uses of a track are in conflict.
-use crate::instances::{PLAIN, Rows, read};
+use crate::instances::{Check, PLAIN, Rows, check_read};
 use optra_network::{Network, StationId, TrackId, TrackUse, TypeId, conflict};
+use optra_walk::Instance;
 use std::process::Abort;
 use std::test::Fail;
 
@@ -108,14 +109,21 @@ fn check_minutes(rt: &impl Abort, net: &Network) {
     }
 }
 
+struct Says;
+
+impl Check for Says {
+    fn check<R: Abort + AllocGlobal>(&self, rt: &R, inst: Instance<'_>) -> Result<(), Fail> {
+        check_stations(rt, inst.net);
+        check_tracks(rt, inst.net);
+        check_types(rt, inst.net);
+        check_minutes(rt, inst.net);
+        Ok(())
+    }
+}
+
 #[test]
 fn a_network_says_what_its_tables_say(rt: HostRuntime) -> Result<(), Fail> {
-    let net = read(rt.alloc(), &SMALL)?.net;
-    check_stations(&rt, &net);
-    check_tracks(&rt, &net);
-    check_types(&rt, &net);
-    check_minutes(&rt, &net);
-    Ok(())
+    check_read(&rt, &SMALL, &Says)
 }
 
 /// Whether a train of one type at 200 is in conflict with one of another type at a time, on the first track.
@@ -151,15 +159,19 @@ static CONFLICTS: [(u16, u16, bool); 9] = [
     (0, 204, false),
 ];
 
+struct Conflicts;
+
+impl Check for Conflicts {
+    fn check<R: Abort + AllocGlobal>(&self, rt: &R, inst: Instance<'_>) -> Result<(), Fail> {
+        for (second, time, want) in &CONFLICTS {
+            let found = meets(rt, inst.net, 0, *second, *time);
+            assert_eq!(rt; found, *want, "{second} at {time}");
+        }
+        Ok(())
+    }
+}
+
 #[test]
 fn conflicts_end_at_the_headway(rt: HostRuntime) -> Result<(), Fail> {
-    let net = read(rt.alloc(), &SMALL)?.net;
-    for (second, time, want) in &CONFLICTS {
-        assert_eq!(rt;
-            meets(&rt, &net, 0, *second, *time),
-            *want,
-            "{second} at {time}"
-        );
-    }
-    Ok(())
+    check_read(&rt, &SMALL, &Conflicts)
 }

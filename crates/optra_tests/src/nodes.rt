@@ -9,7 +9,7 @@ ghost use Rattle.optra_node.specs.Nodes.{IsNode};
 
 use crate::decisions::At::{Halt, Out, Pass, Stop, Through};
 use crate::decisions::{AB, At, Decided, leg, node_of};
-use crate::instances::{PAIRS, PLAIN, Rows, read};
+use crate::instances::{Check, PAIRS, PLAIN, Rows, check_read};
 use optra_graph::{FreshGraphs, Graphs};
 use optra_network::{Minute, NoMemory, TypeId};
 use optra_node::{Node, Summary, is_formed_leg};
@@ -364,26 +364,23 @@ fn check_lets(
     Ok(())
 }
 
-fn check_all_lets(
-    rt: &(impl Abort + AllocGlobal),
-    rows: &Rows,
-    cases: &[LetCase],
-) -> Result<(), Fail> {
-    let held = read(rt.alloc(), rows)?;
-    let inst = Instance {
-        net: &held.net,
-        bids: &held.bids,
-    };
-    for case in cases {
-        check_lets(rt, inst, case)?;
+/// What nodes let.
+#[derive(Clone, Copy)]
+struct Lets(&'static [LetCase]);
+
+impl Check for Lets {
+    fn check<R: Abort + AllocGlobal>(&self, rt: &R, inst: Instance<'_>) -> Result<(), Fail> {
+        for case in self.0 {
+            check_lets(rt, inst, case)?;
+        }
+        Ok(())
     }
-    Ok(())
 }
 
 #[test]
 fn a_leg_is_let_where_no_decision_is_against_it(rt: HostRuntime) -> Result<(), Fail> {
-    check_all_lets(&rt, &PAIRS, &LETS)?;
-    check_all_lets(&rt, &TWO_BIDS, &SPANS)
+    check_read(&rt, &PAIRS, &Lets(&LETS))?;
+    check_read(&rt, &TWO_BIDS, &Lets(&SPANS))
 }
 
 /// Why the node is dead.
@@ -423,17 +420,21 @@ fn check_dead(
     Ok(())
 }
 
+/// Why nodes are dead.
+struct Deads;
+
+impl Check for Deads {
+    fn check<R: Abort + AllocGlobal>(&self, rt: &R, inst: Instance<'_>) -> Result<(), Fail> {
+        for case in &DEADS {
+            check_dead(rt, inst, case)?;
+        }
+        Ok(())
+    }
+}
+
 #[test]
 fn a_node_is_dead_for_its_least_overfull_row_or_first_stuck_bid(
     rt: HostRuntime,
 ) -> Result<(), Fail> {
-    let held = read(rt.alloc(), &PAIRS)?;
-    let inst = Instance {
-        net: &held.net,
-        bids: &held.bids,
-    };
-    for case in &DEADS {
-        check_dead(&rt, inst, case)?;
-    }
-    Ok(())
+    check_read(&rt, &PAIRS, &Deads)
 }

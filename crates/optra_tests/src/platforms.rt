@@ -2,10 +2,11 @@
 ghost use Rattle.std.specs.Prelude.{◌≡◌, true};
 ghost use Rattle.optra_walk.specs.Legs.{dwell_of};
 
-use crate::crossings::{LINE, network};
+use crate::crossings::LINE;
+use crate::instances::{Check, check_read};
 use optra_network::{Network, StationId, TrackId, TypeId};
 use optra_platform::{PRow, PlatformRows};
-use optra_walk::{Action, Leg, RowFamily};
+use optra_walk::{Action, Instance, Leg, RowFamily};
 use std::process::Abort;
 use std::test::Fail;
 
@@ -65,18 +66,25 @@ static TOUCHED: [(u16, u16, Action, u32, Option<u16>); 14] = [
     (1, 0, Action::Halt(5), 0, None),
 ];
 
+struct RowsTouched;
+
+impl Check for RowsTouched {
+    fn check<R: Abort + AllocGlobal>(&self, rt: &R, inst: Instance<'_>) -> Result<(), Fail> {
+        for (track, depart, action, k, minute) in &TOUCHED {
+            let row = touched(rt, inst.net, *track, *depart, *action, *k);
+            let want = minute.map(|minute| PRow {
+                station: StationId(1),
+                minute,
+            });
+            assert_eq!(rt; row, want, "{track} {depart} {k}");
+        }
+        Ok(())
+    }
+}
+
 #[test]
 fn a_leg_uses_the_minutes_in_which_it_stands(rt: HostRuntime) -> Result<(), Fail> {
-    let net = network(&rt, rt.alloc(), &LINE)?;
-    for (track, depart, action, k, minute) in &TOUCHED {
-        let row = touched(&rt, &net, *track, *depart, *action, *k);
-        let want = minute.map(|minute| PRow {
-            station: StationId(1),
-            minute,
-        });
-        assert_eq!(rt; row, want, "{track} {depart} {k}");
-    }
-    Ok(())
+    check_read(&rt, &LINE, &RowsTouched)
 }
 
 /// How much a halt of 5 minutes at the limited station, from minute 10 on, uses of a row.
@@ -91,30 +99,43 @@ fn used(rt: &impl Abort, net: &Network, station: u16, minute: u16) -> u32 {
     PlatformRows::new().leg_use(net, IC, leg(0, 0, action), row)
 }
 
+/// A station, a minute, and how much the halt uses there.
+static USED: [(u16, u16, u32); 5] = [(1, 9, 0), (1, 10, 1), (1, 14, 1), (1, 15, 0), (0, 10, 0)];
+
+/// A station, a minute, and how many trains may stand there, where that is a row.
+static ROWS: [(u16, u16, Option<u32>); 3] = [(1, 2879, Some(1)), (1, 2880, None), (0, 2879, None)];
+
+/// How many trains may stand at a station in a minute, where that is a row.
+fn limit(net: &Network, station: u16, minute: u16) -> Option<u32> {
+    let row = PRow {
+        station: StationId(station),
+        minute,
+    };
+    let rows = PlatformRows::new();
+    if rows.is_row(net, row) {
+        Some(rows.cap(net, row))
+    } else {
+        None
+    }
+}
+
+struct Limits;
+
+impl Check for Limits {
+    fn check<R: Abort + AllocGlobal>(&self, rt: &R, inst: Instance<'_>) -> Result<(), Fail> {
+        for (station, minute, want) in &USED {
+            let uses = used(rt, inst.net, *station, *minute);
+            assert_eq!(rt; uses, *want, "{station} {minute}");
+        }
+        for (station, minute, want) in &ROWS {
+            let limit = limit(inst.net, *station, *minute);
+            assert_eq!(rt; limit, *want, "{station} {minute}");
+        }
+        Ok(())
+    }
+}
+
 #[test]
 fn a_station_has_rows_up_to_its_limit(rt: HostRuntime) -> Result<(), Fail> {
-    let net = network(&rt, rt.alloc(), &LINE)?;
-    assert_eq!(rt; used(&rt, &net, 1, 9), 0);
-    assert_eq!(rt; used(&rt, &net, 1, 10), 1);
-    assert_eq!(rt; used(&rt, &net, 1, 14), 1);
-    assert_eq!(rt; used(&rt, &net, 1, 15), 0);
-    assert_eq!(rt; used(&rt, &net, 0, 10), 0);
-    let rows = PlatformRows::new();
-    let row = PRow {
-        station: StationId(1),
-        minute: 2879,
-    };
-    assert!(rt; rows.is_row(&net, row));
-    assert_eq!(rt; rows.cap(&net, row), 1);
-    let late = PRow {
-        minute: 2880,
-        ..row
-    };
-    assert!(rt; !rows.is_row(&net, late));
-    let free = PRow {
-        station: StationId(0),
-        ..row
-    };
-    assert!(rt; !rows.is_row(&net, free));
-    Ok(())
+    check_read(&rt, &LINE, &Limits)
 }

@@ -9,13 +9,13 @@ ghost use Rattle.optra_rows.specs.TouchedLemmas.{row_cmp};
 
 use crate::decisions::At::Halt;
 use crate::decisions::{AB, Decided, node_of};
-use crate::instances::{PLAIN, Rows, read};
+use crate::instances::{Check, PLAIN, Rows, check_read};
 use optra_graph::{FreshGraphs, Graphs};
-use optra_network::{Cents, Minute, NoMemory};
+use optra_network::{Cents, Minute, Network, NoMemory};
 use optra_node::{Node, Prices};
 use optra_prices::deads::dead;
 use optra_prices::duals::dual;
-use optra_prices::{Dead, price_path, step};
+use optra_prices::{Dead, Dual, price_path, step};
 use optra_rows::{HRow, HeadwayRows};
 use optra_walk::{Instance, Walk};
 use std::alloc::Global;
@@ -149,6 +149,43 @@ fn check_departures(rt: &impl Abort, replies: &[Option<Walk>], want: &[Option<Mi
     }
 }
 
+/// No price at all.
+fn no_prices(alloc: Global) -> Prices<HRow>
+    ensures { (net : Network) → AreProper row_cmp (headway_rows net) result }
+{
+    Prices {
+        entries: Vec::new(alloc),
+    }
+}
+
+fn check_dual(rt: &impl Abort, found: &Dual, case: &Case) {
+    assert_eq!(rt; found.value, case.value);
+    assert_eq!(rt; found.terms.as_slice(), case.terms.as_slice());
+    check_departures(rt, &found.replies, &case.departures);
+}
+
+/// What becomes of a node.
+fn check_node<G: Graphs>(
+    rt: &(impl Abort + AllocGlobal),
+    inst: Instance<'_>,
+    graphs: &G,
+    node: &Node,
+    case: &Case,
+) -> Result<(), NoMemory>
+    requires instance { IsInstance inst.net.now inst.bids.now }
+    requires node { IsNode inst.net.now (length inst.bids.now) node.now }
+    requires network { G.network graphs.now ≡ inst.net.now }
+    requires held { All (λ bid. Contains (G.held graphs.now) bid.path) inst.bids.now }
+{
+    let alloc = rt.alloc();
+    let rows = HeadwayRows::new();
+    let reason = dead(alloc, inst, graphs, &rows, node)?;
+    assert_eq!(rt; reason, case.dead);
+    let found = dual(alloc, inst, graphs, &rows, node, &no_prices(alloc))?;
+    check_dual(rt, &found, case);
+    Ok(())
+}
+
 fn check_case<G: Graphs>(
     rt: &(impl Abort + AllocGlobal),
     inst: Instance<'_>,
@@ -159,18 +196,8 @@ fn check_case<G: Graphs>(
     requires network { G.network graphs.now ≡ inst.net.now }
     requires held { All (λ bid. Contains (G.held graphs.now) bid.path) inst.bids.now }
 {
-    let alloc = rt.alloc();
-    let rows = HeadwayRows::new();
     let node = node_of(rt, inst, case.decisions)?;
-    assert_eq!(rt; dead(alloc, inst, graphs, &rows, &node)?, case.dead);
-    let zero = Prices {
-        entries: Vec::new(alloc),
-    };
-    let found = dual(alloc, inst, graphs, &rows, &node, &zero)?;
-    assert_eq!(rt; found.value, case.value);
-    assert_eq!(rt; found.terms.as_slice(), case.terms.as_slice());
-    check_departures(rt, &found.replies, &case.departures);
-    Ok(())
+    check_node(rt, inst, graphs, &node, case)
 }
 
 fn check_all<G: Graphs>(
@@ -202,21 +229,22 @@ fn check_on_graphs(
     Ok(())
 }
 
-fn check_cases(rt: &(impl Abort + AllocGlobal), rows: &Rows, cases: &[Case]) -> Result<(), Fail> {
-    let held = read(rt.alloc(), rows)?;
-    let inst = Instance {
-        net: &held.net,
-        bids: &held.bids,
-    };
-    check_on_graphs(rt, inst, cases)?;
-    Ok(())
+/// Dual values at nodes.
+#[derive(Clone, Copy)]
+struct Cases(&'static [Case]);
+
+impl Check for Cases {
+    fn check<R: Abort + AllocGlobal>(&self, rt: &R, inst: Instance<'_>) -> Result<(), Fail> {
+        check_on_graphs(rt, inst, self.0)?;
+        Ok(())
+    }
 }
 
 #[test]
 fn a_node_has_a_dual_value_or_is_dead(rt: HostRuntime) -> Result<(), Fail> {
-    check_cases(&rt, &ONE_MINUTE, &ONE_MINUTE_CASES)?;
-    check_cases(&rt, &TWO_MINUTES, &TWO_MINUTES_CASES)?;
-    check_cases(&rt, &AT_A_LOSS, &AT_A_LOSS_CASES)
+    check_read(&rt, &ONE_MINUTE, &Cases(&ONE_MINUTE_CASES))?;
+    check_read(&rt, &TWO_MINUTES, &Cases(&TWO_MINUTES_CASES))?;
+    check_read(&rt, &AT_A_LOSS, &Cases(&AT_A_LOSS_CASES))
 }
 
 /// The price of each minute after steps 0 to 14 from zero prices: up while both bids reply, and down while none does.
@@ -257,6 +285,26 @@ fn check_prices(rt: &impl Abort, prices: &Prices<HRow>, want: i64) {
     }
 }
 
+/// After the last step either bid costs more than it brings.
+fn check_last<G: Graphs>(
+    rt: &(impl Abort + AllocGlobal),
+    inst: Instance<'_>,
+    graphs: &G,
+    node: &Node,
+    prices: &Prices<HRow>,
+) -> Result<(), NoMemory>
+    requires instance { IsInstance inst.net.now inst.bids.now }
+    requires node { IsNode inst.net.now (length inst.bids.now) node.now }
+    requires network { G.network graphs.now ≡ inst.net.now }
+    requires held { All (λ bid. Contains (G.held graphs.now) bid.path) inst.bids.now }
+    requires prices { AreProper row_cmp (headway_rows inst.net.now) prices.now }
+{
+    let last = dual(rt.alloc(), inst, graphs, &HeadwayRows::new(), node, prices)?;
+    assert_eq!(rt; last.value, 5 * 200173);
+    check_departures(rt, &last.replies, &[None, None]);
+    Ok(())
+}
+
 fn check_steps<G: Graphs>(
     rt: &(impl Abort + AllocGlobal),
     inst: Instance<'_>,
@@ -268,17 +316,12 @@ fn check_steps<G: Graphs>(
 {
     let alloc = rt.alloc();
     let root = Node::root(alloc);
-    let mut prices = Prices {
-        entries: Vec::new(alloc),
-    };
+    let mut prices = no_prices(alloc);
     for k in 0..15 {
         prices = stepped(alloc, inst, graphs, &root, &prices, k)?;
         check_prices(rt, &prices, STEP_PRICES[k as usize]);
     }
-    let last = dual(alloc, inst, graphs, &HeadwayRows::new(), &root, &prices)?;
-    assert_eq!(rt; last.value, 5 * 200173);
-    check_departures(rt, &last.replies, &[None, None]);
-    Ok(())
+    check_last(rt, inst, graphs, &root, &prices)
 }
 
 /// The price path of at most 15 steps from zero prices, whose last prices are too high for either bid.
@@ -296,9 +339,7 @@ fn check_result<G: Graphs>(
     let alloc = rt.alloc();
     let rows = HeadwayRows::new();
     let root = Node::root(alloc);
-    let zero = Prices {
-        entries: Vec::new(alloc),
-    };
+    let zero = no_prices(alloc);
     let found = price_path(alloc, inst, graphs, &rows, &root, &zero, 15, incumbent)?;
     check_prices(rt, &found.prices, want);
     assert_eq!(rt; found.dual.value, 5 * i128::from(want));
@@ -330,13 +371,16 @@ fn check_path_on_graphs(rt: &(impl Abort + AllocGlobal), inst: Instance<'_>) -> 
     Ok(())
 }
 
+struct Path;
+
+impl Check for Path {
+    fn check<R: Abort + AllocGlobal>(&self, rt: &R, inst: Instance<'_>) -> Result<(), Fail> {
+        check_path_on_graphs(rt, inst)?;
+        Ok(())
+    }
+}
+
 #[test]
 fn prices_rise_and_fall_by_the_replies(rt: HostRuntime) -> Result<(), Fail> {
-    let held = read(rt.alloc(), &ONE_MINUTE)?;
-    let inst = Instance {
-        net: &held.net,
-        bids: &held.bids,
-    };
-    check_path_on_graphs(&rt, inst)?;
-    Ok(())
+    check_read(&rt, &ONE_MINUTE, &Path)
 }

@@ -6,7 +6,7 @@ ghost use Rattle.optra_walk.specs.Choices.{IsChoice};
 ghost use Rattle.optra_node.specs.Nodes.{IsNode};
 ghost use Rattle.optra_prices.specs.Repairs.{IsRepair};
 
-use crate::instances::{PLAIN, Rows, are_walks, read};
+use crate::instances::{Check, PLAIN, Rows, are_walks, check_read};
 use optra_bid::Bid;
 use optra_graph::{FreshGraphs, Graphs};
 use optra_network::{Minute, NoMemory, TrackId};
@@ -22,7 +22,7 @@ use std::test::Fail;
 
 /// Repairs without tables of arcs, over any family and any graphs.
 #[derive(Clone, Copy)]
-pub struct PlainRepairer;
+struct PlainRepairer;
 
 impl<F: RowFamily, G: Graphs> Repairer<F, G> for PlainRepairer {
     fn repair(
@@ -79,7 +79,7 @@ fn walk(alloc: Global, bid: &Bid) -> Result<Walk, AllocError> {
 }
 
 /// A valuation in which each bid with a term replies by its walk at 100.
-fn dual(alloc: Global, bids: &[Bid], terms: &[Option<i128>]) -> Result<Dual, AllocError> {
+fn dual(alloc: Global, bids: &[Bid], terms: &[Option<i64>]) -> Result<Dual, AllocError> {
     let mut replies = Vec::new(alloc);
     let mut all = Vec::new(alloc);
     for (bid, term) in bids.iter().zip(terms.iter()) {
@@ -87,7 +87,7 @@ fn dual(alloc: Global, bids: &[Bid], terms: &[Option<i128>]) -> Result<Dual, All
             Some(_) => Some(walk(alloc, bid)?),
             None => None,
         })?;
-        all.push(term.unwrap_or(0))?;
+        all.push(i128::from(term.unwrap_or(0)))?;
     }
     Ok(Dual {
         value: 0,
@@ -113,11 +113,23 @@ fn repaired<'n, P: Repairer<HeadwayRows, FreshGraphs<'n>>>(
     repairer.repair(alloc, inst, &graphs, &HeadwayRows::new(), &node, dual)
 }
 
-/// The trains of a repair of an instance depart at these minutes.
+/// The trains of a choice depart at these minutes.
+fn check_choice(rt: &impl Abort, choice: &Choice, want: &[Option<Minute>]) {
+    assert_eq!(rt; choice.walks.len(), want.len());
+    for (walk, minute) in choice.walks.iter().zip(want) {
+        let departure = match walk {
+            Some(walk) => walk.legs.first().map(|leg| leg.depart),
+            None => None,
+        };
+        assert_eq!(rt; departure, *minute);
+    }
+}
+
+/// The trains of a repair depart at these minutes.
 fn check_on(
     rt: &(impl Abort + AllocGlobal),
     inst: Instance<'_>,
-    terms: &[Option<i128>],
+    terms: &[Option<i64>],
     want: &[Option<Minute>],
 ) -> Result<(), NoMemory>
     requires { IsInstance inst.net.now inst.bids.now }
@@ -127,44 +139,58 @@ fn check_on(
     assert!(rt; dual.terms.len() == inst.bids.len());
     assert!(rt; are_walks(inst.net, inst.bids, &dual.replies));
     let choice = repaired(alloc, inst, &PlainRepairer, &dual)?;
-    assert_eq!(rt; choice.walks.len(), want.len());
-    for (walk, minute) in choice.walks.iter().zip(want) {
-        let departure = match walk {
-            Some(walk) => walk.legs.first().map(|leg| leg.depart),
-            None => None,
-        };
-        assert_eq!(rt; departure, *minute);
-    }
+    check_choice(rt, &choice, want);
     Ok(())
 }
 
-/// The trains of a repair depart at these minutes.
-fn check(
-    rt: &(impl Abort + AllocGlobal),
-    rows: &Rows,
-    terms: &[Option<i128>],
-    want: &[Option<Minute>],
-) -> Result<(), Fail> {
-    let held = read(rt.alloc(), rows)?;
-    let inst = Instance {
-        net: &held.net,
-        bids: &held.bids,
-    };
-    check_on(rt, inst, terms, want)?;
-    Ok(())
+/// The terms of a valuation, and when the trains of its repair depart.
+struct Case {
+    terms: &'static [Option<i64>],
+    departures: &'static [Option<Minute>],
+}
+
+static RICH_AND_POOR_CASES: [Case; 4] = [
+    Case {
+        terms: &[Some(700), Some(500)],
+        departures: &[Some(100), None],
+    },
+    Case {
+        terms: &[Some(500), Some(700)],
+        departures: &[Some(160), Some(100)],
+    },
+    Case {
+        terms: &[Some(500), Some(500)],
+        departures: &[Some(100), None],
+    },
+    Case {
+        terms: &[None, Some(1)],
+        departures: &[Some(160), Some(100)],
+    },
+];
+
+static ROUND_AND_SINGLE_CASES: [Case; 1] = [Case {
+    terms: &[Some(900), Some(500)],
+    departures: &[None, Some(100)],
+}];
+
+#[derive(Clone, Copy)]
+struct Repairs(&'static [Case]);
+
+impl Check for Repairs {
+    fn check<R: Abort + AllocGlobal>(&self, rt: &R, inst: Instance<'_>) -> Result<(), Fail> {
+        for case in self.0 {
+            check_on(rt, inst, case.terms, case.departures)?;
+        }
+        Ok(())
+    }
 }
 
 #[test]
 fn the_greater_contribution_departs_first(rt: HostRuntime) -> Result<(), Fail> {
-    let rows = &RICH_AND_POOR;
-    check(&rt, rows, &[Some(700), Some(500)], &[Some(100), None])?;
-    check(&rt, rows, &[Some(500), Some(700)], &[Some(160), Some(100)])?;
-    check(&rt, rows, &[Some(500), Some(500)], &[Some(100), None])?;
-    check(&rt, rows, &[None, Some(1)], &[Some(160), Some(100)])
+    check_read(&rt, &RICH_AND_POOR, &Repairs(&RICH_AND_POOR_CASES))
 }
 
 #[test]
 fn a_train_in_its_own_way_leaves_nothing_behind(rt: HostRuntime) -> Result<(), Fail> {
-    let rows = &ROUND_AND_SINGLE;
-    check(&rt, rows, &[Some(900), Some(500)], &[None, Some(100)])
+    check_read(&rt, &ROUND_AND_SINGLE, &Repairs(&ROUND_AND_SINGLE_CASES))
 }

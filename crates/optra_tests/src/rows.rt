@@ -6,11 +6,11 @@ ghost use Rattle.optra_rows.specs.Loads.{total_of};
 ghost use Rattle.optra_rows.specs.TouchedLemmas.{row_cmp};
 
 use crate::decisions::AB;
-use crate::instances::{PAIRS, PLAIN, Rows, read};
+use crate::instances::{Check, PAIRS, PLAIN, Rows, check_read};
 use optra_network::{Network, NoMemory, TrackId, TrackUse, TypeId, conflict};
 use optra_rows::HRow::{Pair, Window};
 use optra_rows::{Both, Either, HRow, HeadwayRows, Load};
-use optra_walk::{Action, Leg, RowFamily};
+use optra_walk::{Action, Instance, Leg, RowFamily};
 use std::alloc::Global;
 use std::process::Abort;
 use std::test::Fail;
@@ -90,16 +90,23 @@ static USES: [(Case, [u32; 3]); 8] = [
     (At(6), [0, 0, 1]),
 ];
 
+struct Uses;
+
+impl Check for Uses {
+    fn check<R: Abort + AllocGlobal>(&self, rt: &R, inst: Instance<'_>) -> Result<(), Fail> {
+        for (case, uses) in &USES {
+            let row = row_of(*case);
+            assert_eq!(rt; used(rt, inst.net, X, 0, row), uses[0], "x at {case:?}");
+            assert_eq!(rt; used(rt, inst.net, Y, 3, row), uses[1], "y at {case:?}");
+            assert_eq!(rt; used(rt, inst.net, Z, 6, row), uses[2], "z at {case:?}");
+        }
+        Ok(())
+    }
+}
+
 #[test]
 fn three_uses_have_three_pair_rows_and_no_common_window(rt: HostRuntime) -> Result<(), Fail> {
-    let net = read(rt.alloc(), &PAIRS)?.net;
-    for (case, uses) in &USES {
-        let row = row_of(*case);
-        assert_eq!(rt; used(&rt, &net, X, 0, row), uses[0], "x at {case:?}");
-        assert_eq!(rt; used(&rt, &net, Y, 3, row), uses[1], "y at {case:?}");
-        assert_eq!(rt; used(&rt, &net, Z, 6, row), uses[2], "z at {case:?}");
-    }
-    Ok(())
+    check_read(&rt, &PAIRS, &Uses)
 }
 
 /// The rows of a type's use by place: in the day, at its first minutes, and at its last one.
@@ -124,14 +131,25 @@ static TOUCHED: [(TypeId, u16, u32, Option<Case>); 18] = [
     (Y, 2879, 8192, None),
 ];
 
+struct Listed;
+
+impl Check for Listed {
+    fn check<R: Abort + AllocGlobal>(&self, rt: &R, inst: Instance<'_>) -> Result<(), Fail> {
+        for (kind, depart, k, case) in &TOUCHED {
+            let row = case.map(row_of);
+            assert_eq!(rt;
+                touched(rt, inst.net, *kind, *depart, *k),
+                row,
+                "{depart} {k}"
+            );
+        }
+        Ok(())
+    }
+}
+
 #[test]
 fn rows_are_listed_in_their_order_and_end_with_the_day(rt: HostRuntime) -> Result<(), Fail> {
-    let net = read(rt.alloc(), &PAIRS)?.net;
-    for (kind, depart, k, case) in &TOUCHED {
-        let row = case.map(row_of);
-        assert_eq!(rt; touched(&rt, &net, *kind, *depart, *k), row, "{depart} {k}");
-    }
-    Ok(())
+    check_read(&rt, &PAIRS, &Listed)
 }
 
 /// Values that are rows, and values that are none.
@@ -145,19 +163,30 @@ static ROWS: [(Case, bool); 7] = [
     (Two(2877, X, 2880, Y), false),
 ];
 
+struct AreRows;
+
+impl Check for AreRows {
+    fn check<R: Abort + AllocGlobal>(&self, rt: &R, inst: Instance<'_>) -> Result<(), Fail> {
+        for (case, expected) in &ROWS {
+            let row = row_of(*case);
+            assert_eq!(rt;
+                HeadwayRows::new().is_row(inst.net, row),
+                *expected,
+                "{case:?}"
+            );
+        }
+        let elsewhere = Window {
+            track: TrackId(1),
+            minute: 0,
+        };
+        assert!(rt; !HeadwayRows::new().is_row(inst.net, elsewhere));
+        Ok(())
+    }
+}
+
 #[test]
 fn rows_are_minutes_and_pairs(rt: HostRuntime) -> Result<(), Fail> {
-    let net = read(rt.alloc(), &PAIRS)?.net;
-    for (case, expected) in &ROWS {
-        let row = row_of(*case);
-        assert_eq!(rt; HeadwayRows::new().is_row(&net, row), *expected, "{case:?}");
-    }
-    let elsewhere = Window {
-        track: TrackId(1),
-        minute: 0,
-    };
-    assert!(rt; !HeadwayRows::new().is_row(&net, elsewhere));
-    Ok(())
+    check_read(&rt, &PAIRS, &AreRows)
 }
 
 /// Whether x at 100 and y at a minute share a row.
@@ -192,15 +221,26 @@ fn meet(rt: &impl Abort, net: &Network, depart: u16) -> bool {
     conflict(net, x, y)
 }
 
+struct Shared;
+
+impl Check for Shared {
+    fn check<R: Abort + AllocGlobal>(&self, rt: &R, inst: Instance<'_>) -> Result<(), Fail> {
+        for depart in 92..=108 {
+            let expected = depart > 97 && depart < 107;
+            assert_eq!(rt; share(rt, inst.net, depart), expected, "rows at {depart}");
+            assert_eq!(rt;
+                meet(rt, inst.net, depart),
+                expected,
+                "conflict at {depart}"
+            );
+        }
+        Ok(())
+    }
+}
+
 #[test]
 fn uses_share_a_row_exactly_where_they_are_in_conflict(rt: HostRuntime) -> Result<(), Fail> {
-    let net = read(rt.alloc(), &TWO_TYPES)?.net;
-    for depart in 92..=108 {
-        let expected = depart > 97 && depart < 107;
-        assert_eq!(rt; share(&rt, &net, depart), expected, "rows at {depart}");
-        assert_eq!(rt; meet(&rt, &net, depart), expected, "conflict at {depart}");
-    }
-    Ok(())
+    check_read(&rt, &TWO_TYPES, &Shared)
 }
 
 /// Whether a type that departs at a minute fits.
@@ -234,17 +274,24 @@ fn unload(rt: &impl Abort, net: &Network, load: &mut Load<HeadwayRows>)
     load.take(net, &HeadwayRows::new(), X, leg(0));
 }
 
+struct Loads;
+
+impl Check for Loads {
+    fn check<R: Abort + AllocGlobal>(&self, rt: &R, inst: Instance<'_>) -> Result<(), Fail> {
+        let mut load = loaded(rt, rt.alloc(), inst.net)?;
+        assert!(rt; !fits(rt, &load, inst.net, X, 0));
+        assert!(rt; !fits(rt, &load, inst.net, Y, 3));
+        assert!(rt; fits(rt, &load, inst.net, Y, 4));
+        unload(rt, inst.net, &mut load);
+        assert!(rt; fits(rt, &load, inst.net, X, 0));
+        assert!(rt; fits(rt, &load, inst.net, Y, 3));
+        Ok(())
+    }
+}
+
 #[test]
 fn a_row_takes_one_use_and_no_more(rt: HostRuntime) -> Result<(), Fail> {
-    let net = read(rt.alloc(), &PAIRS)?.net;
-    let mut load = loaded(&rt, rt.alloc(), &net)?;
-    assert!(rt; !fits(&rt, &load, &net, X, 0));
-    assert!(rt; !fits(&rt, &load, &net, Y, 3));
-    assert!(rt; fits(&rt, &load, &net, Y, 4));
-    unload(&rt, &net, &mut load);
-    assert!(rt; fits(&rt, &load, &net, X, 0));
-    assert!(rt; fits(&rt, &load, &net, Y, 3));
-    Ok(())
+    check_read(&rt, &PAIRS, &Loads)
 }
 
 fn doubled() -> Both<HeadwayRows, HeadwayRows> {
@@ -257,18 +304,25 @@ fn touched_of_both(rt: &impl Abort, net: &Network, k: u32) -> Option<Either<HRow
     doubled().touched(net, X, leg(0), k)
 }
 
+struct SecondFamily;
+
+impl Check for SecondFamily {
+    fn check<R: Abort + AllocGlobal>(&self, rt: &R, inst: Instance<'_>) -> Result<(), Fail> {
+        let first = Either::First(row_of(At(0)));
+        let second = Either::Second(row_of(Two(0, X, 6, Z)));
+        assert_eq!(rt; touched_of_both(rt, inst.net, 0), Some(first));
+        assert_eq!(rt; touched_of_both(rt, inst.net, 19), Some(second));
+        assert_eq!(rt; touched_of_both(rt, inst.net, 20), None);
+        assert!(rt; first < second);
+        assert!(rt; doubled().is_row(inst.net, second));
+        assert_eq!(rt; doubled().cap(inst.net, second), 1);
+        Ok(())
+    }
+}
+
 #[test]
 fn the_rows_of_the_second_family_come_after_the_first(rt: HostRuntime) -> Result<(), Fail> {
-    let net = read(rt.alloc(), &PAIRS)?.net;
-    let first = Either::First(row_of(At(0)));
-    let second = Either::Second(row_of(Two(0, X, 6, Z)));
-    assert_eq!(rt; touched_of_both(&rt, &net, 0), Some(first));
-    assert_eq!(rt; touched_of_both(&rt, &net, 19), Some(second));
-    assert_eq!(rt; touched_of_both(&rt, &net, 20), None);
-    assert!(rt; first < second);
-    assert!(rt; doubled().is_row(&net, second));
-    assert_eq!(rt; doubled().cap(&net, second), 1);
-    Ok(())
+    check_read(&rt, &PAIRS, &SecondFamily)
 }
 
 /// A leg by which a train that passed the tail passes the head.
@@ -293,12 +347,19 @@ fn alike<F: RowFamily>(rt: &impl Abort, net: &Network, rows: &F, first: u16, sec
     rows.use_alike(net, X, leg(first), passing(second))
 }
 
+struct UseAlike;
+
+impl Check for UseAlike {
+    fn check<R: Abort + AllocGlobal>(&self, rt: &R, inst: Instance<'_>) -> Result<(), Fail> {
+        assert!(rt; alike(rt, inst.net, &HeadwayRows::new(), 5, 5));
+        assert!(rt; !alike(rt, inst.net, &HeadwayRows::new(), 5, 6));
+        assert!(rt; alike(rt, inst.net, &doubled(), 5, 5));
+        assert!(rt; !alike(rt, inst.net, &doubled(), 6, 5));
+        Ok(())
+    }
+}
+
 #[test]
 fn legs_that_enter_a_track_at_one_minute_use_alike(rt: HostRuntime) -> Result<(), Fail> {
-    let net = read(rt.alloc(), &PAIRS)?.net;
-    assert!(rt; alike(&rt, &net, &HeadwayRows::new(), 5, 5));
-    assert!(rt; !alike(&rt, &net, &HeadwayRows::new(), 5, 6));
-    assert!(rt; alike(&rt, &net, &doubled(), 5, 5));
-    assert!(rt; !alike(&rt, &net, &doubled(), 6, 5));
-    Ok(())
+    check_read(&rt, &PAIRS, &UseAlike)
 }

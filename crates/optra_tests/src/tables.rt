@@ -3,10 +3,11 @@ ghost use Rattle.std.specs.Prelude.{map};
 ghost use Rattle.optra_network.specs.Names.{AllDiffer};
 ghost use Rattle.optra_bid.specs.Instances.{IsInstance};
 
-use crate::instances::{PLAIN, Rows, network};
+use crate::instances::{Check, PLAIN, Rows, check_read};
 use optra_bid::Bid;
 use optra_network::{Network, NoMemory};
 use optra_tables::{ReadError, bids_text, read_bids, stops_text, version};
+use optra_walk::Instance;
 use std::alloc::Global;
 use std::process::Abort;
 use std::test::Fail;
@@ -57,7 +58,7 @@ fn tables_of(alloc: Global, net: &Network, bids: &[Bid]) -> Result<[Vec<u8>; 2],
 }
 
 /// The bids of two tables on a network, written again.
-fn written_on(
+fn written(
     alloc: Global,
     net: &Network,
     bids: &str,
@@ -70,20 +71,22 @@ fn written_on(
     }
 }
 
-/// The bids of two tables, written again.
-fn written(alloc: Global, bids: &str, stops: &str) -> Result<[Vec<u8>; 2], ReadError> {
-    let net = network(alloc, &QUOTED)?;
-    written_on(alloc, &net, bids, stops)
+struct WrittenAgain;
+
+impl Check for WrittenAgain {
+    fn check<R: Abort + AllocGlobal>(&self, rt: &R, inst: Instance<'_>) -> Result<(), Fail> {
+        for (bids, stops) in BIDS.iter().zip(&STOPS) {
+            let [bids_bytes, stops_bytes] = written(rt.alloc(), inst.net, bids, stops)?;
+            assert_eq!(rt; bids_bytes.as_slice(), BIDS[1].as_bytes());
+            assert_eq!(rt; stops_bytes.as_slice(), STOPS[1].as_bytes());
+        }
+        Ok(())
+    }
 }
 
 #[test]
 fn bids_are_written_and_read_again(rt: HostRuntime) -> Result<(), Fail> {
-    for (bids, stops) in BIDS.iter().zip(&STOPS) {
-        let [bids_bytes, stops_bytes] = written(rt.alloc(), bids, stops)?;
-        assert_eq!(rt; bids_bytes.as_slice(), BIDS[1].as_bytes());
-        assert_eq!(rt; stops_bytes.as_slice(), STOPS[1].as_bytes());
-    }
-    Ok(())
+    check_read(&rt, &QUOTED, &WrittenAgain)
 }
 
 /// Each bid's copy is equal, and has its path alone.
@@ -107,10 +110,17 @@ fn bids_on(alloc: Global, net: &Network) -> Result<Vec<Bid>, ReadError> {
     read_bids(alloc, net, BIDS[1].as_bytes(), STOPS[1].as_bytes())
 }
 
+struct Copied;
+
+impl Check for Copied {
+    fn check<R: Abort + AllocGlobal>(&self, rt: &R, inst: Instance<'_>) -> Result<(), Fail> {
+        let bids = bids_on(rt.alloc(), inst.net)?;
+        check_copies(rt, rt.alloc(), &bids)?;
+        Ok(())
+    }
+}
+
 #[test]
 fn a_copy_is_equal_and_paths_are_compared_whole(rt: HostRuntime) -> Result<(), Fail> {
-    let net = network(rt.alloc(), &QUOTED)?;
-    let bids = bids_on(rt.alloc(), &net)?;
-    check_copies(&rt, rt.alloc(), &bids)?;
-    Ok(())
+    check_read(&rt, &QUOTED, &Copied)
 }

@@ -1,9 +1,10 @@
 //! The text of a plan that no command makes: one with amounts below zero.
-use crate::instances::{PLAIN, Rows, are_walks, read};
+use crate::instances::{Check, PLAIN, Rows, are_walks, check_read};
 use optra_outside::{MemoryPen, Pen};
 use optra_text::{FaultView, PlanView, fault_text, plan_text, text_tells_plan};
 use optra_walk::{Action, Choice, Instance, Leg, Walk};
 use std::alloc::{AllocError, Global};
+use std::process::Abort;
 use std::test::Fail;
 
 /// The second bid's walk costs more than it brings.
@@ -35,27 +36,38 @@ fn choice(alloc: Global) -> Result<Choice, AllocError> {
     Ok(Choice { walks })
 }
 
-#[test]
-fn amounts_below_zero_are_printed(rt: HostRuntime) -> Result<(), Fail> {
-    let alloc = rt.alloc();
-    let held = read(alloc, &BIDS)?;
-    let inst = Instance {
-        net: &held.net,
-        bids: &held.bids,
-    };
-    let choice = choice(alloc)?;
+/// The text of the choice, with these amounts.
+fn check_text(
+    rt: &(impl Abort + AllocGlobal),
+    inst: Instance<'_>,
+    choice: &Choice,
+) -> Result<(), Fail> {
     assert!(rt; are_walks(inst.net, inst.bids, &choice.walks));
     text_tells_plan(inst);
     let view = PlanView {
         inst,
-        choice: &choice,
+        choice,
         revenue: -4,
         bound: 17,
         nodes: 12,
     };
-    let text = plan_text(alloc, view)?;
+    let text = plan_text(rt.alloc(), view)?;
     assert_eq!(rt; text.as_slice(), PLAN.as_bytes());
     Ok(())
+}
+
+struct BelowZero;
+
+impl Check for BelowZero {
+    fn check<R: Abort + AllocGlobal>(&self, rt: &R, inst: Instance<'_>) -> Result<(), Fail> {
+        let choice = choice(rt.alloc())?;
+        check_text(rt, inst, &choice)
+    }
+}
+
+#[test]
+fn amounts_below_zero_are_printed(rt: HostRuntime) -> Result<(), Fail> {
+    check_read(&rt, &BIDS, &BelowZero)
 }
 
 #[test]

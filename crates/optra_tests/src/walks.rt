@@ -1,8 +1,8 @@
 //! Legs, walks and their values, walk order, and conflicts between uses, worked by hand.
-use crate::instances::{Held, PLAIN, Rows, read};
+use crate::instances::{Check, Rows, check_read};
 use optra_bid::Bid;
 use optra_network::{Cents, Minute, Network, TrackId, TrackUse, TypeId, conflict};
-use optra_walk::{Action, Leg, arrival, follows, next_depart, value, walk_order};
+use optra_walk::{Action, Instance, Leg, arrival, follows, next_depart, value, walk_order};
 use std::cmp::Ordering;
 use std::process::Abort;
 use std::test::Fail;
@@ -183,12 +183,12 @@ static HALT: [(TwoLegs, Option<Cents>); 8] = [
     ((0, true, Action::Pass, 12, false), None),
 ];
 
-fn check_walks(rt: &impl Abort, held: &Held) {
-    let [early, span, free, halt, b_then_a, a_then_b, b_alone] = held.bids.as_slice() else {
+fn check_walks(rt: &impl Abort, inst: Instance<'_>) {
+    let [early, span, free, halt, b_then_a, a_then_b, b_alone] = inst.bids else {
         assert!(rt; false);
         return;
     };
-    let net = &held.net;
+    let net = inst.net;
     check_one_leg(rt, net, early, &EARLY);
     check_one_leg(rt, net, span, &SPAN);
     check_two_legs(rt, net, free, &FREE);
@@ -228,12 +228,19 @@ fn legs_and_headways(rt: &impl Abort, net: &Network) {
     );
 }
 
+struct Values;
+
+impl Check for Values {
+    fn check<R: Abort + AllocGlobal>(&self, rt: &R, inst: Instance<'_>) -> Result<(), Fail> {
+        legs_and_headways(rt, inst.net);
+        check_walks(rt, inst);
+        Ok(())
+    }
+}
+
 #[test]
 fn walks_have_the_values_that_were_worked_by_hand(rt: HostRuntime) -> Result<(), Fail> {
-    let held = read(rt.alloc(), &BIDS)?;
-    legs_and_headways(&rt, &held.net);
-    check_walks(&rt, &held);
-    Ok(())
+    check_read(&rt, &BIDS, &Values)
 }
 
 #[test]
