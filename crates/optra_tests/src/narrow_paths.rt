@@ -5,6 +5,7 @@ use optra_dag::{
     Buffers, Dag, FAR, NARROW_ROOM, NarrowWeight, NoMemory, is_narrow, narrow_best_in,
 };
 use std::alloc::Global;
+use std::process::Abort;
 use std::test::Fail;
 
 /// A mark for each arc: 0 closes it, and another, below 16, lets it add so much less 8.
@@ -58,55 +59,73 @@ fn search(buffers: &mut Buffers, dag: &Dag, marks: &Marks) -> Result<Option<i64>
     narrow_best_in(buffers, dag, marks, 8)
 }
 
+/// The marks, the ends, the best sum, and the first path that has it.
+type Case = ([u8; 10], &'static [u32], Option<i64>, &'static [u32]);
+
+static CASES: [Case; 16] = [
+    ([8, 8, 8, 8, 8, 8, 8, 8, 8, 8], &[4], Some(0), &[0, 4, 7, 9]),
+    (
+        [8, 8, 8, 8, 8, 8, 8, 8, 8, 8],
+        &[0, 1, 2, 3, 4],
+        Some(0),
+        &[0],
+    ),
+    ([8, 8, 8, 8, 8, 8, 8, 8, 8, 8], &[0], None, &[]),
+    ([0, 0, 0, 0, 0, 0, 0, 0, 0, 0], &[1, 2, 3, 4], None, &[]),
+    ([7, 7, 7, 7, 7, 7, 7, 7, 7, 7], &[1, 4], Some(-1), &[0]),
+    (
+        [9, 9, 9, 9, 9, 9, 9, 9, 9, 9],
+        &[1, 4],
+        Some(4),
+        &[0, 4, 7, 9],
+    ),
+    ([6, 8, 8, 1, 7, 7, 1, 8, 15, 0], &[3], Some(0), &[1, 7]),
+    (
+        [8, 6, 10, 10, 8, 10, 0, 10, 8, 7],
+        &[2, 3],
+        Some(2),
+        &[0, 4, 7],
+    ),
+    ([6, 8, 8, 0, 8, 6, 8, 8, 15, 6], &[2, 3], Some(0), &[1]),
+    ([9, 9, 8, 6, 8, 0, 0, 8, 7, 0], &[1, 3], Some(1), &[0]),
+    ([1, 8, 0, 1, 15, 0, 9, 0, 8, 6], &[2, 4], Some(0), &[0, 4]),
+    ([9, 8, 0, 8, 8, 8, 9, 0, 8, 8], &[2, 3], Some(1), &[0, 4]),
+    ([8, 7, 8, 8, 6, 0, 8, 9, 0, 15], &[0, 1, 3], Some(0), &[0]),
+    ([8, 8, 8, 10, 7, 1, 8, 8, 10, 9], &[0, 4], Some(2), &[1, 8]),
+    (
+        [7, 6, 7, 10, 9, 0, 10, 15, 15, 8],
+        &[1, 3, 4],
+        Some(7),
+        &[0, 4, 7],
+    ),
+    ([1, 6, 9, 9, 8, 10, 0, 8, 6, 8], &[0, 4], Some(1), &[2, 9]),
+];
+
+/// The best path of the fan in these buffers.
+fn check_path(
+    rt: &impl Abort,
+    buffers: &mut Buffers,
+    dag: &Dag,
+    case: &Case,
+) -> Result<(), NoMemory>
+    requires arcs { length dag.now.arcs ≤ 10 }
+    requires nodes { length dag.now.ends ≤ 5 }
+{
+    let (marks, _, sum, path) = *case;
+    assert!(rt; is_narrow(dag, 8));
+    assert_eq!(rt; search(buffers, dag, &Marks { marks })?, sum);
+    if sum.is_some() {
+        assert_eq!(rt; buffers.path(), path);
+    }
+    Ok(())
+}
+
 #[test]
 fn finds_the_first_of_the_best_paths_in_64_bits(rt: HostRuntime) -> Result<(), Fail> {
     let mut buffers = Buffers::new(rt.alloc());
-    let table: [([u8; 10], &[u32], Option<i64>, &[u32]); 16] = [
-        ([8, 8, 8, 8, 8, 8, 8, 8, 8, 8], &[4], Some(0), &[0, 4, 7, 9]),
-        (
-            [8, 8, 8, 8, 8, 8, 8, 8, 8, 8],
-            &[0, 1, 2, 3, 4],
-            Some(0),
-            &[0],
-        ),
-        ([8, 8, 8, 8, 8, 8, 8, 8, 8, 8], &[0], None, &[]),
-        ([0, 0, 0, 0, 0, 0, 0, 0, 0, 0], &[1, 2, 3, 4], None, &[]),
-        ([7, 7, 7, 7, 7, 7, 7, 7, 7, 7], &[1, 4], Some(-1), &[0]),
-        (
-            [9, 9, 9, 9, 9, 9, 9, 9, 9, 9],
-            &[1, 4],
-            Some(4),
-            &[0, 4, 7, 9],
-        ),
-        ([6, 8, 8, 1, 7, 7, 1, 8, 15, 0], &[3], Some(0), &[1, 7]),
-        (
-            [8, 6, 10, 10, 8, 10, 0, 10, 8, 7],
-            &[2, 3],
-            Some(2),
-            &[0, 4, 7],
-        ),
-        ([6, 8, 8, 0, 8, 6, 8, 8, 15, 6], &[2, 3], Some(0), &[1]),
-        ([9, 9, 8, 6, 8, 0, 0, 8, 7, 0], &[1, 3], Some(1), &[0]),
-        ([1, 8, 0, 1, 15, 0, 9, 0, 8, 6], &[2, 4], Some(0), &[0, 4]),
-        ([9, 8, 0, 8, 8, 8, 9, 0, 8, 8], &[2, 3], Some(1), &[0, 4]),
-        ([8, 7, 8, 8, 6, 0, 8, 9, 0, 15], &[0, 1, 3], Some(0), &[0]),
-        ([8, 8, 8, 10, 7, 1, 8, 8, 10, 9], &[0, 4], Some(2), &[1, 8]),
-        (
-            [7, 6, 7, 10, 9, 0, 10, 15, 15, 8],
-            &[1, 3, 4],
-            Some(7),
-            &[0, 4, 7],
-        ),
-        ([1, 6, 9, 9, 8, 10, 0, 8, 6, 8], &[0, 4], Some(1), &[2, 9]),
-    ];
-    for (marks, ends, sum, path) in table {
-        let dag = fan(rt.alloc(), ends)?;
-        let marks = Marks { marks };
-        assert!(rt; is_narrow(&dag, 8));
-        assert_eq!(rt; search(&mut buffers, &dag, &marks)?, sum);
-        if sum.is_some() {
-            assert_eq!(rt; buffers.path(), path);
-        }
+    for case in &CASES {
+        let dag = fan(rt.alloc(), case.1)?;
+        check_path(&rt, &mut buffers, &dag, case)?;
     }
     Ok(())
 }

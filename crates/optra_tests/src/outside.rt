@@ -121,34 +121,44 @@ enum Call {
     Load(&'static str, &'static [u8]),
 }
 
-// A file of four bytes and a name of one take 69 of the room, so two of them fill it.
-#[test]
-fn a_shelf_in_memory(rt: HostRuntime) -> Result<(), Fail> {
-    let alloc = rt.alloc();
-    let mut shelf = MemoryShelf::new(alloc, 4, 138, vec![in alloc; 5, 3]?)?;
-    let calls = [
-        Call::Put("a", b"1234", Ok(())),
-        Call::Get("a", Ok(b"1234")),
-        Call::Get("a", Err(ShelfError::Failed)),
-        Call::Load("long", b"12345"),
-        Call::Get("long", Err(ShelfError::TooLong)),
-        Call::Put("b", b"1234", Err(ShelfError::Failed)),
-        Call::Get("b", Err(ShelfError::Absent)),
-        Call::Put("b", b"12345", Err(ShelfError::Failed)),
-        Call::Put("b", b"5678", Ok(())),
-        Call::Put("", b"", Err(ShelfError::Failed)),
-        Call::Load("a", b"new"),
-        Call::Get("a", Ok(b"new")),
-        Call::Get("b", Ok(b"5678")),
-    ];
+/// Calls of a shelf of which the third and the fifth fail. A file of four bytes and a name of one take 69 of the room, so
+/// two of them fill it.
+static CALLS: [Call; 13] = [
+    Call::Put("a", b"1234", Ok(())),
+    Call::Get("a", Ok(b"1234")),
+    Call::Get("a", Err(ShelfError::Failed)),
+    Call::Load("long", b"12345"),
+    Call::Get("long", Err(ShelfError::TooLong)),
+    Call::Put("b", b"1234", Err(ShelfError::Failed)),
+    Call::Get("b", Err(ShelfError::Absent)),
+    Call::Put("b", b"12345", Err(ShelfError::Failed)),
+    Call::Put("b", b"5678", Ok(())),
+    Call::Put("", b"", Err(ShelfError::Failed)),
+    Call::Load("a", b"new"),
+    Call::Get("a", Ok(b"new")),
+    Call::Get("b", Ok(b"5678")),
+];
+
+fn check_calls(
+    rt: &(impl Abort + AllocGlobal),
+    shelf: &mut MemoryShelf,
+    calls: &[Call],
+) -> Result<(), Fail> {
     for call in calls {
-        match call {
-            Call::Put(name, bytes, wanted) => expect_put(&rt, &mut shelf, name, bytes, wanted),
-            Call::Get(name, wanted) => expect_get(&rt, alloc, &mut shelf, name, wanted),
+        match *call {
+            Call::Put(name, bytes, wanted) => expect_put(rt, shelf, name, bytes, wanted),
+            Call::Get(name, wanted) => expect_get(rt, rt.alloc(), shelf, name, wanted),
             Call::Load(name, bytes) => shelf.load(name, bytes)?,
         }
     }
     Ok(())
+}
+
+#[test]
+fn a_shelf_in_memory(rt: HostRuntime) -> Result<(), Fail> {
+    let alloc = rt.alloc();
+    let mut shelf = MemoryShelf::new(alloc, 4, 138, vec![in alloc; 5, 3]?)?;
+    check_calls(&rt, &mut shelf, &CALLS)
 }
 
 /// The files of one bid.
@@ -200,19 +210,29 @@ fn status_over(alloc: Global, words: &[String], shelf: &mut NeverShelf) -> Resul
     ))
 }
 
+/// Runs over an empty shelf, with the files of one bid, and with two bids.
+fn check_runs(
+    rt: &(impl Abort + AllocGlobal),
+    words: &[String],
+    shelf: &mut NeverShelf,
+) -> Result<(), Fail> {
+    let alloc = rt.alloc();
+    assert_eq!(rt; status_over(alloc, words, shelf)?, 6);
+    for (name, content) in &FILES {
+        shelf.load(name, content.as_bytes())?;
+    }
+    assert_eq!(rt; status_over(alloc, words, shelf)?, 0);
+    shelf.load("bids.csv", BIDS_FOR_ONE_MINUTE.as_bytes())?;
+    assert_eq!(rt; status_over(alloc, words, shelf)?, 0);
+    Ok(())
+}
+
 #[test]
 fn a_plan_over_what_never_fails(rt: HostRuntime) -> Result<(), Fail> {
     let alloc = rt.alloc();
     let words = words(alloc)?;
     let mut shelf = NeverShelf::new(alloc, 1000);
-    assert_eq!(rt; status_over(alloc, &words, &mut shelf)?, 6);
-    for (name, content) in &FILES {
-        shelf.load(name, content.as_bytes())?;
-    }
-    assert_eq!(rt; status_over(alloc, &words, &mut shelf)?, 0);
-    shelf.load("bids.csv", BIDS_FOR_ONE_MINUTE.as_bytes())?;
-    assert_eq!(rt; status_over(alloc, &words, &mut shelf)?, 0);
-    Ok(())
+    check_runs(&rt, &words, &mut shelf)
 }
 
 #[test]

@@ -3,6 +3,7 @@ ghost use Rattle.std.specs.Prelude.{◌≡◌, ◌<◌, ◌≤◌, pos, IfOk, le
 
 use optra_dag::{Buffers, Dag, NoMemory, Weight, first_best, first_best_in};
 use std::alloc::Global;
+use std::process::Abort;
 use std::test::Fail;
 
 /// One arc is closed, and one is worth ten times the others.
@@ -45,35 +46,49 @@ fn diamond(alloc: Global, end: u32) -> Result<Dag, NoMemory>
     Ok(dag)
 }
 
+/// The end, the closed arc and the dear one, what the best path is worth, and its arcs.
+type Case = (u32, u32, u32, i128, &'static [u32]);
+
+static CASES: [Case; 6] = [
+    (3, 9, 9, 2, &[0, 3]),
+    (3, 3, 9, 2, &[1, 4]),
+    (3, 9, 2, 10, &[2]),
+    (3, 9, 4, 11, &[1, 4]),
+    (2, 9, 9, 1, &[1]),
+    (0, 9, 9, 0, &[]),
+];
+
+/// The best path of a graph, in buffers of its own and in these.
+fn check_paths(
+    rt: &(impl Abort + AllocGlobal),
+    buffers: &mut Buffers,
+    dag: &Dag,
+    case: &Case,
+) -> Result<(), NoMemory>
+    requires { length dag.now.arcs ≤ 5 }
+{
+    let (_, closed, dear, sum, path) = *case;
+    let tolls = Tolls { closed, dear };
+    match &first_best(rt.alloc(), dag, &tolls)? {
+        Some((total, arcs)) => {
+            assert_eq!(rt; *total, sum);
+            assert_eq!(rt; arcs.as_slice(), path);
+        }
+        None => assert!(rt; false, "no path"),
+    }
+    let again = first_best_in(buffers, dag, &tolls)?;
+    assert_eq!(rt; again, Some(sum));
+    assert_eq!(rt; buffers.path(), path);
+    Ok(())
+}
+
 #[test]
 fn finds_the_first_of_the_best_paths(rt: HostRuntime) -> Result<(), Fail> {
     let mut buffers = Buffers::new(rt.alloc());
-    let table: [(u32, u32, u32, i128, &[u32]); 6] = [
-        (3, 9, 9, 2, &[0, 3]),
-        (3, 3, 9, 2, &[1, 4]),
-        (3, 9, 2, 10, &[2]),
-        (3, 9, 4, 11, &[1, 4]),
-        (2, 9, 9, 1, &[1]),
-        (0, 9, 9, 0, &[]),
-    ];
-    for (end, closed, dear, sum, path) in table {
-        assert!(rt; end < 4);
-        let dag = diamond(rt.alloc(), end)?;
-        let tolls = Tolls { closed, dear };
-        let found = first_best(rt.alloc(), &dag, &tolls)?;
-        let again = first_best_in(&mut buffers, &dag, &tolls)?;
-        match found {
-            Some((total, arcs)) => {
-                assert_eq!(rt; total, sum);
-                assert_eq!(rt; arcs.as_slice(), path);
-                assert_eq!(rt; again, Some(sum));
-                assert_eq!(rt; buffers.path(), path);
-            }
-            None => {
-                assert!(rt; path.is_empty());
-                assert_eq!(rt; again, None);
-            }
-        }
+    for case in &CASES {
+        assert!(rt; case.0 < 4);
+        let dag = diamond(rt.alloc(), case.0)?;
+        check_paths(&rt, &mut buffers, &dag, case)?;
     }
     Ok(())
 }
