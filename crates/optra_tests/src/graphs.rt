@@ -138,16 +138,18 @@ fn check_fresh(rt: &(impl Abort + AllocGlobal), inst: Instance<'_>) -> Result<()
 }
 
 /// A store builds the graph of a bid when it is asked for, and keeps it.
-fn check_asked(
-    rt: &impl Abort,
-    store: &mut GraphStore<'_>,
-    bid: &Bid,
-    want: u32,
-) -> Result<(), NoMemory> {
+fn check_asked(rt: &(impl Abort + AllocGlobal), inst: Instance<'_>) -> Result<(), NoMemory>
+    requires { All (λ bid. IsPathOn inst.net.now bid.path) inst.bids.now }
+{
+    let Some(bid) = inst.bids.first() else {
+        return Ok(());
+    };
+    let mut store = GraphStore::new(rt.alloc(), inst.net)?;
     assert!(rt; !store.holds(bid));
     let arcs = store.graph_for(bid)?.dag().arcs();
-    assert_eq!(rt; arcs, want);
+    assert_eq!(rt; arcs, GRAPHS[0].0);
     assert!(rt; store.holds(bid));
+    assert_eq!(rt; store.builds(), 1);
     Ok(())
 }
 
@@ -156,10 +158,6 @@ fn check_kept(rt: &(impl Abort + AllocGlobal), inst: Instance<'_>) -> Result<(),
     requires { All (λ bid. IsPathOn inst.net.now bid.path) inst.bids.now }
 {
     let mut store = GraphStore::new(rt.alloc(), inst.net)?;
-    if let Some(bid) = inst.bids.first() {
-        check_asked(rt, &mut store, bid, GRAPHS[0].0)?;
-    }
-    assert_eq!(rt; store.builds(), 1);
     check_served(rt, inst, &mut store)?;
     assert_eq!(rt; store.builds(), 9);
     Ok(())
@@ -172,6 +170,7 @@ impl Check for Counted {
         check_built(rt, inst)?;
         check_fresh(rt, inst)?;
         check_kept(rt, inst)?;
+        check_asked(rt, inst)?;
         Ok(())
     }
 }

@@ -1,6 +1,6 @@
 //! Dual values, price steps and the price path at two bids for one track, worked by hand. A train uses the five minutes from
 //! its departure on, so both bids of one minute pay five times the price of a minute, and only one of them can run.
-ghost use Rattle.std.specs.Prelude.{◌≡◌, IfOk, All, Contains, length};
+ghost use Rattle.std.specs.Prelude.{◌≡◌, [], IfOk, All, Contains, length};
 ghost use Rattle.optra_bid.specs.Instances.{IsInstance};
 ghost use Rattle.optra_node.specs.Nodes.{IsNode};
 ghost use Rattle.optra_prices.specs.Steps.{AreProper};
@@ -11,7 +11,7 @@ use crate::decisions::At::Halt;
 use crate::decisions::{AB, Decided, node_of};
 use crate::instances::{Check, PLAIN, Rows, check_read};
 use optra_graph::{FreshGraphs, Graphs};
-use optra_network::{Cents, Minute, Network, NoMemory};
+use optra_network::{Cents, Minute, NoMemory};
 use optra_node::{Node, Prices};
 use optra_prices::deads::dead;
 use optra_prices::duals::dual;
@@ -151,7 +151,7 @@ fn check_departures(rt: &impl Abort, replies: &[Option<Walk>], want: &[Option<Mi
 
 /// No price at all.
 fn no_prices(alloc: Global) -> Prices<HRow>
-    ensures { (net : Network) → AreProper row_cmp (headway_rows net) result }
+    ensures { result ≡ [] }
 {
     Prices {
         entries: Vec::new(alloc),
