@@ -1,5 +1,5 @@
 -- What the loops over the arcs of one node keep.
-use Rattle.std.proofs.Common.{◌≡◌, ◌≢◌, ℕ, List, ◌++◌, take, drop, length, get_or, ap, ◌+◌, max, cond, ◌<◌, ◌≤◌, ◌⊎◌, inl, inr, ⊎_elim, Bool, true, false, refl, sym, ◌∙◌, subst, arith, ℤ, pos, ◌≤ℤ◌, ◌<ℤ◌}
+use Rattle.std.proofs.Common.{◌≡◌, ◌≢◌, ℕ, List, ◌++◌, take, drop, length, get_or, ap, ◌+◌, cond, ◌<◌, ◌≤◌, ◌⊎◌, inl, inr, Bool, true, false, refl, sym, ◌∙◌, subst, arith, ℤ, pos, ◌≤ℤ◌, ◌<ℤ◌}
 use Rattle.std.proofs.lemmas.Bool.{cases_lt}
 use Rattle.std.proofs.Math.Nat.{eq-or-lt_of_le}
 use Rattle.std.proofs.Math.Seq.{take-append_seam}
@@ -8,7 +8,7 @@ use Rattle.std.specs.Prelude.{int_lt}
 use lib.Signed.{lt_z}
 use Rattle.std.proofs.lemmas.Int.{ints}
 use Rattle.optra_dag.specs.Spans.{StandsIn}
-use Rattle.optra_dag.specs.NarrowSums.{far, value_of, IsBestOf, IsFirstBy}
+use Rattle.optra_dag.specs.NarrowSums.{far, value_of, IsFirstBy}
 use Rattle.optra_dag.proofs.Ways.{same_default}
 use Rattle.optra_dag.specs.declared.spans.Span.{Span}
 
@@ -28,44 +28,6 @@ le_same a b h = omega (arith, ints)
 pub value_by : (allowed : Bool) (weight r : ℤ) → (allowed ≡ true → r ≡ weight) → (allowed ≡ false → r ≡ far) → r ≡ value_of allowed weight
 value_by true weight r on off = on refl
 value_by false weight r on off = off refl
-
-pub best_start : (by : ℕ → ℤ) (empty : ℤ) (start : ℕ) → IsBestOf by empty (span_of start start) empty
-best_start by empty start = record {
-  empty_most = le_self empty;
-  most = λ k h. let a : start ≤ k = h.0 in let b : k < start = h.1 in absurd (omega arith);
-  one = inl refl;
-}
-
-pub best_more : (by : ℕ → ℤ) (empty best sum new : ℤ) (start k : ℕ) → start ≤ k → sum ≡ by k → best ≤ℤ new → sum ≤ℤ new → (new ≡ best) ⊎ (new ≡ sum)
-    → IsBestOf by empty (span_of start k) best → IsBestOf by empty (span_of start (k + 1)) new
-best_more by empty best sum new start k l e old one which h = record {
-  empty_most = le_le _ _ _ h.empty_most old;
-  most = λ j s. most j s (cases_lt j k);
-  one = picked which;
-}
-  where
-    most : (j : ℕ) → StandsIn (span_of start (k + 1)) j → (j < k) ⊎ (k ≤ j) → by j ≤ℤ new
-    most j s (inl m) = le_le _ _ _ (h.most j (s.0, m)) old
-    most j s (inr m) = let b : j < k + 1 = s.1 in let same : k ≡ j = omega arith in subst (λ i. by i ≤ℤ new) same (le_le _ _ _ (le_same _ _ (sym e)) one)
-
-    kept : new ≡ best → (best ≡ empty) ⊎ ((j : ℕ) × StandsIn (span_of start k) j × (by j ≡ best)) → (new ≡ empty) ⊎ ((j : ℕ) × StandsIn (span_of start (k + 1)) j × (by j ≡ new))
-    kept n (inl t) = inl (n ∙ t)
-    kept n (inr t) = inr (t.0, (t.1.0, let b : t.0 < k = t.1.1 in omega arith), t.2 ∙ sym n)
-
-    picked : (new ≡ best) ⊎ (new ≡ sum) → (new ≡ empty) ⊎ ((j : ℕ) × StandsIn (span_of start (k + 1)) j × (by j ≡ new))
-    picked (inl n) = kept n h.one
-    picked (inr n) = inr (k, (l, omega arith), sym e ∙ sym n)
-
-pub best_all : (by : ℕ → ℤ) (empty best : ℤ) (span : Span) (k : ℕ) → span.stop ≤ k → k ≤ max span.start span.stop
-    → IsBestOf by empty (span_of span.start k) best → IsBestOf by empty span best
-best_all by empty best span k over short h = record {
-  empty_most = h.empty_most;
-  most = λ j s. h.most j (s.0, let b : j < span.stop = s.1 in omega arith);
-  one = ⊎_elim (λ e. inl e) (λ (t : (j : ℕ) × StandsIn (span_of span.start k) j × (by j ≡ best)). inr (t.0, (t.1.0, inside t.0 t.1), t.2)) h.one;
-}
-  where
-    inside : (j : ℕ) → StandsIn (span_of span.start k) j → j < span.stop
-    inside j s = let a : span.start ≤ j = s.0 in let b : j < k = s.1 in omega arith
 
 pub max_is : (a b r : ℤ) → r ≡ int_max a b → (r ≡ a) ⊎ (r ≡ b)
 max_is a b r e = by (int_lt b a) refl e

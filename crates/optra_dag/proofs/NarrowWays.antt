@@ -1,12 +1,12 @@
--- The sums of the nodes, from the last node to the first, and the first best way by them.
-use Rattle.std.proofs.Common.{◌≡◌, ℕ, ◌+◌, ◌-◌, ◌*◌, ◌<◌, ◌≤◌, ◌⊎◌, inl, inr, Bool, true, false, List, [], ◌∷◌, ◌++◌, append_assoc, append-nil, length, get_or, set, refl, sym, ap, ◌∙◌, subst, arith, ℤ, pos, negsuc, neg_ℤ, ◌+ℤ◌, ◌≤ℤ◌, ◌<ℤ◌, get_or-set_other, get_or-set_same, length-set, w64, FitsSigned}
+-- The sums of the nodes, by the arcs from the last one to the first, and the first best way by them.
+use Rattle.std.proofs.Common.{◌≡◌, ℕ, zero, suc, ◌+◌, ◌-◌, ◌*◌, ◌<◌, ◌≤◌, ◌⊎◌, inl, inr, Bool, true, false, List, [], ◌∷◌, ◌++◌, append_assoc, append-nil, length, get_or, set, refl, sym, ap, ◌∙◌, subst, arith, ℤ, pos, negsuc, neg_ℤ, ◌+ℤ◌, ◌≤ℤ◌, ◌<ℤ◌, get_or-set_other, get_or-set_same, length-set, w64, FitsSigned}
 use Rattle.std.proofs.lemmas.Bool.{cases_lt, cases_eq}
 use Rattle.std.proofs.Math.Nat.{mul-le-mul_left, eq-or-lt_of_le}
 use Rattle.std.proofs.lemmas.Int.{ints}
 use Rattle.optra_dag.specs.Paths.{Graph, IsPath, IsFirstBest, LeadsToEnd, from_of, to_of, weight_of, ComesFirst}
 use Rattle.optra_dag.specs.WaySums.{open_graph, plain_graph, StartsFrom}
 use Rattle.optra_dag.specs.Spans.{no_span, StandsIn, IsSpan}
-use Rattle.optra_dag.specs.NarrowSums.{far, IsWithin, IsFar, value_of, arc_value, sum_by, CanBeSummed, IsBestOf, IsFirstBy, empty_sum, IsReached, IsUnreached, IsSummed, reach_of, IsFirstWay, IsNarrow, HasSums, IsOver}
+use Rattle.optra_dag.specs.NarrowSums.{far, IsWithin, IsFar, value_of, arc_value, sum_by, CanBeSummed, IsBestOf, LeavesFrom, IsBestFrom, IsFirstBy, empty_sum, AreEmptySums, AreBestFrom, IsReached, IsUnreached, IsSummed, reach_of, IsFirstWay, IsNarrow, HasSums, IsOver}
 use Rattle.optra_dag.specs.declared.Arc.{Arc}
 use Rattle.optra_dag.specs.declared.spans.Span.{Span}
 use Rattle.optra_dag.proofs.Ways.{nil_first, less_first, same_first, way_of_path, path_of_way}
@@ -266,28 +266,140 @@ module _ (arcs : List Arc) (ends : List Bool) (spans : List Span) (allows : ℕ 
         by (inr t) = let lk = own_arc n t.0 inside t.1 in let e : from_of opened t.0 ≡ n = (span_at n inside).own t.0 t.1 in
             by_one t.0 lk e t.2 (shut_or_open sums t.0 lk (head t.0 lk e))
 
-  -- one more node
-  pub more_summed : (sums : List ℤ) (j n : ℕ) (empty best : ℤ) (end : Bool) → j ≡ n + 1 → length sums ≡ length ends → n < length ends → HasSums arcs ends allows weight most sums j
-      → empty ≡ empty_sum end → end ≡ get_or (set ends 0 false) n false
-      → IsBestOf (by_arc sums) empty (get_or spans n no_span) best
-      → HasSums arcs ends allows weight most (set sums n best) n
-  more_summed sums j n empty best end ej ls l done e t is_best m lm bm = by (cases_eq m n)
-    where
-      from_empty : IsBestOf (by_arc sums) (empty_sum (get_or (set ends 0 false) n false)) (get_or spans n no_span) best
-      from_empty = subst (λ z. IsBestOf (by_arc sums) z (get_or spans n no_span) best) (e ∙ ap empty_sum t) is_best
-
-      before : HasSums arcs ends allows weight most sums (n + 1)
-      before = subst (λ i. HasSums arcs ends allows weight most sums i) ej done
-
-      at : Summed (set sums n best) n
-      at = subst (λ z. IsUnreached opened allows (reach n) n z ⊎ IsReached opened allows weight (reach n) n z) (sym (get_or-set_same sums n best (pos 0) (omega arith))) (node_summed sums n l before best from_empty)
-
-      by : (m ≡ n) ⊎ (m ≡ n → ⊥) → Summed (set sums n best) m
-      by (inl e) = subst (λ i. Summed (set sums n best) i) (sym e) at
-      by (inr off) = subst (λ z. IsUnreached opened allows (reach m) m z ⊎ IsReached opened allows weight (reach m) m z) (sym (get_or-set_other sums n m best (pos 0) off)) (before m (omega (arith, off)) bm)
-
   pub none_summed : (sums : List ℤ) (j : ℕ) → j ≡ length ends → HasSums arcs ends allows weight most sums j
   none_summed sums j e m lm bm = let n = nodes in absurd (omega arith)
+
+  -- ---- the sums by the arcs from the last one on
+
+  abbrev empty_at_node : ℕ → ℤ
+  empty_at_node n = empty_sum (get_or (set ends 0 false) n false)
+
+  pub best_none : (sums : List ℤ) (k : ℕ) → length arcs ≤ k → AreEmptySums ends sums (length ends) → AreBestFrom arcs ends value sums k
+  best_none sums k l empty n inside = record {
+    empty_most = le_same _ _ (sym (empty n inside));
+    most = λ j s. let a : k ≤ j = s.0 in let b : j < length arcs = s.1 in absurd (omega arith);
+    one = inl (empty n inside);
+  }
+
+  -- a node whose arcs are all done
+  whole_best : (sums : List ℤ) (k n : ℕ) → n < length ends → ((j : ℕ) → j < length arcs → from_of opened j ≡ n → k ≤ j)
+      → IsBestFrom arcs (by_arc sums) (empty_at_node n) k n (sum_at sums n) → IsBestOf (by_arc sums) (empty_at_node n) (get_or spans n no_span) (sum_at sums n)
+  whole_best sums k n inside late h = record {
+    empty_most = h.empty_most;
+    most = λ j s. let lj = own_arc n j inside s in let e = (span_at n inside).own j s in h.most j (late j lj e, lj, e);
+    one = by h.one;
+  }
+    where
+      by : (sum_at sums n ≡ empty_at_node n) ⊎ ((j : ℕ) × LeavesFrom arcs k n j × (by_arc sums j ≡ sum_at sums n))
+          → (sum_at sums n ≡ empty_at_node n) ⊎ ((j : ℕ) × StandsIn (get_or spans n no_span) j × (by_arc sums j ≡ sum_at sums n))
+      by (inl e) = inl e
+      by (inr t) = inr (t.0, (span_at n inside).whole t.0 t.1.1 t.1.2, t.2)
+
+  -- one more node
+  more_summed : (sums : List ℤ) (n : ℕ) (inside : n < length ends) → HasSums arcs ends allows weight most sums (n + 1)
+      → IsBestOf (by_arc sums) (empty_at_node n) (get_or spans n no_span) (sum_at sums n) → HasSums arcs ends allows weight most sums n
+  more_summed sums n inside done best m lm bm = by (cases_eq m n)
+    where
+      by : (m ≡ n) ⊎ (m ≡ n → ⊥) → Summed sums m
+      by (inl e) = subst (λ i. Summed sums i) (sym e) (node_summed sums n inside done (sum_at sums n) best)
+      by (inr off) = done m (omega (arith, off)) bm
+
+  -- the nodes from one on whose arcs are all done
+  pub all_summed : (sums : List ℤ) (k from : ℕ) → from ≤ length ends → ((j : ℕ) → j < length arcs → from ≤ from_of opened j → k ≤ j)
+      → AreBestFrom arcs ends value sums k → HasSums arcs ends allows weight most sums from
+  all_summed sums k from l late best = down (length ends - from) from (omega arith) (omega arith)
+    where
+      down : (m n : ℕ) → n + m ≡ length ends → from ≤ n → HasSums arcs ends allows weight most sums n
+      down zero n e f = none_summed sums n (omega arith)
+      down (suc m) n e f =
+          let inside : n < length ends = omega arith in
+          more_summed sums n inside (down m (n + 1) (omega arith) (omega arith))
+          (whole_best sums k n inside (λ j lj t. late j lj (let s : from ≤ n = f in omega (arith, t))) (best n inside))
+
+  -- when the arcs after one are done, so is the node that it leads to
+  next_summed : (sums : List ℤ) (k a : ℕ) → a + 1 ≡ k → a < length arcs → AreBestFrom arcs ends value sums k → Summed sums (to_of opened a)
+  next_summed sums k a e la best =
+      let u = up a la in
+      let b = to_small a la in
+      head_summed sums (from_of opened a + 1) a la (omega arith)
+      (all_summed sums k (from_of opened a + 1) (omega arith) (λ j lj t. late j lj t (cases_lt a j)) best)
+    where
+      late : (j : ℕ) → j < length arcs → from_of opened a + 1 ≤ from_of opened j → (a < j) ⊎ (j ≤ a) → k ≤ j
+      late j lj t (inl l) = omega arith
+      late j lj t (inr l) = let s = narrow.forward.sorted j a l la in absurd (omega arith)
+
+  pub fits_next : (sums : List ℤ) (k a : ℕ) → a + 1 ≡ k → a < length arcs → AreBestFrom arcs ends value sums k → FitsSigned w64 (by_arc sums a)
+  fits_next sums k a e la best = fits_by sums a la (allows a) refl (next_summed sums k a e la best)
+
+  -- the sum at the node that an arc leaves bears on none of the arcs from it on
+  same_by : (sums : List ℤ) (a j : ℕ) (r : ℤ) → a ≤ j → j < length arcs → by_arc (set sums (from_of opened a) r) j ≡ by_arc sums j
+  same_by sums a j r l lj =
+      let s = narrow.forward.sorted a j l lj in
+      let u = up j lj in
+      ap (λ z. value j +ℤ z) (get_or-set_other sums (from_of opened a) (to_of opened j) r (pos 0) (λ e. absurd (omega (arith, e))))
+
+  -- one more arc
+  module _ (sums : List ℤ) (k a : ℕ) (r : ℤ) (next : a + 1 ≡ k) (la : a < length arcs) (long : length sums ≡ length ends) (best : AreBestFrom arcs ends value sums k)
+      (old : sum_at sums (from_of opened a) ≤ℤ r) (new : by_arc sums a ≤ℤ r) (which : (r ≡ sum_at sums (from_of opened a)) ⊎ (r ≡ by_arc sums a)) where
+    abbrev left : ℕ
+    left = from_of opened a
+
+    abbrev after : List ℤ
+    after = set sums left r
+
+    left_inside : left < length ends
+    left_inside = let u = up a la in let b = to_small a la in omega arith
+
+    wider : (n j : ℕ) → LeavesFrom arcs k n j → LeavesFrom arcs a n j
+    wider n j s = (let l : k ≤ j = s.0 in omega arith, s.1, s.2)
+
+    picked : (r ≡ sum_at sums left) ⊎ (r ≡ by_arc sums a) → (r ≡ empty_at_node left) ⊎ ((j : ℕ) × LeavesFrom arcs a left j × (by_arc after j ≡ r))
+    picked (inr e) = inr (a, (omega arith, la, refl), same_by sums a a r (omega arith) la ∙ sym e)
+    picked (inl e) = by (best left left_inside).one
+      where
+        by : (sum_at sums left ≡ empty_at_node left) ⊎ ((j : ℕ) × LeavesFrom arcs k left j × (by_arc sums j ≡ sum_at sums left)) → (r ≡ empty_at_node left) ⊎ ((j : ℕ) × LeavesFrom arcs a left j × (by_arc after j ≡ r))
+        by (inl t) = inl (e ∙ t)
+        by (inr t) = inr (t.0, wider left t.0 t.1, same_by sums a t.0 r (wider left t.0 t.1).0 t.1.1 ∙ t.2 ∙ sym e)
+
+    at_most : (j : ℕ) → LeavesFrom arcs a left j → by_arc after j ≤ℤ r
+    at_most j s = subst (λ z. z ≤ℤ r) (sym (same_by sums a j r s.0 s.1)) (by (eq-or-lt_of_le s.0))
+      where
+        by : (a ≡ j) ⊎ (a < j) → by_arc sums j ≤ℤ r
+        by (inl e) = subst (λ i. by_arc sums i ≤ℤ r) e new
+        by (inr l) = le_le _ _ _ ((best left left_inside).most j (omega arith, s.1, s.2)) old
+
+    here : IsBestFrom arcs (by_arc after) (empty_at_node left) a left r
+    here = record {
+      empty_most = le_le _ _ _ (best left left_inside).empty_most old;
+      most = at_most;
+      one = picked which;
+    }
+
+    further : (n j : ℕ) → (n ≡ left → ⊥) → LeavesFrom arcs a n j → LeavesFrom arcs k n j
+    further n j off s = (by (eq-or-lt_of_le s.0), s.1, s.2)
+      where
+        by : (a ≡ j) ⊎ (a < j) → k ≤ j
+        by (inl e) = absurd (off (sym s.2 ∙ ap (λ i. from_of opened i) (sym e)))
+        by (inr l) = omega arith
+
+    others : (n : ℕ) → n < length ends → (n ≡ left → ⊥) → IsBestFrom arcs (by_arc after) (empty_at_node n) a n (sum_at sums n)
+    others n inside off = record {
+      empty_most = (best n inside).empty_most;
+      most = λ j s. subst (λ z. z ≤ℤ sum_at sums n) (sym (same_by sums a j r s.0 s.1)) ((best n inside).most j (further n j off s));
+      one = by (best n inside).one;
+    }
+      where
+        by : (sum_at sums n ≡ empty_at_node n) ⊎ ((j : ℕ) × LeavesFrom arcs k n j × (by_arc sums j ≡ sum_at sums n)) → (sum_at sums n ≡ empty_at_node n) ⊎ ((j : ℕ) × LeavesFrom arcs a n j × (by_arc after j ≡ sum_at sums n))
+        by (inl t) = inl t
+        by (inr t) = inr (t.0, wider n t.0 t.1, same_by sums a t.0 r (wider n t.0 t.1).0 t.1.1 ∙ t.2)
+
+    pub best_next : AreBestFrom arcs ends value after a
+    best_next n inside = by (cases_eq n left)
+      where
+        by : (n ≡ left) ⊎ (n ≡ left → ⊥) → IsBestFrom arcs (by_arc after) (empty_at_node n) a n (sum_at after n)
+        by (inl e) = subst (λ i. IsBestFrom arcs (by_arc after) (empty_at_node i) a i (sum_at after i)) (sym e)
+            (subst (λ z. IsBestFrom arcs (by_arc after) (empty_at_node left) a left z) (sym (get_or-set_same sums left r (pos 0) (let l = left_inside in omega arith))) here)
+        by (inr off) = subst (λ z. IsBestFrom arcs (by_arc after) (empty_at_node n) a n z) (sym (get_or-set_other sums left n r (pos 0) off)) (others n inside off)
 
   -- ---- the path by the sums
 

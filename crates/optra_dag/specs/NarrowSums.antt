@@ -45,6 +45,16 @@ pub record IsBestOf (by : ℕ → ℤ) (empty : ℤ) (span : Span) (best : ℤ) 
   pub most : (k : ℕ) → StandsIn span k → by k ≤ℤ best
   pub one : (best ≡ empty) ⊎ ((k : ℕ) × StandsIn span k × (by k ≡ best))
 
+-- the arc is from k on, and leaves the node
+abbrev pub LeavesFrom : List Arc → ℕ → ℕ → ℕ → Type 0
+LeavesFrom arcs k node j = (k ≤ j) × (j < length arcs) × ((slice_index_or arcs j no_arc).from ≡ node)
+
+-- the greatest of the empty way's sum and of those by the node's arcs from k on
+pub record IsBestFrom (arcs : List Arc) (by : ℕ → ℤ) (empty : ℤ) (k node : ℕ) (best : ℤ) : Type 0 where
+  pub empty_most : empty ≤ℤ best
+  pub most : (j : ℕ) → LeavesFrom arcs k node j → by j ≤ℤ best
+  pub one : (best ≡ empty) ⊎ ((j : ℕ) × LeavesFrom arcs k node j × (by j ≡ best))
+
 -- the first arc of a span that gives the sum
 pub record IsFirstBy (by : ℕ → ℤ) (span : Span) (sum : ℤ) (k : ℕ) : Type 0 where
   pub stands : StandsIn span k
@@ -55,6 +65,16 @@ pub record IsFirstBy (by : ℕ → ℤ) (span : Span) (sum : ℤ) (k : ℕ) : Ty
 abbrev pub empty_sum : Bool → ℤ
 empty_sum true = pos 0
 empty_sum false = far
+
+-- the sums of the first nodes are those of their empty ways; the path from node 0 may not be empty
+abbrev pub AreEmptySums : List Bool → List ℤ → ℕ → Type 0
+AreEmptySums ends sums count =
+    (node : ℕ) → node < count → slice_index_or sums node (pos 0) ≡ empty_sum (slice_index_or (slice_set ends 0 false) node false)
+
+-- the sums of all nodes when the arcs from k on are done
+abbrev pub AreBestFrom : List Arc → List Bool → (ℕ → ℤ) → List ℤ → ℕ → Type 0
+AreBestFrom arcs ends value sums k = (node : ℕ) → node < length ends
+    → IsBestFrom arcs (sum_by arcs value sums) (empty_sum (slice_index_or (slice_set ends 0 false) node false)) k node (slice_index_or sums node (pos 0))
 
 -- a sum that is within reach, and the greatest of the ways from the node to an end
 pub record IsReached (g : Graph) (allows : ℕ → Bool) (weight : ℕ → ℤ) (reach node : ℕ) (sum : ℤ) : Type 0 where

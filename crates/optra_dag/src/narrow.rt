@@ -1,10 +1,10 @@
-//! The first path of greatest weight in 64 bits: the best sum of each node, from the last node to
-//! the first, and then the path by these sums.
+//! The first path of greatest weight in 64 bits: the best sum of each node, by the arcs from the
+//! last one to the first, and then the path by these sums.
 ghost use Rattle.std.specs.Prelude.{◌≡◌, ℕ, Bool, true, false, ◌*◌, ◌<◌, ◌≤◌, ◌↔◌, ◌≤ℤ◌, pos, length, slice_index_or, slice_set, IfOk, OnOk, IfSome, IfNone, IsTrue, ℤ, List};
 ghost use Rattle.optra_dag.specs.Paths.{IsPath, IsFirstBest};
 ghost use Rattle.optra_dag.specs.WaySums.{open_graph, plain_graph};
 ghost use Rattle.optra_dag.specs.Spans.{no_span, StandsIn};
-ghost use Rattle.optra_dag.specs.NarrowSums.{IsWithin, arc_value, sum_by, CanBeSummed, IsBestOf, IsFirstBy, empty_sum, IsNarrow, HasSums, IsFirstWay, IsOver};
+ghost use Rattle.optra_dag.specs.NarrowSums.{IsWithin, arc_value, sum_by, CanBeSummed, IsFirstBy, empty_sum, AreEmptySums, IsNarrow, HasSums, IsFirstWay, IsOver};
 
 use crate::buffers::Buffers;
 use crate::graphs::Dag;
@@ -101,7 +101,7 @@ fn search<W: NarrowWeight>(
     ensures none { IfOk result (λ answer. IfNone answer
         ((path : List ℕ) → IsPath (plain_graph arcs.now ends.now) (W.allows weight.now) path → ⊥)) }
 {
-    sums.resize(ends.len(), FAR)?;
+    start(sums, ends)?;
     sweep(sums, arcs, ends, spans, weight, most);
     let sum = sums[0];
     if sum < LEAST {
@@ -126,7 +126,20 @@ fn empty_sum(end: bool) -> i64
     if end { 0 } else { FAR }
 }
 
-/// The sums of all nodes, from the last node to the first. What the array held before is not read.
+/// The sums of the empty ways. What the array held before is not read.
+fn start(sums: &mut Vec<i64>, ends: &[bool]) -> Result<(), NoMemory>
+    ensures long { OnOk result (length sums.new.items ≡ length ends.now) }
+    ensures empty { OnOk result (AreEmptySums ends.now sums.new.items (length ends.now)) }
+{
+    sums.resize(ends.len(), FAR)?;
+    'nodes: for node in 0..ends.len() {
+        sums[node] = empty_sum(ends_at(ends, node));
+    }
+    Ok(())
+}
+
+/// The sums of all nodes, by the arcs from the last one to the first: an arc that leads to a node stands before all arcs
+/// that leave it, so that the sum there is whole by then.
 fn sweep<W: NarrowWeight>(
     sums: &mut [i64],
     arcs: &[Arc],
@@ -139,40 +152,21 @@ fn sweep<W: NarrowWeight>(
     requires narrow { IsNarrow arcs.now ends.now spans.now
         (W.allows weight.now) (W.weight weight.now) most }
     requires long { length sums.old ≡ length ends.now }
+    requires empty { AreEmptySums ends.now sums.old (length ends.now) }
     ensures long { length sums.new ≡ length ends.now }
     ensures summed { HasSums arcs.now ends.now
         (W.allows weight.now) (W.weight weight.now) most sums.new 0 }
 {
+    let _ends = ends;
+    let _spans = spans;
     let _most = most;
-    let mut node = ends.len();
-    'nodes: while node > 0 {
-        node -= 1;
-        let empty = empty_sum(ends_at(ends, node));
-        let best = best_of_node(sums, arcs, spans[node], weight, empty);
-        sums[node] = best;
+    let mut left = arcs.len();
+    'arcs: while left > 0 {
+        left -= 1;
+        let Arc { from, to } = arcs[left];
+        let sum = weight.of(left as u32) + sums[to as usize];
+        sums[from as usize] = sums[from as usize].max(sum);
     }
-}
-
-/// The best sum of a node: that of the empty way, or that by the best of its arcs.
-fn best_of_node<W: NarrowWeight>(
-    sums: &[i64],
-    arcs: &[Arc],
-    span: Span,
-    weight: &W,
-    empty: i64,
-) -> i64
-    requires asked { length arcs.now ≤ W.asked weight.now }
-    requires sums { (k : ℕ) → StandsIn span k → CanBeSummed arcs.now
-        (arc_value (W.allows weight.now) (W.weight weight.now)) sums.now k }
-    ensures { IsBestOf (sum_by arcs.now
-        (arc_value (W.allows weight.now) (W.weight weight.now)) sums.now) empty span result }
-{
-    let mut best = empty;
-    'arcs: for k in span.start..span.stop {
-        let rest = sums[arcs[k as usize].to as usize];
-        best = best.max(weight.of(k) + rest);
-    }
-    best
 }
 
 /// The path from node 0 by the sums: at each node by its first arc that gives the node's sum.

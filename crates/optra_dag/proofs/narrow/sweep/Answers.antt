@@ -1,25 +1,46 @@
--- One more node.
-use Rattle.std.proofs.Common.{rules, arith, length-set, ◌-◌, ◌∙◌, w64, FitsSigned, to_z-of_z}
-use Rattle.optra_dag.proofs.NarrowWays.{can_be_summed, more_summed}
+-- One more arc.
+use Rattle.std.proofs.Common.{rules, arith, ap, sym, subst, length-set, ◌-◌, ◌∙◌, w64, FitsSigned, to_z-of_z, ◌+ℤ◌, get_or, pos}
+use Rattle.optra_dag.specs.Paths.{no_arc}
+use Rattle.optra_dag.proofs.NarrowLoops.{value_by, max_is}
+use Rattle.optra_dag.proofs.NarrowWays.{fits_next, best_next, all_summed}
 use Rattle.optra_dag.proofs.narrow.sweep.Goals as goal
 
-pub best_of_node-best-requires-clause-sums : goal.best_of_node-best-requires-clause-sums
-best_of_node-best-requires-clause-sums g c =
-    let few = c.nodes.invariant.few in
-    let some = c.nodes-test.true in
-    can_be_summed c.args.arcs.now c.args.ends.now c.args.spans.now _ _ c.args.most c.requires.narrow c.nodes.sums c.nodes.node (c.nodes.node - 1) c.nodes.invariant.long (omega arith) (omega arith) c.nodes.invariant.summed
+pub overflow_add-sum : goal.overflow_add-sum
+overflow_add-sum g c =
+    let some = c.arcs-test.true in
+    let few = c.arcs.invariant.few in
+    let v = value_by (g.W.NarrowWeight.allows c.args.weight.now (c.arcs.left - 1)) (g.W.NarrowWeight.weight c.args.weight.now (c.arcs.left - 1)) c.of.result c.of.ensures.allowed c.of.ensures.other in
+    let w : FitsSigned w64 c.of.result = search rules in
+    let rest : FitsSigned w64 (get_or c.arcs.sums (get_or c.args.arcs.now (c.arcs.left - 1) no_arc).to (pos 0)) = search rules in
+    let fits = fits_next c.args.arcs.now c.args.ends.now c.args.spans.now _ _ c.args.most c.requires.narrow c.arcs.sums c.arcs.left (c.arcs.left - 1) (omega arith) (omega arith) c.arcs.invariant.best in
+    simp to_z-of_z (subst (λ z. FitsSigned w64 (z +ℤ get_or c.arcs.sums (get_or c.args.arcs.now (c.arcs.left - 1) no_arc).to (pos 0))) (sym v) fits)
 
-pub nodes-preserved : goal.nodes-preserved
-nodes-preserved g c =
-    let few = c.nodes.invariant.few in
-    let some = c.nodes-test.true in
-    let empty : FitsSigned w64 c.empty_sum-empty.result = search rules in
-    let best : FitsSigned w64 c.best_of_node-best.result = search rules in
-    let is_best = simp to_z-of_z at c.best_of_node-best.ensures in
+pub arcs-preserved : goal.arcs-preserved
+arcs-preserved g c =
+    let some = c.arcs-test.true in
+    let few = c.arcs.invariant.few in
+    let v = value_by (g.W.NarrowWeight.allows c.args.weight.now (c.arcs.left - 1)) (g.W.NarrowWeight.weight c.args.weight.now (c.arcs.left - 1)) c.of.result c.of.ensures.allowed c.of.ensures.other in
+    let w : FitsSigned w64 c.of.result = search rules in
+    let rest : FitsSigned w64 (get_or c.arcs.sums (get_or c.args.arcs.now (c.arcs.left - 1) no_arc).to (pos 0)) = search rules in
+    let old : FitsSigned w64 (get_or c.arcs.sums (get_or c.args.arcs.now (c.arcs.left - 1) no_arc).from (pos 0)) = search rules in
+    let fits = fits_next c.args.arcs.now c.args.ends.now c.args.spans.now _ _ c.args.most c.requires.narrow c.arcs.sums c.arcs.left (c.arcs.left - 1) (omega arith) (omega arith) c.arcs.invariant.best in
+    let sum : FitsSigned w64 (c.of.result +ℤ get_or c.arcs.sums (get_or c.args.arcs.now (c.arcs.left - 1) no_arc).to (pos 0)) =
+    subst (λ z. FitsSigned w64 (z +ℤ get_or c.arcs.sums (get_or c.args.arcs.now (c.arcs.left - 1) no_arc).to (pos 0))) (sym v) fits in
+    let e = ap (λ z. z +ℤ get_or c.arcs.sums (get_or c.args.arcs.now (c.arcs.left - 1) no_arc).to (pos 0)) v in
+    let new : FitsSigned w64 c.max.result = search rules in
+    let value = simp to_z-of_z at c.max.ensures.value in
+    let self = simp to_z-of_z at c.max.ensures.self_bound in
+    let other = simp to_z-of_z at c.max.ensures.other_bound in
+    let which = max_is (get_or c.arcs.sums (get_or c.args.arcs.now (c.arcs.left - 1) no_arc).from (pos 0))
+    (c.of.result +ℤ get_or c.arcs.sums (get_or c.args.arcs.now (c.arcs.left - 1) no_arc).to (pos 0)) c.max.result value in
     record {
-      long = length-set _ _ _ ∙ c.nodes.invariant.long;
+      long = length-set _ _ _ ∙ c.arcs.invariant.long;
       few = omega arith;
-      summed = simp to_z-of_z (more_summed c.args.arcs.now c.args.ends.now c.args.spans.now _ _ c.args.most c.requires.narrow c.nodes.sums c.nodes.node (c.nodes.node - 1) c.empty_sum-empty.result c.best_of_node-best.result c.ends_at.result
-          (omega arith) c.nodes.invariant.long (omega arith) c.nodes.invariant.summed
-          c.empty_sum-empty.ensures c.ends_at.ensures is_best);
+      best = simp to_z-of_z (best_next c.args.arcs.now c.args.ends.now c.args.spans.now _ _ c.args.most c.requires.narrow c.arcs.sums c.arcs.left (c.arcs.left - 1) c.max.result
+          (omega arith) (omega arith) c.arcs.invariant.long c.arcs.invariant.best self (rw e at other) (rw e at which));
     }
+
+pub returns-clause-summed : goal.returns-clause-summed
+returns-clause-summed g c =
+    let none = c.arcs-test.false in
+    all_summed c.args.arcs.now c.args.ends.now c.args.spans.now _ _ c.args.most c.requires.narrow c.arcs.sums c.arcs.left 0 (omega arith) (λ j l f. omega arith) c.arcs.invariant.best
