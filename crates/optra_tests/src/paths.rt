@@ -46,16 +46,17 @@ fn diamond(alloc: Global, end: u32) -> Result<Dag, NoMemory>
     Ok(dag)
 }
 
-/// The end, the closed arc and the dear one, what the best path is worth, and its arcs.
-type Case = (u32, u32, u32, i128, &'static [u32]);
+/// The end, the closed arc and the dear one, what the best path is worth, if there is one, and its arcs. No path ends where
+/// all begin.
+type Case = (u32, u32, u32, Option<i128>, &'static [u32]);
 
 static CASES: [Case; 6] = [
-    (3, 9, 9, 2, &[0, 3]),
-    (3, 3, 9, 2, &[1, 4]),
-    (3, 9, 2, 10, &[2]),
-    (3, 9, 4, 11, &[1, 4]),
-    (2, 9, 9, 1, &[1]),
-    (0, 9, 9, 0, &[]),
+    (3, 9, 9, Some(2), &[0, 3]),
+    (3, 3, 9, Some(2), &[1, 4]),
+    (3, 9, 2, Some(10), &[2]),
+    (3, 9, 4, Some(11), &[1, 4]),
+    (2, 9, 9, Some(1), &[1]),
+    (0, 9, 9, None, &[]),
 ];
 
 /// The best path of a graph, in buffers of its own and in these.
@@ -71,14 +72,16 @@ fn check_paths(
     let tolls = Tolls { closed, dear };
     match &first_best(rt.alloc(), dag, &tolls)? {
         Some((total, arcs)) => {
-            assert_eq!(rt; *total, sum);
+            assert_eq!(rt; Some(*total), sum);
             assert_eq!(rt; arcs.as_slice(), path);
         }
-        None => assert!(rt; false, "no path"),
+        None => assert_eq!(rt; sum, None),
     }
     let again = first_best_in(buffers, dag, &tolls)?;
-    assert_eq!(rt; again, Some(sum));
-    assert_eq!(rt; buffers.path(), path);
+    assert_eq!(rt; again, sum);
+    if sum.is_some() {
+        assert_eq!(rt; buffers.path(), path);
+    }
     Ok(())
 }
 
