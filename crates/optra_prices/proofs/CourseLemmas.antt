@@ -1,7 +1,6 @@
 -- What is kept at a node while prices go along a path.
 use Rattle.std.proofs.Common.{◌≡◌, ℕ, ◌<◌, Vec, Global, List, [], length, Some, slice_get, refl, sym, ap, ◌∙◌, subst}
 use Rattle.std.specs.Prelude.{All, Contains, ℤ, pos, ◌*ℤ◌, slice_index, slice_index_or}
-use Rattle.std.specs.BTreeMap.{IsOrdered}
 use Rattle.std.specs.declared.cmp.Ordering.{Ordering}
 use Rattle.std.specs.Cmp.{IsTotalOrder}
 use Rattle.std.proofs.lemmas.Option.{same_Some, slice_get_within, slice_get-get_or, get_or_from_slice_get}
@@ -11,14 +10,13 @@ use Rattle.optra_node.specs.Duals.{capacity_price}
 use Rattle.optra_node.specs.Laws.{TestsTellAllowed, PricesByUsedRows}
 use Rattle.optra_node.proofs.LeastLemmas.{at_contains}
 use Rattle.optra_prices.specs.Columns.{IsColumns}
-use Rattle.optra_prices.specs.Courses.{listed, prices_at, zero_valuation, HaveCapacities, AreSetUp, IsCourse, IsPriced}
+use Rattle.optra_prices.specs.Courses.{prices_at, zero_valuation, HaveCapacities, AreSetUp, IsCourse, IsPriced}
 use Rattle.optra_prices.specs.Levels.{IsLevels}
 use Rattle.optra_prices.specs.Uses.{AreCounted, paths_in}
 use Rattle.optra_prices.specs.Listings.{capacity_sum, capacity_below}
 use Rattle.optra_prices.specs.Replies.{IsValuation}
-use Rattle.optra_prices.specs.Steps.{AreProper}
 use Rattle.optra_prices.specs.Standings.{Agrees, AreTables, AllStand, value_of}
-use Rattle.optra_prices.specs.Tables.{Extends, IsNumbering}
+use Rattle.optra_prices.specs.Tables.{Extends, IsNumbering, AreUp}
 use Rattle.optra_prices.specs.Terms.{Setting}
 use Rattle.optra_prices.specs.declared.arc_tables.ArcTables.{ArcTables}
 use Rattle.optra_prices.specs.declared.columns.Columns.{Columns}
@@ -34,38 +32,37 @@ pub contains_kept : {R : Type 0} (old new : List R) → Extends old new → (row
 contains_kept old new extends row (k, l, e) = at_contains new k row (extends k row (slice_get-get_or old k row l ∙ ap Some e))
 
 -- a row has one number
-pub numbered_once : {R : Type 0} (cmp : R → R → Ordering) (c : ArcTables R) → IsNumbering cmp c.numbering.numbers c.numbering.rows.items
+pub numbered_once : {R : Type 0} (cmp : R → R → Ordering) (c : ArcTables R) → IsNumbering cmp c.numbering.order.items c.numbering.rows.items
     → (i j : ℕ) (row : R) → slice_get c.numbering.rows.items i ≡ Some row → slice_get c.numbering.rows.items j ≡ Some row → i ≡ j
 numbered_once cmp c is i j row i_at j_at = same_Some i j (sym (is.known i row i_at) ∙ is.known j row j_at)
 
-module _ {R : Type 0} (cmp : R → R → Ordering) (total : IsTotalOrder cmp) (apart : TellsApart cmp) (s : Setting R) (c : ArcTables R) (ordered : IsOrdered cmp c.numbering.numbers) where
+module _ {R : Type 0} (cmp : R → R → Ordering) (total : IsTotalOrder cmp) (apart : TellsApart cmp) (s : Setting R) (c : ArcTables R) (ordered : AreUp cmp c.numbering.order.items) where
   -- the price of all capacity by number is that of the prices
   pub capacity_is : AreSetUp cmp s c → capacity_below c.levels.prices.items c.levels.capacities.items (length c.levels.prices.items) ≡ capacity_price s.rows (prices_at c)
-  capacity_is is = sym by_number ∙ capacity_listed s.rows c.levels.prices.items c.levels.capacities.items is.levels.range c.order.items
-      (subst (All (λ (e : R × ℕ). slice_index c.levels.capacities.items e.1 ≡ s.rows.capacity e.0)) (sym is.order)
-      (entries_all cmp total apart s.rows c.numbering.numbers c.numbering.rows.items is.numbering is.rows ordered (λ (e : R × ℕ). slice_index c.levels.capacities.items e.1 ≡ s.rows.capacity e.0)
-      (λ e at. get_or_from_slice_get c.levels.capacities.items e.1 (s.rows.capacity e.0) 0 (is.capacities e.1 e.0 at))))
+  capacity_is is = sym by_number ∙ capacity_listed s.rows c.levels.prices.items c.levels.capacities.items is.levels.range c.numbering.order.items
+      (entries_all cmp total apart s.rows c.numbering.order.items c.numbering.rows.items is.numbering is.rows ordered (λ (e : R × ℕ). slice_index c.levels.capacities.items e.1 ≡ s.rows.capacity e.0)
+      (λ e at. get_or_from_slice_get c.levels.capacities.items e.1 (s.rows.capacity e.0) 0 (is.capacities e.1 e.0 at)))
     where
       rows : List R
       rows = c.numbering.rows.items
 
-      entries : (P : R × ℕ → Type 0) → ((e : R × ℕ) → slice_get rows e.1 ≡ Some e.0 → P e) → All P c.numbering.numbers.entries
-      entries = entries_all cmp total apart s.rows c.numbering.numbers rows is.numbering is.rows ordered
+      entries : (P : R × ℕ → Type 0) → ((e : R × ℕ) → slice_get rows e.1 ≡ Some e.0 → P e) → All P c.numbering.order.items
+      entries = entries_all cmp total apart s.rows c.numbering.order.items rows is.numbering is.rows ordered
 
-      once : (i : ℕ) → i < length rows → times i c.numbering.numbers.entries ≡ 1
-      once = numbers_once cmp total apart c.numbering.numbers rows is.numbering ordered (entries (λ (e : R × ℕ). slice_get rows e.1 ≡ Some e.0) (λ e at. at))
+      once : (i : ℕ) → i < length rows → times i c.numbering.order.items ≡ 1
+      once = numbers_once cmp total apart c.numbering.order.items rows is.numbering ordered (entries (λ (e : R × ℕ). slice_get rows e.1 ≡ Some e.0) (λ e at. at))
 
-      by_number : capacity_sum c.order.items c.levels.prices.items c.levels.capacities.items ≡ capacity_below c.levels.prices.items c.levels.capacities.items (length c.levels.prices.items)
-      by_number = subst (λ (es : List (R × ℕ)). capacity_sum es c.levels.prices.items c.levels.capacities.items ≡ capacity_below c.levels.prices.items c.levels.capacities.items (length c.levels.prices.items)) (sym is.order)
-          (subst (λ (n : ℕ). capacity_sum c.numbering.numbers.entries c.levels.prices.items c.levels.capacities.items ≡ capacity_below c.levels.prices.items c.levels.capacities.items n) (sym is.price_count)
-          (sum_numbers (λ (k : ℕ). slice_index_or c.levels.prices.items k (pos 0) *ℤ pos (slice_index c.levels.capacities.items k)) (length rows) c.numbering.numbers.entries
-          (entries (λ (e : R × ℕ). e.1 < length rows) (λ e at. slice_get_within rows e.1 e.0 at)) once))
+      by_number : capacity_sum c.numbering.order.items c.levels.prices.items c.levels.capacities.items ≡ capacity_below c.levels.prices.items c.levels.capacities.items (length c.levels.prices.items)
+      by_number =
+          subst (λ (n : ℕ). capacity_sum c.numbering.order.items c.levels.prices.items c.levels.capacities.items ≡ capacity_below c.levels.prices.items c.levels.capacities.items n) (sym is.price_count)
+          (sum_numbers (λ (k : ℕ). slice_index_or c.levels.prices.items k (pos 0) *ℤ pos (slice_index c.levels.capacities.items k)) (length rows) c.numbering.order.items
+          (entries (λ (e : R × ℕ). e.1 < length rows) (λ e at. slice_get_within rows e.1 e.0 at)) once)
 
   -- a course with its value is priced
   pub course_priced : IsProper s.net → TestsTellAllowed s.net s.rows s.bids → PricesByUsedRows s.net s.rows cmp s.used → IsCourse cmp s c → c.value ≡ value_of c.levels.capacity c.standings.items → IsPriced cmp s c
   course_priced proper law by_used course value = record {
     course = course;
-    proper = subst (λ (order : List (R × ℕ)). AreProperOf order) (sym is.order) (listed_proper cmp total apart s.rows c.numbering.numbers rows is.numbering is.rows ordered c.levels.prices.items is.levels.range);
+    proper = listed_proper cmp total apart s.rows c.numbering.order.items rows is.numbering is.rows ordered c.levels.prices.items is.levels.range;
     valuation = settled_valuation cmp s proper law by_used rows c.levels.prices.items (prices_at c) agrees c.columns.groups c.columns.grouped.items course.grouped c.tables.items c.standings.items is.tables is.stand (capacity_price s.rows (prices_at c)) refl;
     value_is = value ∙ ap (λ (z : ℤ). value_of z c.standings.items) (is.levels.capacity_is ∙ capacity_is is);
   }
@@ -76,12 +73,8 @@ module _ {R : Type 0} (cmp : R → R → Ordering) (total : IsTotalOrder cmp) (a
       rows : List R
       rows = c.numbering.rows.items
 
-      AreProperOf : List (R × ℕ) → Type 0
-      AreProperOf order = AreProper cmp s.rows (listed order c.levels.prices.items)
-
       agrees : Agrees cmp rows c.levels.prices.items (prices_at c)
-      agrees = subst (λ (order : List (R × ℕ)). Agrees cmp rows c.levels.prices.items (listed order c.levels.prices.items)) (sym is.order)
-          (listed_agrees cmp total apart s.rows c.numbering.numbers rows is.numbering is.rows ordered c.levels.prices.items is.levels.range)
+      agrees = listed_agrees cmp total apart s.rows c.numbering.order.items rows is.numbering is.rows ordered c.levels.prices.items is.levels.range
 
 -- at zero prices the bids are valued by what is known of them there
 pub zero_is_valued : {R : Type 0} (cmp : R → R → Ordering) (s : Setting R) (c : ArcTables R) → IsProper s.net → TestsTellAllowed s.net s.rows s.bids → PricesByUsedRows s.net s.rows cmp s.used → AreSetUp cmp s c
@@ -113,7 +106,6 @@ module _ {R : Type 0} (cmp : R → R → Ordering) (s : Setting R) (c : ArcTable
   counted_on levels counted is is_levels counts count capacities grouped = record {
     numbering = is.numbering;
     rows = is.rows;
-    order = is.order;
     capacities = subst (λ cs. HaveCapacities s.rows c.numbering.rows.items cs.items) (sym capacities) is.capacities;
     price_count = count ∙ is.price_count;
     levels = is_levels;

@@ -6,6 +6,8 @@ pub mod ValueLemmas
 pub mod ArcLemmas
 pub mod MarkLemmas
 pub mod NumberLemmas
+pub mod RankLemmas
+pub mod PlaceLemmas
 pub mod NumberSumLemmas
 pub mod GroupLemmas
 pub mod PriceSumLemmas
@@ -21,6 +23,7 @@ pub mod HolderLemmas
 pub mod SettledLemmas
 pub mod SizeLemmas
 pub mod TableLemmas
+pub mod RenumberLemmas
 pub mod StandLemmas
 pub mod ValueOfLemmas
 pub mod ZeroLemmas
@@ -37,6 +40,8 @@ pub mod ListingLemmas
 pub mod LoadingLemmas
 pub mod AllowLemmas
 pub mod RoomLemmas
+pub mod FillLemmas
+pub mod PutLemmas
 pub mod PartLemmas
 pub mod KeepLemmas
 pub mod TellingLemmas

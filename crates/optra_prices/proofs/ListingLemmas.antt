@@ -2,14 +2,12 @@
 use Rattle.std.proofs.Common.{◌≡◌, ℕ, zero, suc, ◌+◌, Bool, true, false, cond, List, [], ◌∷◌, ◌++◌, length, replicate, append_assoc, get_or, Option, Some, None, slice_get, refl, sym, ap, ◌∙◌, subst, arith, inl, inr}
 use Rattle.std.specs.Prelude.{All, Contains, ℤ, pos, ◌+ℤ◌, ◌*ℤ◌, ◌≤ℤ◌, slice_index, slice_index_or}
 use Rattle.std.specs.Int.{is_positive}
-use Rattle.std.specs.BTreeMap.{BTreeMap, get, IsOrdered}
 use Rattle.std.specs.declared.cmp.Ordering.{Ordering}
 use Rattle.std.specs.Ordering.{eq_by_cmp}
 use Rattle.std.specs.Cmp.{IsTotalOrder}
 use Rattle.std.proofs.lemmas.Bool.{cases_Bool}
 use Rattle.std.proofs.lemmas.Int.{ints}
 use Rattle.std.proofs.lemmas.List.{append-nil}
-use Rattle.std.proofs.lemmas.Map.Entries.{btree_map_get_place}
 use Rattle.std.proofs.lemmas.Option.{none-some, slice_get-get_or}
 use Rattle.std.proofs.Math.IntN.{zero-*ℤ}
 use Rattle.optra_walk.specs.Families.{Rows, TellsApart}
@@ -19,13 +17,14 @@ use Rattle.optra_node.proofs.RowLemmas.{equal_is}
 use Rattle.optra_node.proofs.SumLemmas.{sum_of-cons}
 use Rattle.optra_prices.specs.Steps.{AreProper}
 use Rattle.optra_prices.specs.Holdings.{stepped}
-use Rattle.optra_prices.specs.Tables.{IsNumbering, IsRowPrice}
+use Rattle.optra_prices.specs.Tables.{IsNumbering, IsRowPrice, AreUp, number_in}
 use Rattle.optra_prices.specs.Standings.{Agrees}
 use Rattle.optra_prices.specs.Courses.{listed, HaveCapacities}
 use Rattle.optra_prices.specs.Listings.{price_at, capacity_sum, AddsZeros}
 use Rattle.optra_prices.proofs.HoldLemmas.{next_of, stepped_price}
 use Rattle.optra_prices.proofs.ListLemmas.{all_at}
 use Rattle.optra_prices.proofs.NumberLemmas.{push_at, push_kept, push_cases}
+use Rattle.optra_prices.proofs.RankLemmas.{up_place}
 use Rattle.optra_prices.proofs.PriceListLemmas.{one_price_list, price_none}
 use Rattle.optra_prices.proofs.StepLemmas.{stepped_ascends, stepped_prices}
 
@@ -72,56 +71,56 @@ module _ {R : Type 0} where
           let c = zero-*ℤ (pos (slice_index capacities e.1)) in
           omega (arith, ints)
 
-module _ {R : Type 0} (cmp : R → R → Ordering) (total : IsTotalOrder cmp) (apart : TellsApart cmp) (rows : Rows R) (numbers : BTreeMap R ℕ) (numbered : List R) (is : IsNumbering cmp numbers numbered)
-    (are : All (λ row. rows.is_row row ≡ true) numbered) (ordered : IsOrdered cmp numbers) where
+module _ {R : Type 0} (cmp : R → R → Ordering) (total : IsTotalOrder cmp) (apart : TellsApart cmp) (rows : Rows R) (numbers : List (R × ℕ)) (numbered : List R) (is : IsNumbering cmp numbers numbered)
+    (are : All (λ row. rows.is_row row ≡ true) numbered) (ordered : AreUp cmp numbers) where
   -- what is true of rows with their numbers is true of all entries
-  pub entries_all : (P : R × ℕ → Type 0) → ((e : R × ℕ) → slice_get numbered e.1 ≡ Some e.0 → P e) → All P numbers.entries
+  pub entries_all : (P : R × ℕ → Type 0) → ((e : R × ℕ) → slice_get numbered e.1 ≡ Some e.0 → P e) → All P numbers
   entries_all P h k d l =
-      let e = get_or numbers.entries k d in
-      let at : slice_get numbers.entries k ≡ Some e = slice_get-get_or numbers.entries k d l in
-      h e (is.found e.0 e.1 (btree_map_get_place total numbers k e.0 e.1 ordered at))
+      let e = get_or numbers k d in
+      let at : slice_get numbers k ≡ Some e = slice_get-get_or numbers k d l in
+      h e (is.found e.0 e.1 (up_place cmp total numbers k e.0 e.1 ordered at))
 
   module _ (prices : List ℤ) (range : All IsRowPrice prices) where
-    pub listed_proper : AreProper cmp rows (listed numbers.entries prices)
-    listed_proper = subst (AreProper cmp rows) (sym (listed_is numbers.entries prices)) (record {
-      ascending = stepped_ascends cmp (price_at prices) numbers.entries ordered;
-      each = stepped_prices rows (price_at prices) (λ e. (row_price_or prices e.1 range).1) numbers.entries
+    pub listed_proper : AreProper cmp rows (listed numbers prices)
+    listed_proper = subst (AreProper cmp rows) (sym (listed_is numbers prices)) (record {
+      ascending = stepped_ascends cmp (price_at prices) numbers ordered;
+      each = stepped_prices rows (price_at prices) (λ e. (row_price_or prices e.1 range).1) numbers
           (entries_all (λ (e : R × ℕ). rows.is_row e.0 ≡ true) (λ e at. all_at (λ (row : R). rows.is_row row ≡ true) numbered e.1 e.0 are at));
     })
 
-    listed_price : (row : R) → price_of (eq_by_cmp cmp) (listed numbers.entries prices) row ≡ next_of cmp total apart rows.is_row (price_at prices) row (get cmp numbers row)
+    listed_price : (row : R) → price_of (eq_by_cmp cmp) (listed numbers prices) row ≡ next_of cmp total apart rows.is_row (price_at prices) row (number_in cmp numbers row)
     listed_price row =
-        ap (λ (xs : PriceList R). price_of (eq_by_cmp cmp) xs row) (listed_is numbers.entries prices)
-        ∙ stepped_price cmp total apart rows.is_row (price_at prices) (λ e. (row_price_or prices e.1 range).0) numbers.entries ordered row
+        ap (λ (xs : PriceList R). price_of (eq_by_cmp cmp) xs row) (listed_is numbers prices)
+        ∙ stepped_price cmp total apart rows.is_row (price_at prices) (λ e. (row_price_or prices e.1 range).0) numbers ordered row
 
     -- a row with a number has its price
-    pub price_numbered : (n : ℕ) (row : R) → slice_get numbered n ≡ Some row → price_of (eq_by_cmp cmp) (listed numbers.entries prices) row ≡ slice_index_or prices n (pos 0)
+    pub price_numbered : (n : ℕ) (row : R) → slice_get numbered n ≡ Some row → price_of (eq_by_cmp cmp) (listed numbers prices) row ≡ slice_index_or prices n (pos 0)
     price_numbered n row at = listed_price row ∙ ap (next_of cmp total apart rows.is_row (price_at prices) row) (is.known n row at)
 
     -- a row without a number has price 0
-    pub price_unnumbered : (row : R) → get cmp numbers row ≡ None → price_of (eq_by_cmp cmp) (listed numbers.entries prices) row ≡ pos 0
+    pub price_unnumbered : (row : R) → number_in cmp numbers row ≡ None → price_of (eq_by_cmp cmp) (listed numbers prices) row ≡ pos 0
     price_unnumbered row none = listed_price row ∙ ap (next_of cmp total apart rows.is_row (price_at prices) row) none
 
-    pub listed_agrees : Agrees cmp numbered prices (listed numbers.entries prices)
+    pub listed_agrees : Agrees cmp numbered prices (listed numbers prices)
     listed_agrees n row at = price_numbered n row at
 
     -- the list is any proper list that agrees, all of whose rows have numbers
-    pub listed_one : (start : PriceList R) → AreProper cmp rows start → Agrees cmp numbered prices start → All (λ e. Contains numbered e.0) start → listed numbers.entries prices ≡ start
+    pub listed_one : (start : PriceList R) → AreProper cmp rows start → Agrees cmp numbered prices start → All (λ e. Contains numbered e.0) start → listed numbers prices ≡ start
     listed_one start proper agrees all =
-        one_price_list cmp total apart rows (listed numbers.entries prices) start listed_proper.ascending listed_proper.each proper.ascending proper.each (λ row is_row. by row (get cmp numbers row) refl)
+        one_price_list cmp total apart rows (listed numbers prices) start listed_proper.ascending listed_proper.each proper.ascending proper.each (λ row is_row. by row (number_in cmp numbers row) refl)
       where
-        differ : (row : R) → get cmp numbers row ≡ None → All (λ e. eq_by_cmp cmp row e.0 ≡ false) start
+        differ : (row : R) → number_in cmp numbers row ≡ None → All (λ e. eq_by_cmp cmp row e.0 ≡ false) start
         differ row none k d l =
             let e = get_or start k d in
             let c = all k d l in
             elim (cases_Bool (eq_by_cmp cmp row e.0)) as (λ _. eq_by_cmp cmp row e.0 ≡ false) [
               | inl tie ↦
                   let same : row ≡ e.0 = apart row e.0 (equal_is (cmp row e.0) tie) in
-                  absurd (none-some c.0 (sym none ∙ ap (get cmp numbers) same ∙ is.known c.0 e.0 (slice_get-get_or numbered c.0 e.0 c.1 ∙ ap Some c.2)))
+                  absurd (none-some c.0 (sym none ∙ ap (number_in cmp numbers) same ∙ is.known c.0 e.0 (slice_get-get_or numbered c.0 e.0 c.1 ∙ ap Some c.2)))
               | inr other ↦ other
             ]
 
-        by : (row : R) (o : Option ℕ) → get cmp numbers row ≡ o → price_of (eq_by_cmp cmp) (listed numbers.entries prices) row ≡ price_of (eq_by_cmp cmp) start row
+        by : (row : R) (o : Option ℕ) → number_in cmp numbers row ≡ o → price_of (eq_by_cmp cmp) (listed numbers prices) row ≡ price_of (eq_by_cmp cmp) start row
         by row None e = price_unnumbered row e ∙ sym (price_none cmp start row (differ row e))
         by row (Some n) e = price_numbered n row (is.found row n e) ∙ sym (agrees n row (is.found row n e))
 

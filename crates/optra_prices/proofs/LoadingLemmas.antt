@@ -98,22 +98,22 @@ first_load rows row bid (Some legs) bids walks = sum_by-append (λ (e : Entry). 
 
 module _ {R : Type 0} (cmp : R → R → Ordering) (total : IsTotalOrder cmp) (apart : TellsApart cmp) (s : Setting R) (proper : IsProper s.net)
     (lists : (kind : TypeId) (leg : Leg) → IsUsable s.net kind leg → ListsRows cmp s.rows.is_row (s.rows.uses kind leg) (s.used kind leg)) (numbered : List R) (groups : Groups) where
-  module _ (number : ℕ) (bid : Bid) (table : BidTable) (prices : List ℤ) (standing : Standing)
-      (are : AreBidArcs s number bid table.graph.now numbered table.arcs.items groups.starts.items groups.touches.items table.forced) (sound : IsSound table) (stands : Stands table prices standing) where
-    arc_there : (k : ℕ) → k < length table.arcs.items → slice_get table.arcs.items k ≡ Some (get_or table.arcs.items k no_arc)
+  module _ (number : ℕ) (bid : Bid) (table : BidTable) (are : AreBidArcs s number bid table.graph.now numbered table.arcs.items groups.starts.items groups.touches.items table.forced)
+      (path : List ℕ) (within : All (λ k. k < length table.arcs.items) path) (route : (path ≡ [] → ⊥) → IsRoute table.graph.now path) where
+    pub arc_there : (k : ℕ) → k < length table.arcs.items → slice_get table.arcs.items k ≡ Some (get_or table.arcs.items k no_arc)
     arc_there k l = slice_get-get_or table.arcs.items k no_arc l
 
-    leg_touches : (k : ℕ) (leg : Leg) → k < length table.arcs.items → leg_of table.graph.now k ≡ Some leg → AreTouches numbered (s.rows.uses bid.path.kind leg) (arc_touches groups table k) (s.used bid.path.kind leg)
+    pub leg_touches : (k : ℕ) (leg : Leg) → k < length table.arcs.items → leg_of table.graph.now k ≡ Some leg → AreTouches numbered (s.rows.uses bid.path.kind leg) (arc_touches groups table k) (s.used bid.path.kind leg)
     leg_touches k leg l at = (are.terms.legs_are k leg (get_or table.arcs.items k no_arc) (arc_there k l) at).group_is
 
-    usable : (k : ℕ) (leg : Leg) → k < length table.arcs.items → leg_of table.graph.now k ≡ Some leg → IsUsable s.net bid.path.kind leg
+    pub usable : (k : ℕ) (leg : Leg) → k < length table.arcs.items → leg_of table.graph.now k ≡ Some leg → IsUsable s.net bid.path.kind leg
     usable k leg l at = arc_usable s.net proper bid table.graph.now are.graph k leg (let n = are.count in omega arith) at
 
     -- a path by what its arcs use of a row
     path_load : (row : R) (spent : ℕ → ℕ) → ((k minute : ℕ) → k < length table.arcs.items → start_of table.graph.now k ≡ Some minute → spent k ≡ 0)
         → ((k : ℕ) (leg : Leg) → k < length table.arcs.items → leg_of table.graph.now k ≡ Some leg → spent k ≡ s.rows.uses bid.path.kind leg row)
-        → sum_by spent standing.path.items ≡ load_of s.rows row (entries_one bid (path_reply table.graph.now standing.path.items))
-    path_load row spent first others = by standing.path.items (path_within table prices standing sound stands) (path_route table prices standing stands)
+        → sum_by spent path ≡ load_of s.rows row (entries_one bid (path_reply table.graph.now path))
+    path_load row spent first others = by path within route
       where
         by : (path : List ℕ) → All (λ k. k < length table.arcs.items) path → ((path ≡ [] → ⊥) → IsRoute table.graph.now path)
             → sum_by spent path ≡ load_of s.rows row (entries_one bid (path_reply table.graph.now path))
@@ -128,7 +128,7 @@ module _ {R : Type 0} (cmp : R → R → Ordering) (total : IsTotalOrder cmp) (a
             omega arith
 
     pub numbered_load : (once : (i j : ℕ) (row : R) → slice_get numbered i ≡ Some row → slice_get numbered j ≡ Some row → i ≡ j) (n : ℕ) (row : R) → slice_get numbered n ≡ Some row
-        → path_uses groups table standing.path.items n ≡ load_of s.rows row (entries_one bid (path_reply table.graph.now standing.path.items))
+        → path_uses groups table path n ≡ load_of s.rows row (entries_one bid (path_reply table.graph.now path))
     numbered_load once n row at = path_load row (λ k. touch_uses (arc_touches groups table k) n)
         (λ k minute l start. ap (λ (touches : List Touch). touch_uses touches n) (are.terms.starts_are k minute (get_or table.arcs.items k no_arc) (arc_there k l) start).group_is)
         (λ k leg l is.
@@ -136,7 +136,7 @@ module _ {R : Type 0} (cmp : R → R → Ordering) (total : IsTotalOrder cmp) (a
         touch_part cmp total apart numbered once (s.rows.uses bid.path.kind leg) n row at (arc_touches groups table k) (s.used bid.path.kind leg) (leg_touches k leg l is)
         ∙ part_all cmp total apart s.rows.is_row (s.rows.uses bid.path.kind leg) (s.used bid.path.kind leg) listed.ascending listed.used row)
 
-    pub unnumbered_load : (row : R) → ((n : ℕ) → slice_get numbered n ≡ Some row → ⊥) → load_of s.rows row (entries_one bid (path_reply table.graph.now standing.path.items)) ≡ 0
+    pub unnumbered_load : (row : R) → ((n : ℕ) → slice_get numbered n ≡ Some row → ⊥) → load_of s.rows row (entries_one bid (path_reply table.graph.now path)) ≡ 0
     unnumbered_load row none = sym (path_load row (λ k. 0) (λ k minute l start. refl) (λ k leg l is.
         elim (cases_lt 0 (s.rows.uses bid.path.kind leg row)) as (λ _. 0 ≡ s.rows.uses bid.path.kind leg row) [
           | inl some ↦
@@ -144,7 +144,7 @@ module _ {R : Type 0} (cmp : R → R → Ordering) (total : IsTotalOrder cmp) (a
               let place = touch_number numbered (s.rows.uses bid.path.kind leg) row (arc_touches groups table k) (s.used bid.path.kind leg) (leg_touches k leg l is) ((listed.used row).0 some) in
               absurd (none place.0 place.1)
           | inr little ↦ omega arith
-        ])) ∙ no_uses standing.path.items
+        ])) ∙ no_uses path
 
   -- the replies by what their paths use of a row
   by_bids : (row : R) (spent : BidTable → List ℕ → ℕ) (sum : List BidTable → List Standing → ℕ) → ((standings : List Standing) → sum [] standings ≡ 0)
@@ -169,12 +169,12 @@ module _ {R : Type 0} (cmp : R → R → Ordering) (total : IsTotalOrder cmp) (a
     pub uses_load : (once : (i j : ℕ) (row : R) → slice_get numbered i ≡ Some row → slice_get numbered j ≡ Some row → i ≡ j) (n : ℕ) (row : R) → slice_get numbered n ≡ Some row
         → all_uses groups tables (paths_of standings) n ≡ load_of s.rows row (entries_of s.bids (replies_of tables standings))
     uses_load once n row at = by_bids row (λ table path. path_uses groups table path n) (λ ts ss. all_uses groups ts (paths_of ss) n) (λ ss. refl) (λ t ts x ss. refl) s.bids tables standings are.count_is stand.count_is
-        (λ number bid table standing b_at t_at x_at. numbered_load number bid table prices standing (are.each number bid table b_at t_at).arcs_are (all_at IsSound tables number table sound t_at) (stand.each number table standing t_at x_at) once n row at)
+        (λ number bid table standing b_at t_at x_at. numbered_load number bid table (are.each number bid table b_at t_at).arcs_are standing.path.items (path_within table prices standing (all_at IsSound tables number table sound t_at) (stand.each number table standing t_at x_at)) (path_route table prices standing (stand.each number table standing t_at x_at)) once n row at)
 
     -- a row without a number is not used by the replies
     pub no_load : (row : R) → ((n : ℕ) → slice_get numbered n ≡ Some row → ⊥) → load_of s.rows row (entries_of s.bids (replies_of tables standings)) ≡ 0
     no_load row none = sym (by_bids row (λ table path. 0) (λ ts ss. 0) (λ ss. refl) (λ t ts x ss. omega arith) s.bids tables standings are.count_is stand.count_is
-        (λ number bid table standing b_at t_at x_at. sym (unnumbered_load number bid table prices standing (are.each number bid table b_at t_at).arcs_are (all_at IsSound tables number table sound t_at) (stand.each number table standing t_at x_at) row none)))
+        (λ number bid table standing b_at t_at x_at. sym (unnumbered_load number bid table (are.each number bid table b_at t_at).arcs_are standing.path.items (path_within table prices standing (all_at IsSound tables number table sound t_at) (stand.each number table standing t_at x_at)) (path_route table prices standing (stand.each number table standing t_at x_at)) row none)))
 
     -- each arc has a group
     pub tables_grouped : All (HasGroups groups) tables

@@ -1,38 +1,33 @@
 -- Legs that have entered keep their groups while rows get numbers and groups are added.
-use Rattle.std.proofs.Common.{◌≡◌, ℕ, List, [], ◌∷◌, ◌++◌, get_or, true, slice_get, sym, ap, ◌∙◌, subst, arith, ℤ, pos, ◌≤ℤ◌}
+use Rattle.std.proofs.Common.{◌≡◌, ℕ, List, [], ◌∷◌, ◌++◌, get_or, true, sym, ◌∙◌, subst, arith, ℤ, pos, ◌≤ℤ◌}
 use Rattle.std.specs.Prelude.{All, neg_ℤ}
-use Rattle.std.specs.BTreeMap.{BTreeMap, is_at}
-use Rattle.std.specs.Map.{lookup}
-use Rattle.std.specs.declared.cmp.Ordering.{Ordering}
 use Rattle.std.proofs.lemmas.Int.{ints}
 use Rattle.std.proofs.lemmas.List.Elements.{All-push}
-use Rattle.std.proofs.lemmas.Option.{none-some}
 use Rattle.optra_network.specs.Net.{Net}
 use Rattle.optra_network.specs.declared.TypeId.{TypeId}
 use Rattle.optra_bid.specs.Specs.{IsBetween}
 use Rattle.optra_walk.specs.declared.Leg.{Leg}
 use Rattle.optra_walk.specs.Families.{Rows}
-use Rattle.optra_prices.specs.Tables.{IsNumbering, Extends, AreTouches, group_at, AreGroups, KeepsGroups}
+use Rattle.optra_prices.specs.Tables.{Extends, AreTouches, group_at, AreGroups, KeepsGroups}
 use Rattle.optra_prices.specs.Makings.{IsGroupOf, IsHead, IsMaking, Grows}
 use Rattle.optra_prices.specs.Standings.{Covers, IsMost}
 use Rattle.optra_prices.specs.declared.making.Head.{Head}
 use Rattle.optra_prices.specs.declared.making.Making.{Making}
 use Rattle.optra_prices.specs.declared.numbering.ArcTerm.{ArcTerm}
 use Rattle.optra_prices.specs.declared.numbering.Groups.{Groups}
-use Rattle.optra_prices.specs.declared.numbering.Numbering.{Numbering}
 use Rattle.optra_prices.specs.declared.numbering.Touch.{Touch}
 use Rattle.optra_prices.proofs.NumberLemmas.{touches_kept, extends_more}
 
-module _ {R : Type 0} (net : Net) (rows : Rows R) (used : TypeId → Leg → List R) (old new : Numbering R) (before after : Groups) where
-  group_kept : (kind : TypeId) (leg : Leg) (g : ℕ) → Extends old.rows.items new.rows.items → KeepsGroups before.starts.items before.touches.items after.starts.items after.touches.items
+module _ {R : Type 0} (net : Net) (rows : Rows R) (used : TypeId → Leg → List R) (old new : List R) (before after : Groups) where
+  group_kept : (kind : TypeId) (leg : Leg) (g : ℕ) → Extends old new → KeepsGroups before.starts.items before.touches.items after.starts.items after.touches.items
       → IsGroupOf rows used kind leg old before g → IsGroupOf rows used kind leg new after g
   group_kept kind leg g extends keeps is = record {
     within = let w = is.within in let m = keeps.more in omega arith;
-    touches = subst (λ (touches : List Touch). AreTouches new.rows.items (rows.uses kind leg) touches (used kind leg)) (sym (keeps.same g is.within))
-        (touches_kept old.rows.items new.rows.items (rows.uses kind leg) extends (group_at before.starts.items before.touches.items g) (used kind leg) is.touches);
+    touches = subst (λ (touches : List Touch). AreTouches new (rows.uses kind leg) touches (used kind leg)) (sym (keeps.same g is.within))
+        (touches_kept old new (rows.uses kind leg) extends (group_at before.starts.items before.touches.items g) (used kind leg) is.touches);
   }
 
-  pub heads_kept : (heads : List Head) → Extends old.rows.items new.rows.items → KeepsGroups before.starts.items before.touches.items after.starts.items after.touches.items
+  pub heads_kept : (heads : List Head) → Extends old new → KeepsGroups before.starts.items before.touches.items after.starts.items after.touches.items
       → All (IsHead net rows used old before) heads → All (IsHead net rows used new after) heads
   heads_kept heads extends keeps are k d l =
       let is = are k d l in
@@ -47,27 +42,19 @@ groups_more a b c h k = record {
 
 pub grows_more : {R : Type 0} (a b c : Making R) → Grows a b → Grows b c → Grows a c
 grows_more a b c h k = record {
-  extends = extends_more a.numbering.rows.items b.numbering.rows.items c.numbering.rows.items h.extends k.extends;
+  extends = extends_more a.named.items b.named.items c.named.items h.extends k.extends;
   keeps = groups_more a.groups b.groups c.groups h.keeps k.keeps;
-}
-
--- no row and no number
-numbering_none : {R : Type 0} (cmp : R → R → Ordering) (numbers : BTreeMap R ℕ) (rows : List R) → numbers.entries ≡ [] → rows ≡ [] → IsNumbering cmp numbers rows
-numbering_none cmp numbers rows none is = record {
-  found = λ row n at. absurd (none-some n (sym (ap (lookup (is_at (cmp row))) none) ∙ at));
-  known = λ n row at. absurd (none-some row (ap (λ (xs : List _). slice_get xs n) (sym is) ∙ at));
 }
 
 none : {X : Type 0} (P : X → Type 0) (xs : List X) → xs ≡ [] → All P xs
 none P xs is = subst (All P) (sym is) (λ k d l. absurd (omega arith))
 
-pub making_none : {R : Type 0} (cmp : R → R → Ordering) (net : Net) (rows : Rows R) (used : TypeId → Leg → List R) (making : Making R) → making.numbering.numbers.entries ≡ [] → making.numbering.rows.items ≡ [] → making.heads.items ≡ []
-    → AreGroups making.groups.starts.items making.groups.touches.items → IsMaking cmp net rows used making
-making_none cmp net rows used making no_numbers no_rows no_heads groups = record {
-  numbering = numbering_none cmp making.numbering.numbers making.numbering.rows.items no_numbers no_rows;
-  rows_are = none (λ row. rows.is_row row ≡ true) making.numbering.rows.items no_rows;
+pub making_none : {R : Type 0} (net : Net) (rows : Rows R) (used : TypeId → Leg → List R) (making : Making R) → making.named.items ≡ [] → making.heads.items ≡ []
+    → AreGroups making.groups.starts.items making.groups.touches.items → IsMaking net rows used making
+making_none net rows used making no_rows no_heads groups = record {
+  rows_are = none (λ row. rows.is_row row ≡ true) making.named.items no_rows;
   groups_are = groups;
-  heads_are = none (IsHead net rows used making.numbering making.groups) making.heads.items no_heads;
+  heads_are = none (IsHead net rows used making.named.items making.groups) making.heads.items no_heads;
 }
 
 wider : (most after value : ℤ) → most ≤ℤ after → IsBetween (neg_ℤ most) most value → IsBetween (neg_ℤ after) after value

@@ -1,19 +1,12 @@
 -- Rows that get numbers one after the other.
-use Rattle.std.proofs.Common.{◌≡◌, ℕ, zero, suc, Bool, true, false, cond, ◌+◌, ◌≤◌, List, [], ◌∷◌, ◌++◌, length, take, append_assoc, Some, None, slice_get, refl, sym, ap, ◌∙◌, subst, arith, inl, inr}
+use Rattle.std.proofs.Common.{◌≡◌, ℕ, zero, suc, ◌+◌, ◌≤◌, List, [], ◌∷◌, ◌++◌, length, take, append_assoc, Some, slice_get, refl, sym, ap, ◌∙◌, subst, arith, inl, inr}
 use Rattle.std.specs.Prelude.{◌⊎◌, All}
 use Rattle.std.proofs.lemmas.List.Elements.{All-push}
 use Rattle.std.proofs.lemmas.List.{take_all, length-append}
 use Rattle.std.specs.List.{AllZip}
-use Rattle.std.specs.BTreeMap.{BTreeMap, get, is_at}
-use Rattle.std.specs.declared.cmp.Ordering.{Ordering}
-use Rattle.std.specs.Ordering.{is_eq}
-use Rattle.std.specs.Cmp.{IsTotalOrder}
-use Rattle.std.proofs.lemmas.Cmp.{tied_itself}
 use Rattle.std.proofs.lemmas.Option.{same_Some, none-some}
-use Rattle.optra_walk.specs.Families.{TellsApart}
-use Rattle.optra_node.proofs.RowLemmas.{equal_is}
 use Rattle.optra_prices.specs.declared.numbering.Touch.{Touch}
-use Rattle.optra_prices.specs.Tables.{IsNumbering, Extends, IsTouch, AreTouches, AddsTouches}
+use Rattle.optra_prices.specs.Tables.{Extends, IsTouch, AreTouches, AddsTouches}
 
 -- an element at the end
 pub push_at : {X : Type 0} (xs : List X) (x : X) → slice_get (xs ++ x ∷ []) (length xs) ≡ Some x
@@ -34,36 +27,6 @@ push_cases {X} (z ∷ xs) x (suc n) y e = elim (push_cases xs x n y e) as (λ _.
   | inl h ↦ inl h
   | inr h ↦ inr (ap suc h.0, h.1)
 ]
-
--- the next number goes to a row that has none
-pub numbers_more : {R : Type 0} (cmp : R → R → Ordering) (total : IsTotalOrder cmp) (apart : TellsApart cmp) (numbers after : BTreeMap R ℕ) (rows : List R) (row : R) (n : ℕ)
-    → IsNumbering cmp numbers rows → get cmp numbers row ≡ None → n ≡ length rows
-    → ((q : R) → get cmp after q ≡ cond (is_at (cmp row) q) (Some n) (get cmp numbers q)) → IsNumbering cmp after (rows ++ row ∷ [])
-numbers_more {R} cmp total apart numbers after rows row n is none next updates = record { found = found; known = known }
-  where
-    found_by : (q : R) (m : ℕ) (b : Bool) → is_at (cmp row) q ≡ b → cond b (Some n) (get cmp numbers q) ≡ Some m → slice_get (rows ++ row ∷ []) m ≡ Some q
-    found_by q m true e h =
-        let same : row ≡ q = apart row q (equal_is (cmp row q) e) in
-        let place : length rows ≡ m = sym next ∙ same_Some n m h in
-        subst (λ (k : ℕ). slice_get (rows ++ row ∷ []) k ≡ Some q) place (push_at rows row ∙ ap Some same)
-    found_by q m false e h = push_kept rows row m q (is.found q m h)
-
-    found : (q : R) (m : ℕ) → get cmp after q ≡ Some m → slice_get (rows ++ row ∷ []) m ≡ Some q
-    found q m h = found_by q m (is_at (cmp row) q) refl (sym (updates q) ∙ h)
-
-    known_by : (q : R) (m : ℕ) (b : Bool) → is_at (cmp row) q ≡ b → slice_get rows m ≡ Some q → cond b (Some n) (get cmp numbers q) ≡ Some m
-    known_by q m true e at =
-        let same : row ≡ q = apart row q (equal_is (cmp row q) e) in
-        absurd (none-some m (sym none ∙ ap (get cmp numbers) same ∙ is.known m q at))
-    known_by q m false e at = is.known m q at
-
-    known : (m : ℕ) (q : R) → slice_get (rows ++ row ∷ []) m ≡ Some q → get cmp after q ≡ Some m
-    known m q at = elim (push_cases rows row m q at) as (λ _. get cmp after q ≡ Some m) [
-      | inl old ↦ updates q ∙ known_by q m (is_at (cmp row) q) refl old
-      | inr h ↦
-          let at_row : is_at (cmp row) q ≡ true = ap (is_at (cmp row)) (sym h.1) ∙ ap is_eq (tied_itself total row) in
-          updates q ∙ ap (λ (b : Bool). cond b (Some n) (get cmp numbers q)) at_row ∙ ap Some (next ∙ sym h.0)
-    ]
 
 -- rows keep their numbers where one is added, or none
 pub grows_extends : {R : Type 0} (old new : List R) (row : R) → (new ≡ old) ⊎ (new ≡ old ++ row ∷ []) → Extends old new

@@ -1,9 +1,8 @@
 -- A sum over rows with their numbers is the sum over the numbers.
 use Rattle.std.proofs.Common.{◌≡◌, ℕ, zero, suc, ◌+◌, ◌≤◌, ◌<◌, Bool, true, false, cond, nat_eq, List, [], ◌∷◌, length, get_or, Some, slice_get, refl, sym, ap, ◌∙◌, subst, arith, inl, inr}
-use Rattle.std.specs.Prelude.{All, Contains, ℤ, pos, ◌+ℤ◌}
+use Rattle.std.specs.Prelude.{All, ℤ, pos, ◌+ℤ◌}
 use Rattle.std.specs.List.{AllByRecursion}
 use Rattle.std.specs.List.Sorted.{IsStrictlySortedBy}
-use Rattle.std.specs.BTreeMap.{BTreeMap, IsOrdered}
 use Rattle.std.specs.Map.{keys_of}
 use Rattle.std.specs.declared.cmp.Ordering.{Ordering}
 use Rattle.std.specs.declared.cmp.Ordering.TheVariants.{Less, Equal}
@@ -13,13 +12,13 @@ use Rattle.std.proofs.lemmas.Cmp.{tied_itself}
 use Rattle.std.proofs.lemmas.Int.{ints}
 use Rattle.std.proofs.lemmas.List.Elements.{All-head, All-tail}
 use Rattle.std.proofs.lemmas.Map.Keys.{sorted_head, sorted_tail}
-use Rattle.std.proofs.lemmas.Map.Views.{btree_map_get_iff}
-use Rattle.std.proofs.lemmas.Option.{none-some, same_Some, slice_get-get_or}
+use Rattle.std.proofs.lemmas.Option.{none-some, same_Some}
 use Rattle.optra_walk.specs.Families.{TellsApart}
 use Rattle.optra_node.specs.Duals.{sum_of}
 use Rattle.optra_node.proofs.SumLemmas.{sum_of-cons}
 use Rattle.optra_prices.specs.Listings.{sum_below}
-use Rattle.optra_prices.specs.Tables.{IsNumbering}
+use Rattle.optra_prices.specs.Tables.{IsNumbering, AreUp}
+use Rattle.optra_prices.proofs.RankLemmas.{up_number}
 use Rattle.optra_prices.proofs.ListLemmas.{some_at}
 
 -- ---- sums over numbers
@@ -147,16 +146,12 @@ sum_numbers f n es small once =
     sum_often f n es small ∙ below_same (λ (i : ℕ). often (times i es) (f i)) f n (λ i l. often_once (times i es) (f i) (once i l))
 
 -- in a numbering each number stands once
-pub numbers_once : {R : Type 0} (cmp : R → R → Ordering) → IsTotalOrder cmp → TellsApart cmp → (numbers : BTreeMap R ℕ) (numbered : List R) → IsNumbering cmp numbers numbered → IsOrdered cmp numbers
-    → All (λ e. slice_get numbered e.1 ≡ Some e.0) numbers.entries → (i : ℕ) → i < length numbered → times i numbers.entries ≡ 1
+pub numbers_once : {R : Type 0} (cmp : R → R → Ordering) → IsTotalOrder cmp → TellsApart cmp → (numbers : List (R × ℕ)) (numbered : List R) → IsNumbering cmp numbers numbered → AreUp cmp numbers
+    → All (λ e. slice_get numbered e.1 ≡ Some e.0) numbers → (i : ℕ) → i < length numbered → times i numbers ≡ 1
 numbers_once {R} cmp total apart numbers numbered is ordered all i l =
     let row = some_at numbered i l in
-    let has = (btree_map_get_iff total apart numbers ordered row.0 i).0 (is.known i row.0 row.1) in
-    let place = contained numbers.entries (row.0, i) has in
-    let owns : All (λ (e : R × ℕ). e.1 ≡ i → e.0 ≡ row.0) numbers.entries = λ k d m same.
-    same_Some (get_or numbers.entries k d).0 row.0 (sym (all k d m) ∙ ap (slice_get numbered) same ∙ row.1)
+    let place = up_number cmp total apart numbers row.0 i (is.known i row.0 row.1) in
+    let owns : All (λ (e : R × ℕ). e.1 ≡ i → e.0 ≡ row.0) numbers = λ k d m same.
+    same_Some (get_or numbers k d).0 row.0 (sym (all k d m) ∙ ap (slice_get numbered) same ∙ row.1)
     in
-    times_one cmp total i row.0 numbers.entries place.0 ordered owns place.1
-  where
-    contained : (es : List (R × ℕ)) (x : R × ℕ) → Contains es x → (k : ℕ) × (slice_get es k ≡ Some x)
-    contained es x (k, m, e) = (k, slice_get-get_or es k x m ∙ ap Some e)
+    times_one cmp total i row.0 numbers place.0 ordered owns place.1

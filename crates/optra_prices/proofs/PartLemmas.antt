@@ -1,10 +1,10 @@
 -- The parts of the arcs of a bid's table.
-use Rattle.std.proofs.Common.{◌≡◌, ℕ, ◌+◌, ◌<◌, Bool, true, false, List, [], ◌∷◌, ◌++◌, length, Some, slice_get, refl, sym, ap, ◌∙◌, subst, arith, inl, inr}
+use Rattle.std.proofs.Common.{◌≡◌, ℕ, ◌+◌, ◌<◌, Bool, true, false, List, [], ◌∷◌, ◌++◌, length, replicate, Some, slice_get, refl, sym, ap, ◌∙◌, subst, arith, inl, inr}
 use Rattle.std.specs.Prelude.{◌↔◌, ◌&&◌, All, IsTrue}
 use Rattle.std.specs.declared.cmp.Ordering.{Ordering}
-use Rattle.std.proofs.lemmas.List.{length-append}
+use Rattle.std.proofs.lemmas.List.{length-append, length-replicate, get_or-replicate}
 use Rattle.std.proofs.lemmas.List.Elements.{All-nil, All-from_get_or}
-use Rattle.std.proofs.lemmas.Option.{same_Some, slice_get-get_or}
+use Rattle.std.proofs.lemmas.Option.{same_Some, slice_get-get_or, slice_get_within}
 use Rattle.optra_network.specs.Net.{Net, IsProper}
 use Rattle.optra_network.specs.declared.TypeId.{TypeId}
 use Rattle.optra_bid.specs.declared.bids.Bid.{Bid}
@@ -14,7 +14,7 @@ use Rattle.optra_graph.specs.Timed.{Timed}
 use Rattle.optra_node.specs.declared.Decision.{Decision}
 use Rattle.optra_prices.specs.Arcs.{IsArcValue}
 use Rattle.optra_prices.specs.Parts.{no_part, part_at, IsPart, AreParts, IsPartOf, ArePartsOf}
-use Rattle.optra_prices.specs.Rooms.{IsRoom, HasRoomFor, HasRoomForAll}
+use Rattle.optra_prices.specs.Rooms.{IsRoom, HasRoomFor, HasRoomForAll, IsFreeCopy}
 use Rattle.optra_prices.specs.Tables.{group_at}
 use Rattle.optra_prices.specs.Terms.{setting, AreBidArcs}
 use Rattle.optra_prices.specs.declared.numbering.ArcTerm.{ArcTerm}
@@ -102,3 +102,16 @@ part_told room touches arc part fits value allowed tells = record {
     both true true e = (refl, refl)
     both true false e = cc
     both false b e = cc
+
+-- of a free copy of a room nothing is used
+pub free_is : {R : Type 0} (rows : Rows R) (numbered : List R) (total : R → ℕ) (room copy : Room) → IsRoom rows numbered total room → IsFreeCopy room copy → IsRoom rows numbered (λ row. 0) copy
+free_is rows numbered total room copy is free = record {
+  uses_are = λ n row at. ap (λ (us : List ℕ). slice_get us n) free.uses_are ∙ zero_at (length room.uses.items) n (slice_get_within room.uses.items n (total row) (is.uses_are n row at));
+  capacities_are = λ n row at. ap (λ (cs : List ℕ). slice_get cs n) free.capacities_are ∙ is.capacities_are n row at;
+}
+  where
+    zero_at : (count n : ℕ) → n < count → slice_get {X = ℕ} (replicate count 0) n ≡ Some 0
+    zero_at count n l =
+        let none : ℕ = 0 in
+        let within : n < length (replicate count none) = omega (arith, length-replicate count none, l) in
+        slice_get-get_or (replicate count none) n none within ∙ ap Some (get_or-replicate count n none none l)

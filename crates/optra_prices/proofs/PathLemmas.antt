@@ -173,14 +173,14 @@ module _ {R : Type 0} (cmp : R → R → Ordering) (net : Net) (rows : Rows R) (
 -- the prices that were copied are those of the rows
 copied_prices : {R : Type 0} (cmp : R → R → Ordering) (s : Setting R) (c : ArcTables R) (moves : List (ℕ × ℤ)) → AreSetUp cmp s c → HoldsPrices c.levels moves → prices_at c ≡ listed_by c moves
 copied_prices cmp s c moves is copies =
-    ap (λ (n : List ℤ). listed c.order.items n) (sym (copied c.levels moves copies)) ∙ ap (λ (n : ℕ). listed c.order.items (prices_by n moves)) is.price_count
+    ap (λ (n : List ℤ). listed c.numbering.order.items n) (sym (copied c.levels moves copies)) ∙ ap (λ (n : ℕ). listed c.numbering.order.items (prices_by n moves)) is.price_count
 
 copied_moves : {R : Type 0} (cmp : R → R → Ordering) (s : Setting R) (c : ArcTables R) (moves : List (ℕ × ℤ)) → AreSetUp cmp s c → HoldsPrices c.levels moves → All (IsMove (length c.numbering.rows.items)) moves
 copied_moves cmp s c moves is copies = subst (λ (n : ℕ). All (IsMove n) moves) is.price_count copies.are
 
 -- without a price nothing is listed
 listed_nothing : {R : Type 0} (c : ArcTables R) → listed_by c [] ≡ []
-listed_nothing c = listed_none c.order.items (replicate (length c.numbering.rows.items) (pos 0)) (zeros_at (length c.numbering.rows.items))
+listed_nothing c = listed_none c.numbering.order.items (replicate (length c.numbering.rows.items) (pos 0)) (zeros_at (length c.numbering.rows.items))
 
 module _ {R : Type 0} (cmp : R → R → Ordering) (s : Setting R) (start : PriceList R) (steps : ℕ) (incumbent : ℤ) where
   -- the zero prices alone are the path so far, and the best of it
@@ -218,8 +218,7 @@ module _ {R : Type 0} (cmp : R → R → Ordering) (s : Setting R) (start : Pric
   module _ (c c' : ArcTables R) (keeps : KeepsRows c c') where
     listed_same : (moves : List (ℕ × ℤ)) → listed_by c' moves ≡ listed_by c moves
     listed_same moves =
-        ap (λ order. listed order.items (prices_by (length c'.numbering.rows.items) moves)) keeps.order
-        ∙ ap (λ numbering. listed c.order.items (prices_by (length numbering.rows.items) moves)) keeps.numbering
+        ap (λ numbering. listed numbering.order.items (prices_by (length numbering.rows.items) moves)) keeps.numbering
 
     zero_same : zero_candidate c' ≡ zero_candidate c
     zero_same = ap (λ tables. record { prices = []; dual = valuation_of (pos 0) tables.items c'.zero.items }) keeps.tables ∙ ap (λ zero. record { prices = []; dual = valuation_of (pos 0) c.tables.items zero.items }) keeps.zero

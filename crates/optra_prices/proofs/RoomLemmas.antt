@@ -25,7 +25,7 @@ use Rattle.optra_prices.specs.declared.numbering.Touch.{Touch}
 use Rattle.optra_prices.specs.declared.rooms.Room.{Room}
 use Rattle.optra_prices.proofs.HoldLemmas.{part_push, part_all}
 
-zip_all : {A B : Type 0} (P : A → B → Type 0) (Q : A → Type 0) (xs : List A) (ys : List B) → AllZip P xs ys → ((x : A) (y : B) → Contains ys y → P x y → Q x) → All Q xs
+pub zip_all : {A B : Type 0} (P : A → B → Type 0) (Q : A → Type 0) (xs : List A) (ys : List B) → AllZip P xs ys → ((x : A) (y : B) → Contains ys y → P x y → Q x) → All Q xs
 zip_all P Q [] ys h f = All-nil Q
 zip_all P Q (x ∷ xs) [] h f = absurd h
 zip_all {A} {B} P Q (x ∷ xs) (y ∷ ys) h f = All-cons Q x xs (f x y (contains_head y ys y refl) h.0) (zip_all P Q xs ys h.1 (λ (a : A) (b : B) has is. f a b (contains_later y ys b has) is))

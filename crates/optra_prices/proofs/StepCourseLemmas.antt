@@ -1,7 +1,6 @@
 -- Prices that a step has moved, by the uses of the replies.
-use Rattle.std.proofs.Common.{◌≡◌, ℕ, ◌<◌, List, length, Option, Some, None, refl, sym, ap, ◌∙◌, subst, arith}
+use Rattle.std.proofs.Common.{◌≡◌, ℕ, ◌<◌, List, length, Option, Some, None, refl, sym, ap, ◌∙◌, arith}
 use Rattle.std.specs.Prelude.{All, ℤ, pos, ◌≤ℤ◌, slice_index, slice_index_or}
-use Rattle.std.specs.BTreeMap.{get, IsOrdered}
 use Rattle.std.specs.declared.cmp.Ordering.{Ordering}
 use Rattle.std.specs.Ordering.{eq_by_cmp}
 use Rattle.std.specs.Cmp.{IsTotalOrder}
@@ -15,7 +14,7 @@ use Rattle.optra_prices.specs.Courses.{listed, prices_at, AreSetUp}
 use Rattle.optra_prices.specs.Levels.{MovesTo, next_at}
 use Rattle.optra_prices.specs.Steps.{IsStep, step_length, next_price, reply_load}
 use Rattle.optra_prices.specs.Standings.{IsSound, replies_of}
-use Rattle.optra_prices.specs.Tables.{IsRowPrice}
+use Rattle.optra_prices.specs.Tables.{IsRowPrice, AreUp, number_in}
 use Rattle.optra_prices.specs.Terms.{Setting}
 use Rattle.optra_prices.specs.Uses.{AreUses, HasGroups, paths_of}
 use Rattle.optra_prices.specs.declared.arc_tables.ArcTables.{ArcTables}
@@ -35,14 +34,14 @@ module _ {R : Type 0} (cmp : R → R → Ordering) (total : IsTotalOrder cmp) (a
   course_grouped = tables_grouped cmp total apart s proper lists c.numbering.rows.items c.columns.groups c.tables.items c.columns.grouped.items c.standings.items is.tables sound is.stand
 
   -- prices that are moved by the uses of the replies are those of the step
-  pub step_made : IsOrdered cmp c.numbering.numbers → (k : ℕ) (by : ℤ) → by ≡ step_length s.bids k → pos 1 ≤ℤ by → (l moved : Levels) → l.prices ≡ c.levels.prices → l.capacities ≡ c.levels.capacities
+  pub step_made : AreUp cmp c.numbering.order.items → (k : ℕ) (by : ℤ) → by ≡ step_length s.bids k → pos 1 ≤ℤ by → (l moved : Levels) → l.prices ≡ c.levels.prices → l.capacities ≡ c.levels.capacities
       → length l.uses.items ≡ length l.prices.items → AreUses c.columns.groups c.tables.items (paths_of c.standings.items) l.uses.items → All IsRowPrice moved.prices.items → MovesTo (next_at by l) l moved
-      → IsStep cmp s.rows s.bids (replies_of c.tables.items c.standings.items) k (prices_at c) (listed c.order.items moved.prices.items)
+      → IsStep cmp s.rows s.bids (replies_of c.tables.items c.standings.items) k (prices_at c) (listed c.numbering.order.items moved.prices.items)
   step_made ordered k by by_is low l moved same_prices same_capacities use_count uses range moves =
-      subst (λ (order : List (R × ℕ)). IsStep cmp s.rows s.bids replies k (listed order c.levels.prices.items) (listed order new)) (sym is.order) (record {
-        proper = listed_proper cmp total apart s.rows c.numbering.numbers rows is.numbering is.rows ordered new range;
-        each = λ row is_row. at_row row (get cmp c.numbering.numbers row) refl ∙ ap (λ (z : ℤ). next_price z (price_of (eq_by_cmp cmp) (listed c.numbering.numbers.entries c.levels.prices.items) row) (reply_load s.rows s.bids replies row) (s.rows.capacity row)) by_is;
-      })
+      record {
+        proper = listed_proper cmp total apart s.rows c.numbering.order.items rows is.numbering is.rows ordered new range;
+        each = λ row is_row. at_row row (number_in cmp c.numbering.order.items row) refl ∙ ap (λ (z : ℤ). next_price z (price_of (eq_by_cmp cmp) (listed c.numbering.order.items c.levels.prices.items) row) (reply_load s.rows s.bids replies row) (s.rows.capacity row)) by_is;
+      }
     where
       rows : List R
       rows = c.numbering.rows.items
@@ -53,13 +52,13 @@ module _ {R : Type 0} (cmp : R → R → Ordering) (total : IsTotalOrder cmp) (a
       replies : List (Option (List Leg))
       replies = replies_of c.tables.items c.standings.items
 
-      at_row : (row : R) (o : Option ℕ) → get cmp c.numbering.numbers row ≡ o
-          → price_of (eq_by_cmp cmp) (listed c.numbering.numbers.entries new) row
-          ≡ next_price by (price_of (eq_by_cmp cmp) (listed c.numbering.numbers.entries c.levels.prices.items) row) (reply_load s.rows s.bids replies row) (s.rows.capacity row)
+      at_row : (row : R) (o : Option ℕ) → number_in cmp c.numbering.order.items row ≡ o
+          → price_of (eq_by_cmp cmp) (listed c.numbering.order.items new) row
+          ≡ next_price by (price_of (eq_by_cmp cmp) (listed c.numbering.order.items c.levels.prices.items) row) (reply_load s.rows s.bids replies row) (s.rows.capacity row)
       at_row row None e =
-          let old_price = price_unnumbered cmp total apart s.rows c.numbering.numbers rows is.numbering is.rows ordered c.levels.prices.items is.levels.range row e in
+          let old_price = price_unnumbered cmp total apart s.rows c.numbering.order.items rows is.numbering is.rows ordered c.levels.prices.items is.levels.range row e in
           let load = no_load cmp total apart s proper lists rows c.columns.groups c.tables.items c.columns.grouped.items c.standings.items is.tables sound is.stand row (λ n at. none-some n (sym e ∙ is.numbering.known n row at)) in
-          price_unnumbered cmp total apart s.rows c.numbering.numbers rows is.numbering is.rows ordered new range row e
+          price_unnumbered cmp total apart s.rows c.numbering.order.items rows is.numbering is.rows ordered new range row e
           ∙ sym (ap (λ (z : ℤ). next_price by z (reply_load s.rows s.bids replies row) (s.rows.capacity row)) old_price
           ∙ ap (λ (m : ℕ). next_price by (pos 0) m (s.rows.capacity row)) load
           ∙ next_none by (s.rows.capacity row) low)
@@ -68,14 +67,14 @@ module _ {R : Type 0} (cmp : R → R → Ordering) (total : IsTotalOrder cmp) (a
           let within : n < length rows = slice_get_within rows n row at in
           let count = is.price_count in
           let here : length l.prices.items ≡ length c.levels.prices.items = ap (λ v. length v.items) same_prices in
-          let old_price = price_numbered cmp total apart s.rows c.numbering.numbers rows is.numbering is.rows ordered c.levels.prices.items is.levels.range n row at in
+          let old_price = price_numbered cmp total apart s.rows c.numbering.order.items rows is.numbering is.rows ordered c.levels.prices.items is.levels.range n row at in
           let counted = uses n (omega arith) in
           let load = uses_load cmp total apart s proper lists rows c.columns.groups c.tables.items c.columns.grouped.items c.standings.items is.tables sound is.stand (numbered_once cmp c is.numbering) n row at in
           let used : slice_index l.uses.items n ≡ reply_load s.rows s.bids replies row = omega arith in
           let room : slice_index l.capacities.items n ≡ s.rows.capacity row = ap (λ v. slice_index v.items n) same_capacities ∙ get_or_from_slice_get c.levels.capacities.items n (s.rows.capacity row) 0 (is.capacities n row at) in
           let old : slice_index_or l.prices.items n (pos 0) ≡ slice_index_or c.levels.prices.items n (pos 0) = ap (λ v. slice_index_or v.items n (pos 0)) same_prices in
-          price_numbered cmp total apart s.rows c.numbering.numbers rows is.numbering is.rows ordered new range n row at
+          price_numbered cmp total apart s.rows c.numbering.order.items rows is.numbering is.rows ordered new range n row at
           ∙ moves.each n (omega arith)
           ∙ ap (λ (z : ℤ). next_price by z (slice_index l.uses.items n) (slice_index l.capacities.items n)) (old ∙ sym old_price)
-          ∙ ap (λ (m : ℕ). next_price by (price_of (eq_by_cmp cmp) (listed c.numbering.numbers.entries c.levels.prices.items) row) m (slice_index l.capacities.items n)) used
-          ∙ ap (λ (m : ℕ). next_price by (price_of (eq_by_cmp cmp) (listed c.numbering.numbers.entries c.levels.prices.items) row) (reply_load s.rows s.bids replies row) m) room
+          ∙ ap (λ (m : ℕ). next_price by (price_of (eq_by_cmp cmp) (listed c.numbering.order.items c.levels.prices.items) row) m (slice_index l.capacities.items n)) used
+          ∙ ap (λ (m : ℕ). next_price by (price_of (eq_by_cmp cmp) (listed c.numbering.order.items c.levels.prices.items) row) (reply_load s.rows s.bids replies row) m) room

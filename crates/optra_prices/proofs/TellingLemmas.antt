@@ -1,7 +1,6 @@
 -- Which bids the way from one node to another may change.
 use Rattle.std.proofs.Common.{◌≡◌, ◌≢◌, ℕ, ◌+◌, ◌-◌, ◌<◌, ◌≤◌, Bool, true, false, List, length, take, drop, set, get_or, Some, None, slice_get, refl, sym, ap, ◌∙◌, subst, arith, inl, inr}
 use Rattle.std.specs.Prelude.{Contains}
-use Rattle.std.specs.BTreeMap.{get}
 use Rattle.std.specs.declared.cmp.Ordering.{Ordering}
 use Rattle.std.proofs.lemmas.Bool.{cases_eq}
 use Rattle.std.proofs.lemmas.List.{get_or-set_same, get_or_default, take_all, length-map, length-drop}
@@ -12,7 +11,7 @@ use Rattle.optra_node.specs.Nodes.{yes_load}
 use Rattle.optra_prices.specs.Chains.{ChainHas}
 use Rattle.optra_prices.specs.Columns.{IsColumns, IsDue, MarksMore, MarksRow, mark_at}
 use Rattle.optra_prices.specs.Holders.{groups_of, AreHolders, is_told, KeepsTold, TellsHolders}
-use Rattle.optra_prices.specs.Tables.{IsNumbering, group_at}
+use Rattle.optra_prices.specs.Tables.{IsNumbering, group_at, number_in}
 use Rattle.optra_prices.specs.Standings.{AreTables}
 use Rattle.optra_prices.specs.Tellings.{AreUsersDue, MarksNamed, MarksRows, TellsDue, TellsOwn, TellsMoved}
 use Rattle.optra_prices.specs.Terms.{Setting}
@@ -38,11 +37,11 @@ users_on n old new more due g l has = stays_due old new g more (due g (subst (λ
 
 module _ {R : Type 0} (numbered : List R) where
   -- a row without a number leads to no group
-  pub named_none : (cmp : R → R → Ordering) (numbers : _) (row : R) (c : Columns) → IsNumbering cmp numbers numbered → get cmp numbers row ≡ None → MarksNamed numbered row c c
+  pub named_none : (cmp : R → R → Ordering) (numbers : List (R × ℕ)) (row : R) (c : Columns) → IsNumbering cmp numbers numbered → number_in cmp numbers row ≡ None → MarksNamed numbered row c c
   named_none cmp numbers row c is none = record { more = marks_same c; due = λ n at g l has. absurd (none-some n (sym none ∙ is.known n row at)) }
 
   -- the groups of the row with the number are due
-  pub named_some : (cmp : R → R → Ordering) (numbers : _) (row : R) (m : ℕ) (old new : Columns) → IsNumbering cmp numbers numbered → IsColumns old.groups old → get cmp numbers row ≡ Some m → MarksRow m old new → MarksNamed numbered row old new
+  pub named_some : (cmp : R → R → Ordering) (numbers : List (R × ℕ)) (row : R) (m : ℕ) (old new : Columns) → IsNumbering cmp numbers numbered → IsColumns old.groups old → number_in cmp numbers row ≡ Some m → MarksRow m old new → MarksNamed numbered row old new
   named_some cmp numbers row m old new is columns here marks = record {
     more = marks.more;
     due = λ n at g l has.

@@ -29,11 +29,11 @@ prices_by count moves = moved_by moves (replicate count (pos 0))
 
 -- the list of the prices of rows by number
 abbrev pub listed_by : {R : Type 0} → ArcTables R → List (ℕ × ℤ) → PriceList R
-listed_by c moves = listed c.order.items (prices_by (length c.numbering.rows.items) moves)
+listed_by c moves = listed c.numbering.order.items (prices_by (length c.numbering.rows.items) moves)
 
 -- the prices
 abbrev pub prices_at : {R : Type 0} → ArcTables R → PriceList R
-prices_at c = listed c.order.items c.levels.prices.items
+prices_at c = listed c.numbering.order.items c.levels.prices.items
 
 -- the dual value, the terms and the replies
 abbrev pub valuation_at : {R : Type 0} → Rows R → ArcTables R → Valuation
@@ -57,9 +57,8 @@ HaveCapacities {R} rows numbered capacities = (n : ℕ) (row : R) → slice_get 
 
 -- rows by number with prices, groups with prices, a table of each bid at the node, what is known of it at the prices of the groups and at zero prices, which bids have a group, and what the paths use of rows that were counted
 pub record AreSetUp {R : Type 0} (cmp : R → R → Ordering) (s : Setting R) (c : ArcTables R) : Type 0 where
-  pub numbering : IsNumbering cmp c.numbering.numbers c.numbering.rows.items
+  pub numbering : IsNumbering cmp c.numbering.order.items c.numbering.rows.items
   pub rows : All (λ row. s.rows.is_row row ≡ true) c.numbering.rows.items
-  pub order : c.order.items ≡ c.numbering.numbers.entries
   pub capacities : HaveCapacities s.rows c.numbering.rows.items c.levels.capacities.items
   pub price_count : length c.levels.prices.items ≡ length c.numbering.rows.items
   pub levels : IsLevels c.levels
@@ -92,7 +91,6 @@ pub record IsPriced {R : Type 0} (cmp : R → R → Ordering) (s : Setting R) (c
 -- the rows keep their numbers, the bids their tables, and what is known at zero prices stays
 pub record KeepsRows {R : Type 0} (old new : ArcTables R) : Type 0 where
   pub numbering : new.numbering ≡ old.numbering
-  pub order : new.order ≡ old.order
   pub tables : new.tables ≡ old.tables
   pub zero : new.zero ≡ old.zero
 

@@ -10,6 +10,7 @@ pub mod Arcs
 pub mod Tables
 pub mod Terms
 pub mod Makings
+pub mod Rankings
 pub mod Chains
 pub mod Users
 pub mod Columns

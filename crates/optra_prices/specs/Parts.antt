@@ -1,10 +1,10 @@
 -- What the arcs of a bid's graph add to the value of a walk, and which of them may be taken beside what is placed.
-use Rattle.std.specs.Prelude.{◌≡◌, ℕ, ◌+◌, ◌≤◌, ◌<◌, ◌↔◌, true, false, List, length, Some, slice_get, slice_index_or, pos}
+use Rattle.std.specs.Prelude.{◌≡◌, ℕ, ◌+◌, ◌≤◌, ◌<◌, ◌↔◌, Bool, true, false, List, length, map, Some, slice_get, slice_index_or, pos}
 use Rattle.optra_network.specs.Net.{Net}
 use Rattle.optra_network.specs.declared.TypeId.{TypeId}
 use Rattle.optra_bid.specs.declared.bids.Bid.{Bid}
 use Rattle.optra_walk.specs.declared.Leg.{Leg}
-use Rattle.optra_walk.specs.Families.{Rows}
+use Rattle.optra_walk.specs.Families.{Rows, load_of}
 use Rattle.optra_graph.specs.Timed.{Timed, leg_of, start_of}
 use Rattle.optra_node.specs.declared.Decision.{Decision}
 use Rattle.optra_node.specs.Spans.{IsLegOk, IsStartOk}
@@ -59,3 +59,20 @@ pub record IsPartOf (room : Room) (touches : List Touch) (arc : ArcTerm) (part :
 pub record ArePartsOf (room : Room) (starts : List ℕ) (touches : List Touch) (arcs : List ArcTerm) (count : ℕ) (parts : List ArcPart) : Type 0 where
   pub count_is : length parts ≡ count
   pub each : (k : ℕ) (arc : ArcTerm) (part : ArcPart) → slice_get arcs k ≡ Some arc → slice_get parts k ≡ Some part → IsPartOf room (group_at starts touches arc.group) arc part
+
+-- how much of a row legs of the type use
+abbrev pub legs_load : {R : Type 0} → Rows R → TypeId → List Leg → R → ℕ
+legs_load rows kind legs row = load_of rows row (map (λ leg. (kind, leg)) legs)
+
+-- no row has a total above its capacity
+abbrev pub KeepsWithin : {R : Type 0} → Rows R → (R → ℕ) → Type 0
+KeepsWithin {R} rows total = (row : R) → rows.is_row row ≡ true → total row ≤ rows.capacity row
+
+-- with all the legs together no row gets above its capacity
+abbrev pub HaveRoomFor : {R : Type 0} → Rows R → (R → ℕ) → TypeId → List Leg → Type 0
+HaveRoomFor {R} rows total kind legs = (row : R) → rows.is_row row ≡ true → total row + legs_load rows kind legs row ≤ rows.capacity row
+
+-- the legs were added to the room where together they have room; else the room is as it was
+abbrev pub IsPutIn : {R : Type 0} → Rows R → ArcTables R → TypeId → List Leg → Bool → (R → ℕ) → Room → Type 0
+IsPutIn rows kept kind legs true total room = HaveRoomFor rows total kind legs × IsRoomIn rows kept (λ row. total row + legs_load rows kind legs row) room
+IsPutIn rows kept kind legs false total room = (HaveRoomFor rows total kind legs → ⊥) × IsRoomIn rows kept total room

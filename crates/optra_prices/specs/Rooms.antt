@@ -1,5 +1,5 @@
 -- How much is used of rows by their numbers, and the room that is left.
-use Rattle.std.specs.Prelude.{◌≡◌, ◌↔◌, ℕ, ◌+◌, ◌≤◌, ◌<◌, true, cond, nat_eq, List, length, All, Some, slice_get, slice_index, slice_index_or}
+use Rattle.std.specs.Prelude.{◌≡◌, ◌↔◌, ℕ, ◌+◌, ◌≤◌, ◌<◌, true, cond, nat_eq, List, length, replicate, All, Some, slice_get, slice_index, slice_index_or}
 use Rattle.std.specs.declared.cmp.Ordering.{Ordering}
 use Rattle.std.specs.Ordering.{eq_by_cmp}
 use Rattle.optra_network.specs.Net.{Net}
@@ -46,3 +46,20 @@ pub record ChangesUse (m : ℕ) (change : ℕ → ℕ) (old new : List ℕ) : Ty
 pub record ChangesRow {R : Type 0} (cmp : R → R → Ordering) (numbered : List R) (row : R) (change : ℕ → ℕ) (old new : Room) : Type 0 where
   pub capacities_are : new.capacities ≡ old.capacities
   pub each : (n uses : ℕ) (other : R) → slice_get numbered n ≡ Some other → slice_get old.uses.items n ≡ Some uses → slice_get new.uses.items n ≡ Some (cond (eq_by_cmp cmp row other) (change uses) uses)
+
+-- the copy has the same capacities, and nothing is used of it
+pub record IsFreeCopy (room copy : Room) : Type 0 where
+  pub uses_are : copy.uses.items ≡ replicate (length room.uses.items) 0
+  pub capacities_are : copy.capacities.items ≡ room.capacities.items
+
+-- no more is used of the row with number n than there is
+abbrev pub IsNumberWithin : Room → ℕ → Type 0
+IsNumberWithin room n = slice_index_or room.uses.items n 0 ≤ slice_index_or room.capacities.items n 0
+
+-- the row has a number, and no more is used of it than there is
+abbrev pub IsWithinAt : {R : Type 0} → List R → Room → R → Type 0
+IsWithinAt numbered room row = (n : ℕ) × (slice_get numbered n ≡ Some row) × IsNumberWithin room n
+
+-- the same of each row that is used
+abbrev pub UsesWithin : {R : Type 0} → List R → Room → (R → ℕ) → Type 0
+UsesWithin {R} numbered room uses = (row : R) → 0 < uses row → IsWithinAt numbered room row

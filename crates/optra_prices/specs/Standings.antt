@@ -1,5 +1,5 @@
 -- What is known of each bid at prices.
-use Rattle.std.specs.Prelude.{◌≡◌, ◌⊎◌, ℕ, cond, slice_set, List, [], ◌∷◌, map, length, All, Option, Some, slice_get, slice_index_or}
+use Rattle.std.specs.Prelude.{◌≡◌, ◌⊎◌, ℕ, true, cond, slice_set, List, [], ◌∷◌, map, length, All, Option, Some, slice_get, slice_index_or}
 use Rattle.std.specs.Prelude.{ℤ, pos, negsuc, neg_ℤ, ◌+ℤ◌}
 use Rattle.std.specs.List.{list_any}
 use Rattle.std.specs.declared.cmp.Ordering.{Ordering}
@@ -15,12 +15,13 @@ use Rattle.optra_dag.specs.Paths.{IsForward}
 use Rattle.optra_node.specs.Duals.{PriceList, price_of, sum_of}
 use Rattle.optra_prices.specs.Replies.{Valuation}
 use Rattle.optra_prices.specs.Arcs.{IsFound, IsArcValue, path_reply}
-use Rattle.optra_prices.specs.Tables.{allows_by, weight_by}
+use Rattle.optra_prices.specs.Tables.{IsNumbering, AreGroups, allows_by, weight_by}
 use Rattle.optra_prices.specs.Terms.{Setting, AreArcs, AreBidArcs}
 use Rattle.optra_prices.specs.declared.numbering.ArcTerm.{ArcTerm}
 use Rattle.optra_prices.specs.declared.numbering.BidTable.{BidTable}
 use Rattle.optra_prices.specs.declared.numbering.Groups.{Groups}
 use Rattle.optra_prices.specs.declared.numbering.Standing.{Standing}
+use Rattle.optra_prices.specs.declared.sessions.Made.{Made}
 
 -- the search at these prices of groups found what stands
 abbrev pub Stands : BidTable → List ℤ → Standing → Type 0
@@ -67,6 +68,13 @@ pub record IsArcTable {R : Type 0} (net : Net) (rows : Rows R) (used : TypeId �
 pub record HoldArcs {R : Type 0} (net : Net) (rows : Rows R) (used : TypeId → Leg → List R) (bids : List Bid) (count : ℕ) (numbered : List R) (groups : Groups) (tables : List BidTable) : Type 0 where
   pub count_is : length tables ≡ count
   pub each : (number : ℕ) (bid : Bid) (table : BidTable) → slice_get bids number ≡ Some bid → slice_get tables number ≡ Some table → IsArcTable net rows used numbered groups bid table
+
+-- rows of the family by number, groups, and a table for each bid, as it is at all nodes
+pub record IsMade {R : Type 0} (cmp : R → R → Ordering) (net : Net) (rows : Rows R) (used : TypeId → Leg → List R) (bids : List Bid) (made : Made R) : Type 0 where
+  pub numbering : IsNumbering cmp made.numbering.order.items made.numbering.rows.items
+  pub rows_are : All (λ row. rows.is_row row ≡ true) made.numbering.rows.items
+  pub groups_are : AreGroups made.groups.starts.items made.groups.touches.items
+  pub tables : HoldArcs net rows used bids (length bids) made.numbering.rows.items made.groups made.tables.items
 
 -- the table has the arcs of the bid at the node
 pub record IsBidTable {R : Type 0} (s : Setting R) (number : ℕ) (numbered : List R) (groups : Groups) (bid : Bid) (table : BidTable) : Type 0 where

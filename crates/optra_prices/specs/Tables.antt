@@ -1,10 +1,12 @@
 -- What the planner keeps of rows and arcs while prices change.
-use Rattle.std.specs.Prelude.{◌≡◌, ℕ, ◌+◌, ◌-◌, ◌<◌, ◌≤◌, Bool, false, List, [], ◌++◌, length, All, sum_by, Some, slice_get, slice_index, slice_index_or}
+use Rattle.std.specs.Prelude.{◌≡◌, ℕ, ◌+◌, ◌-◌, ◌<◌, ◌≤◌, Bool, false, List, [], ◌++◌, length, All, sum_by, Option, Some, slice_get, slice_index, slice_index_or}
 use Rattle.std.specs.Prelude.{ℤ, pos, ◌-ℤ◌, ◌*ℤ◌, ◌≤ℤ◌}
 use Rattle.std.specs.Int.{w64, int_wrapping_sub}
 use Rattle.std.specs.List.{AllZip, slice_range}
+use Rattle.std.specs.List.Sorted.{IsStrictlySortedBy}
 use Rattle.std.specs.declared.cmp.Ordering.{Ordering}
-use Rattle.std.specs.BTreeMap.{BTreeMap, get}
+use Rattle.std.specs.BTreeMap.{is_at}
+use Rattle.std.specs.Map.{keys_of, lookup}
 use Rattle.optra_bid.specs.Specs.{IsBetween}
 use Rattle.optra_dag.specs.NarrowSums.{IsWithin}
 use Rattle.optra_node.specs.Duals.{sum_of}
@@ -12,10 +14,19 @@ use Rattle.optra_prices.specs.Arcs.{IsArcValue}
 use Rattle.optra_prices.specs.declared.numbering.Touch.{Touch}
 use Rattle.optra_prices.specs.declared.numbering.ArcTerm.{ArcTerm}
 
--- each number leads to its row, and each row to its number
-pub record IsNumbering {R : Type 0} (cmp : R → R → Ordering) (numbers : BTreeMap R ℕ) (rows : List R) : Type 0 where
-  pub found : (row : R) (n : ℕ) → get cmp numbers row ≡ Some n → slice_get rows n ≡ Some row
-  pub known : (n : ℕ) (row : R) → slice_get rows n ≡ Some row → get cmp numbers row ≡ Some n
+-- the rows ascend, each of which stands with its number
+abbrev pub AreUp : {R : Type 0} → (R → R → Ordering) → List (R × ℕ) → Type 0
+AreUp cmp order = IsStrictlySortedBy cmp (keys_of order)
+
+-- the number that stands with the row
+abbrev pub number_in : {R : Type 0} → (R → R → Ordering) → List (R × ℕ) → R → Option ℕ
+number_in cmp order row = lookup (is_at (cmp row)) order
+
+-- the rows ascend; each number leads to its row, and each row to its number
+pub record IsNumbering {R : Type 0} (cmp : R → R → Ordering) (order : List (R × ℕ)) (rows : List R) : Type 0 where
+  pub ordered : AreUp cmp order
+  pub found : (row : R) (n : ℕ) → number_in cmp order row ≡ Some n → slice_get rows n ≡ Some row
+  pub known : (n : ℕ) (row : R) → slice_get rows n ≡ Some row → number_in cmp order row ≡ Some n
 
 -- rows keep their numbers
 abbrev pub Extends : {R : Type 0} → List R → List R → Type 0

@@ -16,10 +16,11 @@ ghost use Rattle.optra_prices.specs.Allowing.{AreAtUnlessTold, AreToldAnew, IsTa
 use crate::grouping::either;
 use crate::marking::has_yes;
 use crate::numbering::{ArcTerm, BidTable, Groups, Numbering};
+use crate::owning::Owned;
 use crate::rooms::{Room, Told, add_leg, take_leg, tell_group};
 use optra_graph::TimeGraph;
 use optra_network::{Network, NoMemory, TrackId, TypeId};
-use optra_node::{Decision, Node, Summary};
+use optra_node::{Decision, Node};
 use optra_walk::{Instance, RowFamily};
 
 /// The train type of a bid.
@@ -47,7 +48,7 @@ fn add_decision<F: RowFamily>(
     decision: Decision,
 ) -> Result<(), NoMemory>
     requires decision { IsFormedDecision inst.net.now (length inst.bids.now) decision }
-    requires numbering { IsNumbering F.Row.cmp numbering.now.numbers numbering.now.rows.items }
+    requires numbering { IsNumbering F.Row.cmp numbering.now.order.items numbering.now.rows.items }
     ensures { OnOk result ((total : F.Row → ℕ) → IsRoom (F.rows_of rows.now inst.entry.net.now) numbering.now.rows.items total room.old → IsRoom (F.rows_of rows.now inst.entry.net.now) numbering.now.rows.items (λ row. total row + yes_uses (F.rows_of rows.now inst.entry.net.now) inst.entry.bids.now row decision) room.new) }
 {
     let kind = kind_at(inst, decision.bid);
@@ -69,7 +70,7 @@ fn take_decision<F: RowFamily>(
     decision: Decision,
 )
     requires decision { IsFormedDecision inst.net.now (length inst.bids.now) decision }
-    requires numbering { IsNumbering F.Row.cmp numbering.now.numbers numbering.now.rows.items }
+    requires numbering { IsNumbering F.Row.cmp numbering.now.order.items numbering.now.rows.items }
     ensures { (total : F.Row → ℕ) → IsRoom (F.rows_of rows.now inst.entry.net.now) numbering.now.rows.items (λ row. total row + yes_uses (F.rows_of rows.now inst.entry.net.now) inst.entry.bids.now row decision) room.old → IsRoom (F.rows_of rows.now inst.entry.net.now) numbering.now.rows.items total room.new }
 {
     let kind = kind_at(inst, decision.bid);
@@ -91,7 +92,7 @@ pub(crate) fn add_decisions<F: RowFamily>(
     decisions: &[Decision],
 ) -> Result<(), NoMemory>
     requires decisions { All (IsFormedDecision inst.net.now (length inst.bids.now)) decisions.now }
-    requires numbering { IsNumbering F.Row.cmp numbering.now.numbers numbering.now.rows.items }
+    requires numbering { IsNumbering F.Row.cmp numbering.now.order.items numbering.now.rows.items }
     ensures { OnOk result ((total : F.Row → ℕ) → IsRoom (F.rows_of rows.now inst.entry.net.now) numbering.now.rows.items total room.old → IsRoom (F.rows_of rows.now inst.entry.net.now) numbering.now.rows.items (λ row. total row + yes_load (F.rows_of rows.now inst.entry.net.now) inst.entry.bids.now decisions.now row) room.new) }
 {
     for decision in decisions {
@@ -109,7 +110,7 @@ pub(crate) fn take_decisions<F: RowFamily>(
     decisions: &[Decision],
 )
     requires decisions { All (IsFormedDecision inst.net.now (length inst.bids.now)) decisions.now }
-    requires numbering { IsNumbering F.Row.cmp numbering.now.numbers numbering.now.rows.items }
+    requires numbering { IsNumbering F.Row.cmp numbering.now.order.items numbering.now.rows.items }
     ensures { (total : F.Row → ℕ) → IsRoom (F.rows_of rows.now inst.entry.net.now) numbering.now.rows.items (λ row. total row + yes_load (F.rows_of rows.now inst.entry.net.now) inst.entry.bids.now decisions.now row) room.old → IsRoom (F.rows_of rows.now inst.entry.net.now) numbering.now.rows.items total room.new }
 {
     for decision in decisions {
@@ -120,7 +121,7 @@ pub(crate) fn take_decisions<F: RowFamily>(
 /// Whether the arc may be taken, where it is known whether there is room for what it touches and whether the bid has
 /// decisions of its own.
 fn let_arc<F: RowFamily>(
-    summary: &Summary<'_, F>,
+    summary: &Owned<'_, F>,
     number: u32,
     graph: &TimeGraph,
     k: u32,
@@ -160,7 +161,7 @@ fn set_allowed(arc: &mut ArcTerm, allowed: bool) -> bool
 
 /// Tells anew which arcs of a bid's graph may be taken, group by group, and whether that changed for one of them.
 fn allow_arcs<F: RowFamily>(
-    summary: &Summary<'_, F>,
+    summary: &Owned<'_, F>,
     number: u32,
     room: &Room,
     graph: &TimeGraph,
@@ -200,7 +201,7 @@ fn set_forced(old: &mut bool, forced: bool) -> bool
 
 /// Brings a bid's table to the node, and tells whether an arc or whether the bid has a yes leg changed.
 fn allow_table<F: RowFamily>(
-    summary: &Summary<'_, F>,
+    summary: &Owned<'_, F>,
     number: u32,
     room: &Room,
     groups: &Groups,
@@ -227,7 +228,7 @@ pub(crate) struct Grouping<'a, R: Copy + Ord> {
 fn allow_bid<F: RowFamily>(
     inst: Instance<'_>,
     rows: &F,
-    summary: &Summary<'_, F>,
+    summary: &Owned<'_, F>,
     grouping: &Grouping<'_, F::Row>,
     room: &mut Room,
     number: u32,
@@ -236,7 +237,7 @@ fn allow_bid<F: RowFamily>(
     requires bid { number < length inst.bids.now }
     requires node { IsNode inst.net.now (length inst.bids.now) summary.now.node }
     requires summary { summary.now ≡ summed rows.now inst.net.now inst.bids.now summary.now.node }
-    requires numbering { IsNumbering F.Row.cmp grouping.now.numbering.now.numbers grouping.now.numbering.now.rows.items }
+    requires numbering { IsNumbering F.Row.cmp grouping.now.numbering.now.order.items grouping.now.numbering.now.rows.items }
     requires room { IsRoom (F.rows_of rows.now inst.net.now) grouping.now.numbering.now.rows.items (yes_load (F.rows_of rows.now inst.net.now) inst.bids.now summary.now.node) room.old }
     requires table { IsTableFor inst.net.now (F.rows_of rows.now inst.net.now) (F.rows_used rows.now inst.net.now) inst.bids.now grouping.now.numbering.now.rows.items grouping.now.groups.now number table.old }
     ensures room { OnOk result (IsRoom (F.rows_of rows.now inst.entry.net.now) grouping.now.numbering.now.rows.items (yes_load (F.rows_of rows.now inst.entry.net.now) inst.entry.bids.now summary.now.node) room.new) }
@@ -264,7 +265,7 @@ pub(crate) fn decisions_of(node: &Node) -> &[Decision]
 pub(crate) fn allow_told<F: RowFamily>(
     inst: Instance<'_>,
     rows: &F,
-    summary: &Summary<'_, F>,
+    summary: &Owned<'_, F>,
     grouping: &Grouping<'_, F::Row>,
     room: &mut Room,
     told: &mut Vec<bool>,
@@ -273,7 +274,7 @@ pub(crate) fn allow_told<F: RowFamily>(
     requires few { length inst.bids.now ≤ 1000 }
     requires node { IsNode inst.net.now (length inst.bids.now) summary.now.node }
     requires summary { summary.now ≡ summed rows.now inst.net.now inst.bids.now summary.now.node }
-    requires numbering { IsNumbering F.Row.cmp grouping.now.numbering.now.numbers grouping.now.numbering.now.rows.items }
+    requires numbering { IsNumbering F.Row.cmp grouping.now.numbering.now.order.items grouping.now.numbering.now.rows.items }
     requires room { IsRoom (F.rows_of rows.now inst.net.now) grouping.now.numbering.now.rows.items (yes_load (F.rows_of rows.now inst.net.now) inst.bids.now summary.now.node) room.old }
     requires tables { HoldArcs inst.net.now (F.rows_of rows.now inst.net.now) (F.rows_used rows.now inst.net.now) inst.bids.now (length inst.bids.now) grouping.now.numbering.now.rows.items grouping.now.groups.now tables.old.items }
     requires told { length told.old.items ≡ length tables.old.items }

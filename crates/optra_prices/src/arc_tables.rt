@@ -13,8 +13,6 @@ use optra_dag::Buffers;
 #[derive(Drop)]
 pub struct ArcTables<'g, R: Copy + Ord> {
     pub(crate) numbering: Numbering<R>,
-    /// The rows that have numbers, ascending, each with its number.
-    pub(crate) order: Vec<(R, u32)>,
     /// The prices of rows, by number.
     pub(crate) levels: Levels,
     /// The prices of groups of touches.

@@ -14,7 +14,7 @@ use crate::decided::room_beside;
 use crate::group_prices::GroupPrices;
 use crate::holders::tell_fallen;
 use crate::levels::{move_prices, set_prices, zero_prices};
-use crate::listing::{in_order, list_prices, number_more, widen};
+use crate::listing::{list_prices, number_more, widen};
 use crate::loading::{count_uses, forget_paths};
 use crate::sessions::settle;
 use crate::stepping::step_length;
@@ -45,7 +45,6 @@ pub(crate) fn admit<F: RowFamily>(
     if kept.numbering.rows.len() == before {
         return Ok(());
     }
-    kept.order = in_order(alloc, &kept.numbering.numbers)?;
     forget_paths(&mut kept.levels, &mut kept.counted);
     widen(&mut kept.levels, inst.net, rows, &kept.numbering.rows)?;
     kept.decided.room = room_beside(alloc, inst, rows, &kept.numbering, &kept.decided.decisions)?;
@@ -69,7 +68,6 @@ fn arrive<F: RowFamily>(
     tests_tell_allowed(inst, rows);
     prices_by_used_rows(inst, rows);
     let _ = node;
-    let _count = kept.numbering.numbers.len();
     reprice(&mut kept.columns, &kept.levels.prices);
     tell_fallen(&kept.columns, &kept.tables, &kept.holders, &mut kept.fallen)?;
     settle(
@@ -123,7 +121,6 @@ pub(crate) fn go_to<F: RowFamily>(
     ensures prices { OnOk result (prices_at kept.new ≡ start.now) }
     ensures keeps { OnOk result (KeepsRows kept.old kept.new) }
 {
-    let _count = kept.numbering.numbers.len();
     leave(inst, rows, node, kept)?;
     put_prices::<F>(
         &kept.numbering,
@@ -149,7 +146,6 @@ fn step_prices<F: RowFamily>(
 {
     let _ = inst.net.track_count();
     let _ = node;
-    let _count = kept.numbering.numbers.len();
     count_uses(
         &mut kept.levels,
         &kept.columns.groups,
@@ -216,8 +212,7 @@ pub(crate) fn priced_at<F: RowFamily>(
     let _ = inst.net.track_count();
     let _ = node;
     let _ = rows;
-    let _count = kept.numbering.numbers.len();
-    let entries = list_prices(alloc, &kept.order, &kept.levels.prices)?;
+    let entries = list_prices(alloc, &kept.numbering.order, &kept.levels.prices)?;
     let dual = assemble(alloc, kept.levels.capacity, &kept.tables, &kept.standings)?;
     Ok(Priced {
         prices: Prices { entries },

@@ -52,7 +52,7 @@ pub(crate) fn move_room<F: RowFamily>(
     node: &Node,
     count: usize,
 ) -> Result<(), NoMemory>
-    requires numbering { IsNumbering F.Row.cmp numbering.now.numbers numbering.now.rows.items }
+    requires numbering { IsNumbering F.Row.cmp numbering.now.order.items numbering.now.rows.items }
     requires decided { IsDecided inst.net.now (F.rows_of rows.now inst.net.now) inst.bids.now numbering.now.rows.items decided.old.decisions.items decided.old }
     requires node { IsNode inst.net.now (length inst.bids.now) node.now }
     requires old { count ≤ length decided.old.decisions.items }
@@ -83,7 +83,7 @@ pub(crate) fn room_beside<F: RowFamily>(
     decisions: &[Decision],
 ) -> Result<Room, NoMemory>
     requires decisions { All (IsFormedDecision inst.net.now (length inst.bids.now)) decisions.now }
-    requires numbering { IsNumbering F.Row.cmp numbering.now.numbers numbering.now.rows.items }
+    requires numbering { IsNumbering F.Row.cmp numbering.now.order.items numbering.now.rows.items }
     requires rows { All (λ row. (F.rows_of rows.now inst.net.now).is_row row ≡ true) numbering.now.rows.items }
     ensures { IfOk result (IsRoom (F.rows_of rows.now inst.entry.net.now) numbering.now.rows.items (yes_load (F.rows_of rows.now inst.entry.net.now) inst.entry.bids.now decisions.now)) }
 {

@@ -13,23 +13,24 @@ use crate::arc_tables::ArcTables;
 use crate::columns::new_columns;
 use crate::courses::{admit, go_to, priced_at};
 use crate::decided::{Decided, move_room, shared_count};
+use crate::filling::overfull_row;
 use crate::following::go_along;
 use crate::group_prices::GroupPrices;
 use crate::holders::find_holders;
 use crate::levels::no_levels;
-use crate::listing::{in_order, widen};
+use crate::listing::widen;
 use crate::loading::no_paths;
-use crate::making::{Making, new_making};
 use crate::numbering::Standing;
+use crate::owning::Owned;
 use crate::rooms::empty_room;
-use crate::sessions::{copy_standings, first_standings, make_tables, renew_all};
+use crate::sessions::{Made, copy_standings, first_standings, made_tables, renew_all};
 use crate::telling::tell_moved;
 use crate::valuing::entries;
 use crate::{Dead, Dual, Priced};
 use optra_dag::Buffers;
 use optra_graph::Graphs;
 use optra_network::{Cents, NoMemory};
-use optra_node::{Node, Prices, Summary, prices_by_used_rows, tests_tell_allowed};
+use optra_node::{Node, Prices, prices_by_used_rows, tests_tell_allowed};
 use optra_walk::{Instance, RowFamily};
 use std::alloc::Global;
 
@@ -48,17 +49,16 @@ pub fn keep_arcs<'g, F: RowFamily, G: Graphs>(
 {
     let _ = inst.net.track_count();
     let node = Node::root(alloc);
-    let mut making = new_making(alloc, inst.net, rows)?;
-    let mut tables = make_tables(alloc, inst, graphs, rows, &mut making)?;
-    let Making {
+    let made = made_tables(alloc, inst, graphs, rows)?;
+    let Made {
         numbering,
         groups,
-        ..
-    } = making;
+        mut tables,
+    } = made;
     let decisions = Vec::new(alloc);
     let mut room = empty_room(alloc, inst.net, rows, &numbering)?;
     let mut told = vec![in alloc; true; inst.bids.len()]?;
-    let summary = Summary::new(alloc, inst, rows, &node)?;
+    let summary = Owned::new(alloc, inst, rows, &node)?;
     let grouping = Grouping {
         numbering: &numbering,
         groups: &groups,
@@ -72,7 +72,6 @@ pub fn keep_arcs<'g, F: RowFamily, G: Graphs>(
         &mut told,
         &mut tables,
     )?;
-    let order = in_order(alloc, &numbering.numbers)?;
     let mut levels = no_levels(alloc);
     widen(&mut levels, inst.net, rows, &numbering.rows)?;
     let columns = new_columns(alloc, groups)?;
@@ -87,7 +86,6 @@ pub fn keep_arcs<'g, F: RowFamily, G: Graphs>(
     let counted = no_paths(alloc, tables.len())?;
     Ok(ArcTables {
         numbering,
-        order,
         levels,
         columns,
         tables,
@@ -121,7 +119,7 @@ pub fn bring_to<F: RowFamily>(
     let count = shared_count(&kept.decided.decisions, decisions_of(node));
     tell_moved(inst, rows, node, kept, count)?;
     move_room(&mut kept.decided, inst, rows, &kept.numbering, node, count)?;
-    let summary = Summary::new(alloc, inst, rows, node)?;
+    let summary = Owned::new(alloc, inst, rows, node)?;
     let grouping = Grouping {
         numbering: &kept.numbering,
         groups: &kept.columns.groups,
@@ -185,7 +183,7 @@ pub fn dead_over<F: RowFamily>(
     let _ = inst.net.track_count();
     tests_tell_allowed(inst, rows);
     prices_by_used_rows(inst, rows);
-    if let Some(row) = node.overfull(inst, rows) {
+    if let Some(row) = overfull_row(inst, rows, node, kept) {
         return Some(Dead::Forced { row });
     }
     let bid = first_stuck(&kept.zero)?;

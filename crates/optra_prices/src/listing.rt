@@ -8,12 +8,11 @@ ghost use Rattle.optra_prices.specs.Tables.{IsNumbering, Extends, IsRowPrice};
 
 use crate::levels::{Levels, push_level};
 use crate::numbering::Numbering;
+use crate::ranking::number;
 use crate::stepping::push_price;
-use crate::touching::number;
 use optra_network::{Network, NoMemory};
 use optra_walk::RowFamily;
 use std::alloc::Global;
-use std::collections::BTreeMap;
 
 /// Gives each listed row a number, where it has none yet.
 pub(crate) fn number_more<F: RowFamily>(
@@ -23,9 +22,9 @@ pub(crate) fn number_more<F: RowFamily>(
     entries: &[(F::Row, i64)],
 ) -> Result<(), NoMemory>
     requires prices { ArePrices (F.rows_of rows.now net.now) entries.now }
-    requires numbering { IsNumbering F.Row.cmp numbering.old.numbers numbering.old.rows.items }
+    requires numbering { IsNumbering F.Row.cmp numbering.old.order.items numbering.old.rows.items }
     requires rows { All (λ row. (F.rows_of rows.now net.now).is_row row ≡ true) numbering.old.rows.items }
-    ensures numbering { OnOk result (IsNumbering F.Row.cmp numbering.new.numbers numbering.new.rows.items) }
+    ensures numbering { OnOk result (IsNumbering F.Row.cmp numbering.new.order.items numbering.new.rows.items) }
     ensures rows { OnOk result (All (λ row. (F.rows_of rows.now net.now).is_row row ≡ true) numbering.new.rows.items) }
     ensures extends { OnOk result (Extends numbering.old.rows.items numbering.new.rows.items) }
     ensures same { OnOk result (length numbering.new.rows.items ≡ length numbering.old.rows.items → numbering.new ≡ numbering.old) }
@@ -35,20 +34,6 @@ pub(crate) fn number_more<F: RowFamily>(
         number::<F>(numbering, entry.0)?;
     }
     Ok(())
-}
-
-/// The rows that have numbers, ascending.
-pub(crate) fn in_order<R: Copy + Ord>(
-    alloc: Global,
-    numbers: &BTreeMap<R, u32>,
-) -> Result<Vec<(R, u32)>, NoMemory>
-    ensures { IfOk result (λ order. order.items ≡ numbers.now.entries) }
-{
-    let mut order = Vec::with_capacity(alloc, numbers.len())?;
-    for (row, number) in numbers {
-        order.push((*row, *number))?;
-    }
-    Ok(order)
 }
 
 /// The capacities of rows.

@@ -13,7 +13,7 @@ use optra_network::NoMemory;
 use std::alloc::Global;
 
 /// What an arc touches.
-fn arc_touches<'a>(groups: &'a Groups, table: &BidTable<'_>, k: u32) -> &'a [Touch]
+pub(crate) fn arc_touches<'a>(groups: &'a Groups, table: &BidTable<'_>, k: u32) -> &'a [Touch]
     requires { HasGroups groups.now table.now }
     ensures { result.now ≡ arc_touches groups.now table.now k }
 {

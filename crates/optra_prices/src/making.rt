@@ -4,16 +4,16 @@
 //! new one. Where such a leg may be found is only guessed: nothing rests on a guess, since it is tried before it is taken.
 ghost use Rattle.std.specs.Prelude.{◌≡◌, ◌<◌, true, All, IfSome, IfOk, OnOk};
 ghost use Rattle.optra_walk.specs.Families.{IsUsable};
-ghost use Rattle.optra_prices.specs.Tables.{AreGroups, IsNumbering};
-ghost use Rattle.optra_prices.specs.Makings.{IsHead, IsGroupOf, IsMaking, Grows, FindsGroup};
+ghost use Rattle.optra_prices.specs.Tables.{AreGroups};
+ghost use Rattle.optra_prices.specs.Makings.{IsHead, IsGroupOf, IsMaking, Grows, FindsGroup, IsNumbered};
 
 use crate::grouping::empty_groups;
 use crate::numbering::{Groups, Numbering};
+use crate::ranking::number_rows;
 use crate::touching::push_touches;
 use optra_network::{Network, NoMemory, TypeId};
 use optra_walk::{Action, Leg, RowFamily};
 use std::alloc::{AllocError, Global};
-use std::collections::BTreeMap;
 
 /// How many guesses are kept.
 const PLACES: usize = 1_048_576;
@@ -39,12 +39,20 @@ pub(crate) struct Head {
 /// entered alike.
 #[derive(Drop)]
 pub(crate) struct Making<R: Copy + Ord> {
-    pub(crate) numbering: Numbering<R>,
+    /// The row of each touch, by place.
+    pub(crate) named: Vec<R>,
     pub(crate) groups: Groups,
     pub(crate) heads: Vec<Head>,
     pub(crate) guesses: Vec<u32>,
     /// The head that served last.
     pub(crate) last: u32,
+}
+
+/// Rows by number, and groups of touches that name rows by number.
+#[derive(Drop)]
+pub(crate) struct Numbered<R: Copy + Ord> {
+    pub(crate) numbering: Numbering<R>,
+    pub(crate) groups: Groups,
 }
 
 /// No row and no leg yet.
@@ -53,15 +61,12 @@ pub(crate) fn new_making<F: RowFamily>(
     net: &Network,
     rows: &F,
 ) -> Result<Making<F::Row>, NoMemory>
-    ensures { IfOk result (IsMaking F.Row.cmp net.now (F.rows_of rows.now net.now) (F.rows_used rows.now net.now)) }
+    ensures { IfOk result (IsMaking net.now (F.rows_of rows.now net.now) (F.rows_used rows.now net.now)) }
 {
     let _ = net;
     let _ = rows;
     Ok(Making {
-        numbering: Numbering {
-            numbers: BTreeMap::new(alloc),
-            rows: Vec::new(alloc),
-        },
+        named: Vec::new(alloc),
         groups: empty_groups(alloc)?,
         heads: Vec::new(alloc),
         guesses: vec![in alloc; 0; PLACES]?,
@@ -109,9 +114,9 @@ fn head_group<F: RowFamily>(
     kind: TypeId,
     leg: Leg,
 ) -> Option<u32>
-    requires making { IsMaking F.Row.cmp net.now (F.rows_of rows.now net.now) (F.rows_used rows.now net.now) making.now }
+    requires making { IsMaking net.now (F.rows_of rows.now net.now) (F.rows_used rows.now net.now) making.now }
     requires usable { IsUsable net.now kind leg }
-    ensures { IfSome result (IsGroupOf (F.rows_of rows.now net.now) (F.rows_used rows.now net.now) kind leg making.now.numbering making.now.groups) }
+    ensures { IfSome result (IsGroupOf (F.rows_of rows.now net.now) (F.rows_used rows.now net.now) kind leg making.now.named.items making.now.groups) }
 {
     let known = making.heads.get(head as usize)?;
     if known.kind == kind && rows.use_alike(net, kind, known.leg, leg) {
@@ -125,22 +130,21 @@ fn head_group<F: RowFamily>(
 fn new_group<F: RowFamily>(
     net: &Network,
     rows: &F,
-    numbering: &mut Numbering<F::Row>,
+    named: &mut Vec<F::Row>,
     groups: &mut Groups,
     kind: TypeId,
     leg: Leg,
 ) -> Result<u32, NoMemory>
     requires usable { IsUsable net.now kind leg }
-    requires numbering { IsNumbering F.Row.cmp numbering.old.numbers numbering.old.rows.items }
-    requires rows { All (λ row. (F.rows_of rows.now net.now).is_row row ≡ true) numbering.old.rows.items }
+    requires rows { All (λ row. (F.rows_of rows.now net.now).is_row row ≡ true) named.old.items }
     requires groups { AreGroups groups.old.starts.items groups.old.touches.items }
-    ensures { IfOk result (FindsGroup F.Row.cmp (F.rows_of rows.now net.now) (F.rows_used rows.now net.now) kind leg numbering.old numbering.new groups.old groups.new) }
+    ensures { IfOk result (FindsGroup (F.rows_of rows.now net.now) (F.rows_used rows.now net.now) kind leg named.old.items named.new.items groups.old groups.new) }
 {
     let _ = net.track_count();
     let Ok(number) = u32::try_from(groups.starts.len() - 1) else {
         return Err(AllocError);
     };
-    push_touches(net, rows, numbering, &mut groups.touches, kind, leg)?;
+    push_touches(net, rows, named, &mut groups.touches, kind, leg)?;
     groups.starts.push(groups.touches.len())?;
     Ok(number)
 }
@@ -153,11 +157,11 @@ fn guessed_group<F: RowFamily>(
     kind: TypeId,
     leg: Leg,
 ) -> Option<u32>
-    requires making { IsMaking F.Row.cmp net.now (F.rows_of rows.now net.now) (F.rows_used rows.now net.now) making.old }
+    requires making { IsMaking net.now (F.rows_of rows.now net.now) (F.rows_used rows.now net.now) making.old }
     requires usable { IsUsable net.now kind leg }
-    ensures making { IsMaking F.Row.cmp net.now (F.rows_of rows.now net.now) (F.rows_used rows.now net.now) making.new }
-    ensures same { (making.new.numbering ≡ making.old.numbering) × (making.new.groups ≡ making.old.groups) }
-    ensures found { IfSome result (IsGroupOf (F.rows_of rows.now net.now) (F.rows_used rows.now net.now) kind leg making.new.numbering making.new.groups) }
+    ensures making { IsMaking net.now (F.rows_of rows.now net.now) (F.rows_used rows.now net.now) making.new }
+    ensures same { (making.new.named ≡ making.old.named) × (making.new.groups ≡ making.old.groups) }
+    ensures found { IfSome result (IsGroupOf (F.rows_of rows.now net.now) (F.rows_used rows.now net.now) kind leg making.new.named.items making.new.groups) }
 {
     if let Some(group) = head_group(net, rows, making, making.last, kind, leg) {
         return Some(group);
@@ -180,10 +184,10 @@ fn enter<F: RowFamily>(
     making: &mut Making<F::Row>,
     head: Head,
 ) -> Result<(), NoMemory>
-    requires making { IsMaking F.Row.cmp net.now (F.rows_of rows.now net.now) (F.rows_used rows.now net.now) making.old }
-    requires head { IsHead net.now (F.rows_of rows.now net.now) (F.rows_used rows.now net.now) making.old.numbering making.old.groups head }
-    ensures making { OnOk result (IsMaking F.Row.cmp net.now (F.rows_of rows.now net.now) (F.rows_used rows.now net.now) making.new) }
-    ensures same { OnOk result ((making.new.numbering ≡ making.old.numbering) × (making.new.groups ≡ making.old.groups)) }
+    requires making { IsMaking net.now (F.rows_of rows.now net.now) (F.rows_used rows.now net.now) making.old }
+    requires head { IsHead net.now (F.rows_of rows.now net.now) (F.rows_used rows.now net.now) making.old.named.items making.old.groups head }
+    ensures making { OnOk result (IsMaking net.now (F.rows_of rows.now net.now) (F.rows_used rows.now net.now) making.new) }
+    ensures same { OnOk result ((making.new.named ≡ making.old.named) × (making.new.groups ≡ making.old.groups)) }
 {
     let _ = net;
     let _ = rows;
@@ -207,23 +211,37 @@ pub(crate) fn leg_group<F: RowFamily>(
     kind: TypeId,
     leg: Leg,
 ) -> Result<u32, NoMemory>
-    requires making { IsMaking F.Row.cmp net.now (F.rows_of rows.now net.now) (F.rows_used rows.now net.now) making.old }
+    requires making { IsMaking net.now (F.rows_of rows.now net.now) (F.rows_used rows.now net.now) making.old }
     requires usable { IsUsable net.now kind leg }
-    ensures making { OnOk result (IsMaking F.Row.cmp net.now (F.rows_of rows.now net.now) (F.rows_used rows.now net.now) making.new) }
+    ensures making { OnOk result (IsMaking net.now (F.rows_of rows.now net.now) (F.rows_used rows.now net.now) making.new) }
     ensures grows { OnOk result (Grows making.old making.new) }
-    ensures found { IfOk result (IsGroupOf (F.rows_of rows.now net.now) (F.rows_used rows.now net.now) kind leg making.new.numbering making.new.groups) }
+    ensures found { IfOk result (IsGroupOf (F.rows_of rows.now net.now) (F.rows_used rows.now net.now) kind leg making.new.named.items making.new.groups) }
 {
     if let Some(group) = guessed_group(net, rows, making, kind, leg) {
         return Ok(group);
     }
-    let group = new_group(
-        net,
-        rows,
-        &mut making.numbering,
-        &mut making.groups,
-        kind,
-        leg,
-    )?;
+    let group = new_group(net, rows, &mut making.named, &mut making.groups, kind, leg)?;
     enter(net, rows, making, Head { kind, leg, group })?;
     Ok(group)
+}
+
+/// Numbers the rows that were named, each once.
+pub(crate) fn finish_making<F: RowFamily>(
+    alloc: Global,
+    net: &Network,
+    rows: &F,
+    making: Making<F::Row>,
+) -> Result<Numbered<F::Row>, NoMemory>
+    requires { IsMaking net.now (F.rows_of rows.now net.now) (F.rows_used rows.now net.now) making }
+    ensures { IfOk result (IsNumbered F.Row.cmp (F.rows_of rows.now net.now) making.named.items making.groups) }
+{
+    let _ = net;
+    let _ = rows;
+    let Making {
+        named,
+        mut groups,
+        ..
+    } = making;
+    let numbering = number_rows::<F>(alloc, &named, &mut groups.touches)?;
+    Ok(Numbered { numbering, groups })
 }

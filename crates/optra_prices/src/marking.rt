@@ -3,7 +3,8 @@ ghost use Rattle.std.specs.Prelude.{◌≡◌, ◌<◌, length};
 ghost use Rattle.std.specs.List.{list_any};
 ghost use Rattle.optra_node.specs.Nodes.{has_yes};
 
-use optra_node::{Decision, Summary};
+use crate::owning::Owned;
+use optra_node::Decision;
 use optra_walk::RowFamily;
 
 /// Whether one of the decisions is a yes.
@@ -14,7 +15,7 @@ fn any_yes(decisions: &[Decision]) -> bool
 }
 
 /// Whether the bid has a yes leg.
-pub(crate) fn has_yes<F: RowFamily>(summary: &Summary<'_, F>, number: u32) -> bool
+pub(crate) fn has_yes<F: RowFamily>(summary: &Owned<'_, F>, number: u32) -> bool
     requires { number < length summary.now.bids }
     ensures { result ≡ has_yes summary.now.node number }
 {

@@ -1,6 +1,5 @@
-//! Rows by number, in the order in which they were first met, and what the arcs of bids' graphs add and touch.
+//! Rows by number, and what the arcs of bids' graphs add and touch.
 use optra_graph::TimeGraph;
-use std::collections::BTreeMap;
 
 /// A row by its number, and how much of it is used.
 #[derive(Clone, Copy)]
@@ -9,10 +8,10 @@ pub(crate) struct Touch {
     pub(crate) uses: u32,
 }
 
-/// Rows by number, and the numbers of rows.
+/// Rows by number, and the same rows ascending, each with its number.
 #[derive(Drop)]
 pub(crate) struct Numbering<R: Copy + Ord> {
-    pub(crate) numbers: BTreeMap<R, u32>,
+    pub(crate) order: Vec<(R, u32)>,
     pub(crate) rows: Vec<R>,
 }
 

@@ -1,15 +1,16 @@
 //! What the arcs of a bid's table add to the value of a walk, and which of them may be taken beside what is placed.
-ghost use Rattle.std.specs.Prelude.{◌≡◌, ◌&&◌, ◌+◌, ◌<◌, ℕ, Some, All, IfOk, OnOk, length, slice_get};
+ghost use Rattle.std.specs.Prelude.{◌≡◌, ◌&&◌, ◌+◌, ◌<◌, ◌↔◌, ℕ, [], Some, All, IsTrue, IfOk, OnOk, length, slice_get};
 ghost use Rattle.optra_bid.specs.declared.bids.Bid.{Bid};
 ghost use Rattle.optra_walk.specs.Families.{IsUsable};
-ghost use Rattle.optra_graph.specs.Timed.{Timed, IsGraphOf};
+ghost use Rattle.optra_graph.specs.Timed.{Timed, IsGraphOf, IsRoute, walk_of};
 ghost use Rattle.optra_prices.specs.Keepings.{AreKept, AreKeptAt};
-ghost use Rattle.optra_prices.specs.Parts.{AreParts, ArePartsOf, IsTableGraph, IsRoomIn};
+ghost use Rattle.optra_prices.specs.Parts.{AreParts, ArePartsOf, IsTableGraph, IsRoomIn, HasRoom, KeepsWithin, IsPutIn};
 ghost use Rattle.optra_prices.specs.Tables.{AreGroups};
 
 use crate::arc_tables::ArcTables;
 use crate::numbering::{ArcTerm, BidTable, Groups};
-use crate::rooms::{Room, Told, add_leg, empty_room, tell_group};
+use crate::putting::{add_arcs, are_arcs_within, has_room_for_each, take_arcs};
+use crate::rooms::{Room, Told, add_leg, free_copy, tell_group};
 use optra_graph::TimeGraph;
 use optra_network::{NoMemory, TypeId};
 use optra_node::Node;
@@ -112,7 +113,10 @@ pub fn free_room<F: RowFamily>(
     requires { AreKept F.Row.cmp inst.net.now (F.rows_of rows.now inst.net.now) (F.rows_used rows.now inst.net.now) inst.bids.now kept.now }
     ensures { IfOk result (IsRoomIn (F.rows_of rows.now inst.entry.net.now) kept.now (λ row. 0)) }
 {
-    empty_room(alloc, inst.net, rows, &kept.numbering)
+    let _ = inst.net;
+    let _ = rows;
+    let room = free_copy(alloc, &kept.decided.room)?;
+    Ok(room)
 }
 
 /// Adds what a usable leg of the type uses to a room. After `NoMemory`, its only refusal, some of it may be added, and the
@@ -130,4 +134,56 @@ pub fn take_up<F: RowFamily>(
     ensures { OnOk result ((total : F.Row → ℕ) → IsRoomIn (F.rows_of rows.now inst.entry.net.now) kept.now total room.old → IsRoomIn (F.rows_of rows.now inst.entry.net.now) kept.now (λ row. total row + (F.rows_of rows.now inst.entry.net.now).uses kind leg row) room.new) }
 {
     add_leg(room, inst.net, rows, &kept.numbering, kind, leg)
+}
+
+/// Whether there is room for each leg of the walk of a bid's path by itself. The path must be one of the bid's graph.
+pub fn has_room_for_path<F: RowFamily>(
+    inst: Instance<'_>,
+    rows: &F,
+    kept: &ArcTables<'_, F::Row>,
+    room: &Room,
+    number: u32,
+    path: &[u32],
+) -> bool
+    requires kept { AreKept F.Row.cmp inst.net.now (F.rows_of rows.now inst.net.now) (F.rows_used rows.now inst.net.now) inst.bids.now kept.now }
+    requires number { number < length inst.bids.now }
+    requires route { (t : Timed) → IsTableGraph kept.now number t → (path.now ≡ [] → ⊥) → IsRoute t path.now }
+    ensures { (bid : Bid) (t : Timed) (total : F.Row → ℕ) → slice_get inst.entry.bids.now number ≡ Some bid → IsTableGraph kept.now number t → IsRoomIn (F.rows_of rows.now inst.entry.net.now) kept.now total room.now → IsTrue result ↔ All (HasRoom (F.rows_of rows.now inst.entry.net.now) total bid.path.kind) (walk_of t path.now) }
+{
+    let _ = inst.net.track_count();
+    let _ = rows;
+    has_room_for_each(
+        room,
+        &kept.columns.groups,
+        &kept.tables[number as usize],
+        path,
+    )
+}
+
+/// Adds what the legs of the walk of a bid's path use to a room, where no row gets above its capacity by them together,
+/// and tells whether that is so. The path must be one of the bid's graph. After `NoMemory`, its only refusal, some of it
+/// may be added, and the room serves no more.
+pub fn put_path<F: RowFamily>(
+    room: &mut Room,
+    inst: Instance<'_>,
+    rows: &F,
+    kept: &ArcTables<'_, F::Row>,
+    number: u32,
+    path: &[u32],
+) -> Result<bool, NoMemory>
+    requires kept { AreKept F.Row.cmp inst.net.now (F.rows_of rows.now inst.net.now) (F.rows_used rows.now inst.net.now) inst.bids.now kept.now }
+    requires number { number < length inst.bids.now }
+    requires route { (t : Timed) → IsTableGraph kept.now number t → (path.now ≡ [] → ⊥) → IsRoute t path.now }
+    ensures { IfOk result (λ put. (bid : Bid) (t : Timed) (total : F.Row → ℕ) → slice_get inst.entry.bids.now number ≡ Some bid → IsTableGraph kept.now number t → KeepsWithin (F.rows_of rows.now inst.entry.net.now) total → IsRoomIn (F.rows_of rows.now inst.entry.net.now) kept.now total room.old → IsPutIn (F.rows_of rows.now inst.entry.net.now) kept.now bid.path.kind (walk_of t path.now) put total room.new) }
+{
+    let _ = inst.net.track_count();
+    let _ = rows;
+    let groups = &kept.columns.groups;
+    let table = &kept.tables[number as usize];
+    add_arcs(room, groups, table, path)?;
+    if are_arcs_within(room, groups, table, path) {
+        return Ok(true);
+    }
+    take_arcs(room, groups, table, path);
+    Ok(false)
 }

@@ -2,11 +2,12 @@
 ghost use Rattle.std.specs.Prelude.{◌≡◌, ◌+◌, ◌-◌, ◌<◌, ℕ, ◌↔◌, IsTrue, true, All, IfOk, OnOk, length};
 ghost use Rattle.optra_walk.specs.Families.{IsUsable};
 ghost use Rattle.optra_prices.specs.Tables.{IsNumbering, AreGroups};
-ghost use Rattle.optra_prices.specs.Rooms.{IsRoom, HasRoomFor, HasRoomForAll, ChangesUse, ChangesRow, IsTold};
+ghost use Rattle.optra_prices.specs.Rooms.{IsRoom, HasRoomFor, HasRoomForAll, ChangesUse, ChangesRow, IsTold, IsFreeCopy};
 
 use crate::grouping::group;
 use crate::listing::capacities_of;
 use crate::numbering::{Groups, Numbering, Touch};
+use crate::ranking::number_of;
 use optra_network::{Network, NoMemory, TypeId};
 use optra_walk::{Leg, RowFamily};
 use std::alloc::{AllocError, Global};
@@ -34,8 +35,18 @@ pub(crate) fn empty_room<F: RowFamily>(
     })
 }
 
+/// As much room, of which nothing is used.
+pub(crate) fn free_copy(alloc: Global, room: &Room) -> Result<Room, NoMemory>
+    ensures { IfOk result (IsFreeCopy room.now) }
+{
+    Ok(Room {
+        uses: vec![in alloc; 0; room.uses.len()]?,
+        capacities: Vec::from_slice(alloc, &room.capacities)?,
+    })
+}
+
 /// Adds uses of the row with this number. More than 2^64 uses are refused as want of memory; no legs come near it.
-fn add_use(uses: &mut Vec<u64>, number: u32, by: u32) -> Result<(), NoMemory>
+pub(crate) fn add_use(uses: &mut Vec<u64>, number: u32, by: u32) -> Result<(), NoMemory>
     ensures { OnOk result (ChangesUse number (λ used. used + by) uses.old.items uses.new.items) }
 {
     let Some(used) = uses.get_mut(number as usize) else {
@@ -49,7 +60,7 @@ fn add_use(uses: &mut Vec<u64>, number: u32, by: u32) -> Result<(), NoMemory>
 }
 
 /// Takes away uses of the row with this number.
-fn take_use(uses: &mut Vec<u64>, number: u32, by: u32)
+pub(crate) fn take_use(uses: &mut Vec<u64>, number: u32, by: u32)
     ensures { ChangesUse number (λ used. used - by) uses.old.items uses.new.items }
 {
     let Some(used) = uses.get_mut(number as usize) else {
@@ -65,22 +76,22 @@ fn add_row<F: RowFamily>(
     row: F::Row,
     by: u32,
 ) -> Result<(), NoMemory>
-    requires { IsNumbering F.Row.cmp numbering.now.numbers numbering.now.rows.items }
+    requires { IsNumbering F.Row.cmp numbering.now.order.items numbering.now.rows.items }
     ensures { OnOk result (ChangesRow F.Row.cmp numbering.now.rows.items row (λ used. used + by) room.old room.new) }
 {
-    match numbering.numbers.get(&row) {
-        Some(number) => add_use(&mut room.uses, *number, by),
+    match number_of::<F>(numbering, row) {
+        Some(number) => add_use(&mut room.uses, number, by),
         None => Ok(()),
     }
 }
 
 /// Takes away uses of the row, where the row has a number.
 fn take_row<F: RowFamily>(room: &mut Room, numbering: &Numbering<F::Row>, row: F::Row, by: u32)
-    requires { IsNumbering F.Row.cmp numbering.now.numbers numbering.now.rows.items }
+    requires { IsNumbering F.Row.cmp numbering.now.order.items numbering.now.rows.items }
     ensures { ChangesRow F.Row.cmp numbering.now.rows.items row (λ used. used - by) room.old room.new }
 {
-    if let Some(number) = numbering.numbers.get(&row) {
-        take_use(&mut room.uses, *number, by);
+    if let Some(number) = number_of::<F>(numbering, row) {
+        take_use(&mut room.uses, number, by);
     }
 }
 
@@ -94,7 +105,7 @@ pub(crate) fn add_leg<F: RowFamily>(
     leg: Leg,
 ) -> Result<(), NoMemory>
     requires usable { IsUsable net.now kind leg }
-    requires numbering { IsNumbering F.Row.cmp numbering.now.numbers numbering.now.rows.items }
+    requires numbering { IsNumbering F.Row.cmp numbering.now.order.items numbering.now.rows.items }
     ensures { OnOk result ((total : F.Row → ℕ) → IsRoom (F.rows_of rows.now net.now) numbering.now.rows.items total room.old → IsRoom (F.rows_of rows.now net.now) numbering.now.rows.items (λ row. total row + (F.rows_of rows.now net.now).uses kind leg row) room.new) }
 {
     let _ = net.track_count();
@@ -118,7 +129,7 @@ pub(crate) fn take_leg<F: RowFamily>(
     leg: Leg,
 )
     requires usable { IsUsable net.now kind leg }
-    requires numbering { IsNumbering F.Row.cmp numbering.now.numbers numbering.now.rows.items }
+    requires numbering { IsNumbering F.Row.cmp numbering.now.order.items numbering.now.rows.items }
     ensures { (total : F.Row → ℕ) → IsRoom (F.rows_of rows.now net.now) numbering.now.rows.items (λ row. total row + (F.rows_of rows.now net.now).uses kind leg row) room.old → IsRoom (F.rows_of rows.now net.now) numbering.now.rows.items total room.new }
 {
     let _ = net.track_count();

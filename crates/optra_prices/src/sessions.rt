@@ -4,14 +4,14 @@ ghost use Rattle.optra_prices.specs.Columns.{MarksTell};
 ghost use Rattle.optra_prices.specs.Holders.{TellsFallen};
 ghost use Rattle.optra_prices.specs.Keepings.{AreBrought};
 ghost use Rattle.optra_prices.specs.Makings.{IsMaking};
-ghost use Rattle.optra_prices.specs.Standings.{IsSound, HoldArcs, AllStand, AreCopies};
+ghost use Rattle.optra_prices.specs.Standings.{IsSound, HoldArcs, AllStand, AreCopies, IsMade};
 ghost use Rattle.optra_prices.specs.Tables.{AreUpTo};
 ghost use Rattle.optra_prices.specs.declared.numbering.BidTable.{BidTable};
 
 use crate::columns::Mark;
 use crate::group_prices::GroupPrices;
-use crate::making::Making;
-use crate::numbering::{BidTable, Standing};
+use crate::making::{Making, finish_making, new_making};
+use crate::numbering::{BidTable, Groups, Numbering, Standing};
 use crate::settling::{copy_standing, first_standing, renew_where, update};
 use crate::tables::bid_table;
 use optra_dag::Buffers;
@@ -30,9 +30,9 @@ pub(crate) fn make_tables<'g, F: RowFamily, G: Graphs>(
 ) -> Result<Vec<BidTable<'g>>, NoMemory>
     requires network { G.network graphs.now ≡ inst.net.now }
     requires held { All (λ bid. Contains (G.held graphs.now) bid.path) inst.bids.now }
-    requires making { IsMaking F.Row.cmp inst.net.now (F.rows_of rows.now inst.net.now) (F.rows_used rows.now inst.net.now) making.old }
-    ensures making { OnOk result (IsMaking F.Row.cmp inst.entry.net.now (F.rows_of rows.now inst.entry.net.now) (F.rows_used rows.now inst.entry.net.now) making.new) }
-    ensures tables { IfOk result (λ tables. HoldArcs inst.entry.net.now (F.rows_of rows.now inst.entry.net.now) (F.rows_used rows.now inst.entry.net.now) inst.entry.bids.now (length inst.entry.bids.now) making.new.numbering.rows.items making.new.groups tables.items) }
+    requires making { IsMaking inst.net.now (F.rows_of rows.now inst.net.now) (F.rows_used rows.now inst.net.now) making.old }
+    ensures making { OnOk result (IsMaking inst.entry.net.now (F.rows_of rows.now inst.entry.net.now) (F.rows_used rows.now inst.entry.net.now) making.new) }
+    ensures tables { IfOk result (λ tables. HoldArcs inst.entry.net.now (F.rows_of rows.now inst.entry.net.now) (F.rows_used rows.now inst.entry.net.now) inst.entry.bids.now (length inst.entry.bids.now) making.new.named.items making.new.groups tables.items) }
 {
     let bids = inst.bids;
     let mut tables = Vec::with_capacity(alloc, bids.len())?;
@@ -43,6 +43,35 @@ pub(crate) fn make_tables<'g, F: RowFamily, G: Graphs>(
         tables.push(table)?;
     }
     Ok(tables)
+}
+
+/// Rows by number, groups of touches, and a table for each bid, in which no arc may be taken yet.
+#[derive(Drop)]
+pub(crate) struct Made<'g, R: Copy + Ord> {
+    pub(crate) numbering: Numbering<R>,
+    pub(crate) groups: Groups,
+    pub(crate) tables: Vec<BidTable<'g>>,
+}
+
+/// The tables of all bids, whose groups name rows by number.
+pub(crate) fn made_tables<'g, F: RowFamily, G: Graphs>(
+    alloc: Global,
+    inst: Instance<'_>,
+    graphs: &'g G,
+    rows: &F,
+) -> Result<Made<'g, F::Row>, NoMemory>
+    requires network { G.network graphs.now ≡ inst.net.now }
+    requires held { All (λ bid. Contains (G.held graphs.now) bid.path) inst.bids.now }
+    ensures { IfOk result (IsMade F.Row.cmp inst.entry.net.now (F.rows_of rows.now inst.entry.net.now) (F.rows_used rows.now inst.entry.net.now) inst.entry.bids.now) }
+{
+    let mut making = new_making(alloc, inst.net, rows)?;
+    let tables = make_tables(alloc, inst, graphs, rows, &mut making)?;
+    let numbered = finish_making(alloc, inst.net, rows, making)?;
+    Ok(Made {
+        numbering: numbered.numbering,
+        groups: numbered.groups,
+        tables,
+    })
 }
 
 /// What is known of each bid at first.

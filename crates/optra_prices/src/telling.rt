@@ -18,6 +18,7 @@ use crate::chains::Chains;
 use crate::columns::{Columns, mark_row, still};
 use crate::holders::{tell_bid, tell_holders, tell_none};
 use crate::numbering::{BidTable, Numbering};
+use crate::ranking::number_of;
 use optra_network::{Network, NoMemory, TypeId};
 use optra_node::{Decision, Node};
 use optra_walk::{Instance, Leg, RowFamily};
@@ -29,12 +30,12 @@ fn mark_named<F: RowFamily>(
     row: F::Row,
 ) -> Result<(), NoMemory>
     requires columns { IsColumns columns.old.groups columns.old }
-    requires numbering { IsNumbering F.Row.cmp numbering.now.numbers numbering.now.rows.items }
+    requires numbering { IsNumbering F.Row.cmp numbering.now.order.items numbering.now.rows.items }
     ensures columns { OnOk result (IsColumns columns.old.groups columns.new) }
     ensures marks { OnOk result (MarksNamed numbering.now.rows.items row columns.old columns.new) }
 {
-    match numbering.numbers.get(&row) {
-        Some(number) => mark_row(columns, *number),
+    match number_of::<F>(numbering, row) {
+        Some(number) => mark_row(columns, number),
         None => Ok(()),
     }
 }
@@ -50,7 +51,7 @@ fn mark_leg<F: RowFamily>(
 ) -> Result<(), NoMemory>
     requires usable { IsUsable net.now kind leg }
     requires columns { IsColumns columns.old.groups columns.old }
-    requires numbering { IsNumbering F.Row.cmp numbering.now.numbers numbering.now.rows.items }
+    requires numbering { IsNumbering F.Row.cmp numbering.now.order.items numbering.now.rows.items }
     ensures columns { OnOk result (IsColumns columns.old.groups columns.new) }
     ensures marks { OnOk result (MarksRows numbering.now.rows.items ((F.rows_of rows.now net.now).uses kind leg) columns.old columns.new) }
 {
@@ -74,7 +75,7 @@ fn mark_decision<F: RowFamily>(
 ) -> Result<(), NoMemory>
     requires decision { IsFormedDecision inst.net.now (length inst.bids.now) decision }
     requires columns { IsColumns columns.old.groups columns.old }
-    requires numbering { IsNumbering F.Row.cmp numbering.now.numbers numbering.now.rows.items }
+    requires numbering { IsNumbering F.Row.cmp numbering.now.order.items numbering.now.rows.items }
     ensures columns { OnOk result (IsColumns columns.old.groups columns.new) }
     ensures marks { OnOk result (MarksRows numbering.now.rows.items (λ row. yes_uses (F.rows_of rows.now inst.entry.net.now) inst.entry.bids.now row decision) columns.old columns.new) }
 {
@@ -98,7 +99,7 @@ fn mark_decisions<F: RowFamily>(
 ) -> Result<(), NoMemory>
     requires decisions { All (IsFormedDecision inst.net.now (length inst.bids.now)) decisions.now }
     requires columns { IsColumns columns.old.groups columns.old }
-    requires numbering { IsNumbering F.Row.cmp numbering.now.numbers numbering.now.rows.items }
+    requires numbering { IsNumbering F.Row.cmp numbering.now.order.items numbering.now.rows.items }
     ensures columns { OnOk result (IsColumns columns.old.groups columns.new) }
     ensures marks { OnOk result (MarksRows numbering.now.rows.items (yes_load (F.rows_of rows.now inst.entry.net.now) inst.entry.bids.now decisions.now) columns.old columns.new) }
 {

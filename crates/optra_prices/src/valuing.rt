@@ -15,6 +15,7 @@ use crate::Dual;
 use crate::columns::Columns;
 use crate::levels::{Levels, set_price};
 use crate::numbering::{BidTable, Numbering, Standing};
+use crate::ranking::number_of;
 use optra_graph::TimeGraph;
 use optra_network::NoMemory;
 use optra_node::Prices;
@@ -107,7 +108,7 @@ pub(crate) fn put_prices<F: RowFamily>(
     columns: &mut Columns,
     entries: &[(F::Row, i64)],
 ) -> Result<(), NoMemory>
-    requires numbering { IsNumbering F.Row.cmp numbering.now.numbers numbering.now.rows.items }
+    requires numbering { IsNumbering F.Row.cmp numbering.now.order.items numbering.now.rows.items }
     requires levels { IsLevels levels.old }
     requires columns { IsColumns columns.old.groups columns.old }
     requires due { PricesAllButDue levels.old.prices.items columns.old }
@@ -135,7 +136,7 @@ fn put_row_price<F: RowFamily>(
     columns: &mut Columns,
     entry: (F::Row, i64),
 ) -> Result<(), NoMemory>
-    requires numbering { IsNumbering F.Row.cmp numbering.now.numbers numbering.now.rows.items }
+    requires numbering { IsNumbering F.Row.cmp numbering.now.order.items numbering.now.rows.items }
     requires levels { IsLevels levels.old }
     requires columns { IsColumns columns.old.groups columns.old }
     requires due { PricesAllButDue levels.old.prices.items columns.old }
@@ -148,8 +149,8 @@ fn put_row_price<F: RowFamily>(
     ensures grouped { OnOk result (columns.new.grouped ≡ columns.old.grouped) }
     ensures rest { OnOk result (KeepsUses levels.old levels.new) }
 {
-    if let Some(number) = numbering.numbers.get(&entry.0) {
-        set_price(levels, columns, *number, entry.1)?;
+    if let Some(number) = number_of::<F>(numbering, entry.0) {
+        set_price(levels, columns, number, entry.1)?;
     }
     Ok(())
 }

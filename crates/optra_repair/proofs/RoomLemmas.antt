@@ -1,5 +1,5 @@
 -- What the totals say of what fits.
-use Rattle.std.proofs.Common.{◌≡◌, ℕ, zero, suc, ◌+◌, ◌≤◌, ◌<◌, Bool, true, false, List, [], ◌∷◌, ◌++◌, map, length, take, get_or, Option, Some, None, slice_get, refl, ap, ◌∙◌, subst, arith}
+use Rattle.std.proofs.Common.{◌≡◌, ℕ, zero, suc, ◌+◌, ◌≤◌, ◌<◌, Bool, true, false, List, [], ◌∷◌, ◌++◌, map, length, take, get_or, Option, Some, None, slice_get, refl, sym, ap, ◌∙◌, subst, arith}
 use Rattle.std.specs.Prelude.{◌↔◌, Contains, IfSome}
 use Rattle.std.proofs.lemmas.Option.{slice_get-get_or}
 use Rattle.std.proofs.lemmas.List.{take_all}
@@ -10,8 +10,12 @@ use Rattle.optra_walk.specs.Families.{Rows, Entry, FitRows, load_of}
 use Rattle.optra_rows.specs.Loads.{HasRoom}
 use Rattle.optra_rows.proofs.FitLemmas.{load_of-more, fits_more}
 use Rattle.optra_rows.proofs.LoadLemmas.{none_past, at_contains}
+use Rattle.optra_prices.specs.Parts.{IsPutIn, IsRoomIn}
 use Rattle.optra_prices.specs.Repairs.{FitBeside}
-use Rattle.optra_repair.specs.Placings.{AreTotals, AreWithin, AddsLegs, HaveRoom, IsPut, use_of_legs}
+use Rattle.optra_prices.specs.declared.arc_tables.ArcTables.{ArcTables}
+use Rattle.optra_prices.specs.declared.rooms.Room.{Room}
+use Rattle.optra_prices.proofs.RoomLemmas.{same_room}
+use Rattle.optra_repair.specs.Placings.{AreTotals, AreWithin, AddsLegs, HaveRoom, IsPut, IsPutWhole, use_of_legs, use_of_walk}
 
 module _ {R : Type 0} (rows : Rows R) where
   pub use-cons : (kind : TypeId) (leg : Leg) (legs : List Leg) (row : R) → use_of_legs rows kind (leg ∷ legs) row ≡ rows.uses kind leg row + use_of_legs rows kind legs row
@@ -120,3 +124,22 @@ module _ {R : Type 0} (rows : Rows R) where
       where
         sum : (row : R) → load_of rows row (placed ++ map (λ (l : Leg). (kind, l)) legs) ≡ load_of rows row placed + use_of_legs rows kind legs row
         sum row = sum_by-append (λ (e : Entry). rows.uses e.0 e.1 row) placed (map (λ (l : Leg). (kind, l)) legs)
+
+module _ {R : Type 0} (rows : Rows R) (kept : ArcTables R) (kind : TypeId) (legs : List Leg) (total : R → ℕ) (room : Room) where
+  -- a path that was not put leaves the totals, and its walk is not given
+  pub put_none : (b : Bool) → b ≡ false → IsPutIn rows kept kind legs b total room → IsPutWhole rows kind legs None total (λ row. total row + use_of_walk rows kind None row)
+  put_none false e put = (put.0, λ row. refl)
+  put_none true e put = cc
+
+  pub room_none : (b : Bool) → b ≡ false → IsPutIn rows kept kind legs b total room → IsRoomIn rows kept (λ row. total row + use_of_walk rows kind None row) room
+  room_none false e put = same_room rows kept.numbering.rows.items total (λ row. total row + 0) room (λ row. omega arith) put.1
+  room_none true e put = cc
+
+  -- one that was put is given, and added to them
+  pub put_some : (b : Bool) (walk : List Leg) → b ≡ true → walk ≡ legs → IsPutIn rows kept kind legs b total room → IsPutWhole rows kind legs (Some walk) total (λ row. total row + use_of_walk rows kind (Some walk) row)
+  put_some true walk e same put = (same, (put.0, λ row. ap (λ (l : List Leg). total row + use_of_legs rows kind l row) same))
+  put_some false walk e same put = cc
+
+  pub room_some : (b : Bool) (walk : List Leg) → b ≡ true → walk ≡ legs → IsPutIn rows kept kind legs b total room → IsRoomIn rows kept (λ row. total row + use_of_walk rows kind (Some walk) row) room
+  room_some true walk e same put = subst (λ (l : List Leg). IsRoomIn rows kept (λ row. total row + use_of_legs rows kind l row) room) (sym same) put.1
+  room_some false walk e same put = cc

@@ -2,7 +2,7 @@
 ghost use Rattle.std.specs.Prelude.{◌≡◌, ◌*◌, ◌≤◌, ℕ, List, length, All, IfOk, IfSome, IfNone, MatchBool, pos, ◌<ℤ◌, ◌≤ℤ◌};
 ghost use Rattle.optra_dag.specs.Paths.{IsPath, IsFirstBest};
 ghost use Rattle.optra_prices.specs.Arcs.{IsArcValue};
-ghost use Rattle.optra_repair.specs.Parts.{IsWorthWalk, allows_at, weight_at};
+ghost use Rattle.optra_repair.specs.Parts.{IsWorthPath, allows_at, weight_at};
 
 use optra_dag::{
     Buffers, Dag, FAR, NARROW_ROOM, NarrowWeight, Weight, first_best_in, is_narrow, narrow_best_in,
@@ -10,8 +10,6 @@ use optra_dag::{
 use optra_graph::TimeGraph;
 use optra_network::NoMemory;
 use optra_prices::parts::ArcPart;
-use optra_walk::Walk;
-use std::alloc::Global;
 
 /// The parts of a graph's arcs, by number.
 #[derive(Clone, Copy)]
@@ -96,24 +94,20 @@ fn is_worth(sum: i128) -> bool
     sum > 0
 }
 
-/// The walk of the first best path of arcs that may be taken, where it is worth more than 0. `None` where no path is.
-pub(crate) fn worth_walk(
-    alloc: Global,
+/// Finds the first best path of arcs that may be taken, and tells whether it is worth more than 0; it is then in the
+/// buffers. Where it isn't, no path is.
+pub(crate) fn worth_path(
     buffers: &mut Buffers,
     graph: &TimeGraph,
     parts: &[ArcPart],
-) -> Result<Option<Walk>, NoMemory>
+) -> Result<bool, NoMemory>
     requires count { length parts.now ≡ length graph.now.dag.arcs }
     requires range { All (λ part. IsArcValue part.value) parts.now }
-    ensures { IfOk result (λ walk. IsWorthWalk graph.now parts.now walk) }
+    ensures { IfOk result (λ worth. IsWorthPath graph.now parts.now worth buffers.new) }
 {
     let weights = Parts { parts };
     let Some(sum) = best_in(buffers, graph.dag(), &weights)? else {
-        return Ok(None);
+        return Ok(false);
     };
-    if !is_worth(sum) {
-        return Ok(None);
-    }
-    let walk = graph.walk_of(alloc, buffers.path())?;
-    Ok(Some(walk))
+    Ok(is_worth(sum))
 }

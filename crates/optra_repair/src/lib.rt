@@ -2,7 +2,6 @@
 #![tactic(auto)]
 
 mod finding;
-mod keeping;
 mod placing;
 mod repairing;
 mod taking;

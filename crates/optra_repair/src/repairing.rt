@@ -18,7 +18,6 @@ use optra_node::Node;
 use optra_prices::keeping::{bring_to, keep_arcs};
 use optra_prices::parts::free_room;
 use optra_prices::{ArcTables, Dual};
-use optra_rows::Load;
 use optra_walk::{Choice, Instance, RowFamily, Walk};
 use std::alloc::Global;
 
@@ -44,20 +43,15 @@ fn place_all<F: RowFamily>(
     ensures { IfOk result (λ walks. GivesInTurn inst.entry.net.now (F.rows_of rows.now inst.entry.net.now) inst.entry.bids.now node.now order.now (empty_choice inst.entry.bids.now) walks.items) }
 {
     let bids = inst.bids;
-    let mut load = Load::new(alloc);
     let mut room = free_room(alloc, inst, rows, kept)?;
     let mut lent = Lent {
-        alloc,
         parts: Vec::new(alloc),
         buffers: Buffers::new(alloc),
     };
     let mut walks = no_walks(alloc, bids)?;
     for turn in 0..order.len() {
         let number = order[turn];
-        let bid = &bids[number as usize];
-        let given = place(
-            alloc, &mut lent, &mut load, &mut room, inst, rows, node, kept, number, bid,
-        )?;
+        let given = place(alloc, &mut lent, &mut room, inst, rows, node, kept, number)?;
         walks[number as usize] = given;
     }
     Ok(walks)

@@ -1,27 +1,27 @@
 //! The walk that is worth most to a bid: of all that are allowed, and of those of which each leg has room.
-ghost use Rattle.std.specs.Prelude.{◌≡◌, ◌<◌, ℕ, IfOk, IfSome, List, MatchBool, Some, length, pos, slice_get, ◌<ℤ◌, ◌≤ℤ◌};
+ghost use Rattle.std.specs.Prelude.{◌≡◌, ◌<◌, ℕ, [], true, IfOk, List, MatchBool, Some, length, pos, slice_get, ◌<ℤ◌, ◌≤ℤ◌};
 ghost use Rattle.optra_bid.specs.declared.bids.Bid.{Bid};
 ghost use Rattle.optra_walk.specs.Families.{Entry};
-ghost use Rattle.optra_walk.specs.Walks.{IsWalk};
+ghost use Rattle.optra_graph.specs.Timed.{Timed, IsRoute};
+ghost use Rattle.optra_prices.specs.Arcs.{path_reply};
 ghost use Rattle.optra_prices.specs.Keepings.{AreKeptAt};
-ghost use Rattle.optra_prices.specs.Parts.{IsRoomIn};
+ghost use Rattle.optra_prices.specs.Parts.{IsRoomIn, IsTableGraph};
+ghost use Rattle.optra_repair.specs.Parts.{walk_found};
 ghost use Rattle.optra_repair.specs.Placings.{AreTotals, AreWithin, IsBestAllowed, IsWorthiest};
 
-use crate::finding::worth_walk;
+use crate::finding::worth_path;
 use optra_dag::Buffers;
 use optra_network::NoMemory;
 use optra_node::{Node, tests_tell_allowed};
 use optra_prices::ArcTables;
 use optra_prices::parts::{ArcPart, graph_of, tell_parts};
 use optra_prices::rooms::Room;
-use optra_prices::zero::{zero_reply, zero_term};
-use optra_walk::{Instance, RowFamily, Walk};
-use std::alloc::Global;
+use optra_prices::zero::{zero_path, zero_term};
+use optra_walk::{Instance, RowFamily};
 
 /// What one search lends to the next: the parts of the arcs, and the arrays of the search.
 #[derive(Drop)]
 pub(crate) struct Lent {
-    pub(crate) alloc: Global,
     pub(crate) parts: Vec<ArcPart>,
     pub(crate) buffers: Buffers,
 }
@@ -33,27 +33,28 @@ fn gains(term: i128) -> bool
     term > 0
 }
 
-/// The first of the bid's allowed walks of greatest value, where it is worth more than 0. No graph is searched.
-pub(crate) fn best_allowed<F: RowFamily>(
-    alloc: Global,
+/// The path of the first of the bid's allowed walks of greatest value, where it is worth more than 0, and else no arc. No
+/// graph is searched.
+pub(crate) fn best_allowed<'a, F: RowFamily>(
     inst: Instance<'_>,
     rows: &F,
     node: &Node,
-    kept: &ArcTables<'_, F::Row>,
+    kept: &'a ArcTables<'_, F::Row>,
     number: u32,
-) -> Result<Option<Walk>, NoMemory>
+) -> &'a [u32]
     requires kept { AreKeptAt F.Row.cmp inst.net.now (F.rows_of rows.now inst.net.now) (F.rows_used rows.now inst.net.now) inst.bids.now node.now kept.now }
     requires number { number < length inst.bids.now }
-    ensures { IfOk result (λ walk. (bid : Bid) → slice_get inst.entry.bids.now number ≡ Some bid → IsBestAllowed inst.entry.net.now (F.rows_of rows.now inst.entry.net.now) inst.entry.bids.now node.now number bid walk) }
+    ensures best { (bid : Bid) (t : Timed) → slice_get inst.entry.bids.now number ≡ Some bid → IsTableGraph kept.now number t → IsBestAllowed inst.entry.net.now (F.rows_of rows.now inst.entry.net.now) inst.entry.bids.now node.now number bid (path_reply t result.now) }
+    ensures route { (t : Timed) → IsTableGraph kept.now number t → (result.now ≡ [] → ⊥) → IsRoute t result.now }
 {
     if !gains(zero_term(inst, rows, node, kept, number)) {
-        return Ok(None);
+        return &[];
     }
-    zero_reply(alloc, inst, rows, node, kept, number)
+    zero_path(inst, rows, node, kept, number)
 }
 
-/// The first of the bid's walks of greatest value, of those allowed of which each leg has room, where it is worth more
-/// than 0. The bid's graph is searched.
+/// Finds the path of the first of the bid's walks of greatest value, of those allowed of which each leg has room, and
+/// tells whether it is worth more than 0; it is then in the buffers. The bid's graph is searched.
 pub(crate) fn worthiest<F: RowFamily>(
     lent: &mut Lent,
     room: &Room,
@@ -62,16 +63,16 @@ pub(crate) fn worthiest<F: RowFamily>(
     node: &Node,
     kept: &ArcTables<'_, F::Row>,
     number: u32,
-) -> Result<Option<Walk>, NoMemory>
+) -> Result<bool, NoMemory>
     requires kept { AreKeptAt F.Row.cmp inst.net.now (F.rows_of rows.now inst.net.now) (F.rows_used rows.now inst.net.now) inst.bids.now node.now kept.now }
     requires number { number < length inst.bids.now }
     requires room { (total : F.Row → ℕ) × IsRoomIn (F.rows_of rows.now inst.net.now) kept.now total room.now }
-    ensures worthiest { IfOk result (λ walk. (bid : Bid) (total : F.Row → ℕ) (placed : List Entry) → slice_get inst.entry.bids.now number ≡ Some bid → IsRoomIn (F.rows_of rows.now inst.entry.net.now) kept.now total room.now → AreWithin (F.rows_of rows.now inst.entry.net.now) total → AreTotals (F.rows_of rows.now inst.entry.net.now) total placed → IsWorthiest inst.entry.net.now (F.rows_of rows.now inst.entry.net.now) inst.entry.bids.now node.now placed number bid walk) }
-    ensures walk { IfOk result (λ walk. (bid : Bid) → slice_get inst.entry.bids.now number ≡ Some bid → IfSome walk (IsWalk inst.entry.net.now bid.path)) }
+    ensures worthiest { IfOk result (λ found. (bid : Bid) (t : Timed) (total : F.Row → ℕ) (placed : List Entry) → slice_get inst.entry.bids.now number ≡ Some bid → IsTableGraph kept.now number t → IsRoomIn (F.rows_of rows.now inst.entry.net.now) kept.now total room.now → AreWithin (F.rows_of rows.now inst.entry.net.now) total → AreTotals (F.rows_of rows.now inst.entry.net.now) total placed → IsWorthiest inst.entry.net.now (F.rows_of rows.now inst.entry.net.now) inst.entry.bids.now node.now placed number bid (walk_found t found lent.new.buffers)) }
+    ensures route { IfOk result (λ found. (t : Timed) → found ≡ true → IsTableGraph kept.now number t → IsRoute t lent.new.buffers) }
 {
     let _ = inst.net.track_count();
     tests_tell_allowed(inst, rows);
     let graph = graph_of(inst, rows, kept, number);
     tell_parts(&mut lent.parts, inst, rows, node, kept, room, number)?;
-    worth_walk(lent.alloc, &mut lent.buffers, graph, &lent.parts)
+    worth_path(&mut lent.buffers, graph, &lent.parts)
 }

@@ -49,7 +49,6 @@ returns-clause-course g c =
       is = record {
         numbering = more.numbering;
         rows = more.rows;
-        order = c.in_ok-kept.ensures;
         capacities = subst (λ (rs : List g.row.F-Row.Denot). HaveCapacities rows rs c.widen.new.levels.capacities.items) c.deref.ensures.value wide.capacities;
         price_count = wide.count ∙ ap length c.deref.ensures.value;
         levels = wide.levels;
@@ -62,7 +61,7 @@ returns-clause-course g c =
         decided = record {
           decisions_are = is.decided.decisions_are;
           formed = is.decided.formed;
-          room_is = subst (λ (ds : List Decision). IsRoom rows numbering.rows.items (yes_load rows c.args.inst.bids.now ds) c.in_ok-kept-2.field-0) (c.deref-2.ensures.value ∙ is.decided.decisions_are) c.in_ok-kept-2.ensures;
+          room_is = subst (λ (ds : List Decision). IsRoom rows numbering.rows.items (yes_load rows c.args.inst.bids.now ds) c.in_ok-kept.field-0) (c.deref-2.ensures.value ∙ is.decided.decisions_are) c.in_ok-kept.ensures;
         };
       };
       still = course.still;

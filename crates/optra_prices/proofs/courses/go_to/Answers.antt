@@ -1,4 +1,4 @@
-use Rattle.std.proofs.Common.{◌≡◌, ℕ, List, sym, ap, ◌∙◌, subst, arith}
+use Rattle.std.proofs.Common.{◌≡◌, sym, ap, ◌∙◌, subst, arith}
 use Rattle.std.specs.Prelude.{All, ℤ}
 use Rattle.std.proofs.lemmas.Int.{ints}
 use Rattle.std.proofs.lemmas.Result.{on_ok_weaker}
@@ -41,8 +41,8 @@ returns-clause-prices g c =
     let agrees : Agrees cmp kept.numbering.rows.items prices start =
     subst (λ numbering. Agrees cmp numbering.rows.items prices start) keeps.numbering (subst (λ (xs : PriceList g.row.F-Row.Denot). Agrees cmp c.leave.new.kept.numbering.rows.items prices xs) c.entries.ensures.value put.agrees)
     in
-    let one : listed c.leave.new.kept.order.items prices ≡ start =
-    ap (λ order. listed order.items prices) keeps.order ∙ ap (λ (order : List (g.row.F-Row.Denot × ℕ)). listed order prices) is.order
-    ∙ listed_one cmp g.met.F.Row.Ord.total g.met.F.RowFamily.tells_apart rows kept.numbering.numbers kept.numbering.rows.items is.numbering is.rows c.len-count.ensures.ordered prices put.levels.range start c.requires.start agrees c.requires.numbered
+    let one : listed c.leave.new.kept.numbering.order.items prices ≡ start =
+    ap (λ numbering. listed numbering.order.items prices) keeps.numbering
+    ∙ listed_one cmp g.met.F.Row.Ord.total g.met.F.RowFamily.tells_apart rows kept.numbering.order.items kept.numbering.rows.items is.numbering is.rows is.numbering.ordered prices put.levels.range start c.requires.start agrees c.requires.numbered
     in
     on_ok_weaker c.arrive.result (λ e. e ∙ one) c.arrive.ensures.prices

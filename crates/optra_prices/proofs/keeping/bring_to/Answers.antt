@@ -151,7 +151,6 @@ returns g c =
       is = record {
         numbering = is.numbering;
         rows = is.rows;
-        order = is.order;
         capacities = is.capacities;
         price_count = is.price_count;
         levels = is.levels;

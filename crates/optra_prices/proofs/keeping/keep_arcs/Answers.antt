@@ -37,25 +37,25 @@ pub allow_told-requires-clause-room : goal.allow_told-requires-clause-room
 allow_told-requires-clause-room g c =
     let rows = g.F.RowFamily.rows_of c.args.rows.now c.args.inst.net.now in
     let node_is = ap (λ (x : Summed g.row.F.Denot). x.node) c.in_ok-summary.ensures in
-    subst (λ (ds : List Decision). IsRoom rows c.make_tables.new.making.numbering.rows.items (yes_load rows c.args.inst.bids.now ds) c.in_ok-room.room) (sym (node_is ∙ c.root-node.ensures.value)) c.in_ok-room.ensures
+    subst (λ (ds : List Decision). IsRoom rows c.in_ok-made.made.numbering.rows.items (yes_load rows c.args.inst.bids.now ds) c.in_ok-room.room) (sym (node_is ∙ c.root-node.ensures.value)) c.in_ok-room.ensures
 
 pub allow_told-requires-clause-others : goal.allow_told-requires-clause-others
 allow_told-requires-clause-others g c =
     let net = c.args.inst.net.now in
     let f = c.args.rows.now in
-    let making = c.make_tables.new.making in
+    let making = c.in_ok-made.made in
     let s : Setting g.row.F-Row.Denot = setting net (g.F.RowFamily.rows_of f net) (g.F.RowFamily.rows_used f net) c.args.inst.bids.now c.in_ok-summary.summary.node in
-    all_told s making.numbering.rows.items making.groups c.in_ok-told.told.items c.in_ok-tables.tables.items (length c.args.inst.bids.now) (c.in_ok-told.ensures.items_if_clones_equal (λ y e. e))
+    all_told s making.numbering.rows.items making.groups c.in_ok-told.told.items making.tables.items (length c.args.inst.bids.now) (c.in_ok-told.ensures.items_if_clones_equal (λ y e. e))
 
 pub allow_told-requires-clause-told : goal.allow_told-requires-clause-told
-allow_told-requires-clause-told g c = ap length (c.in_ok-told.ensures.items_if_clones_equal (λ y e. e)) ∙ length-replicate (length c.args.inst.bids.now) true ∙ sym c.in_ok-tables.ensures.tables.count_is
+allow_told-requires-clause-told g c = ap length (c.in_ok-told.ensures.items_if_clones_equal (λ y e. e)) ∙ length-replicate (length c.args.inst.bids.now) true ∙ sym c.in_ok-made.ensures.tables.count_is
 
 pub first_standings-requires-clause-sound : goal.first_standings-requires-clause-sound
 first_standings-requires-clause-sound g c =
     let net = c.args.inst.net.now in
     let f = c.args.rows.now in
     let s : Setting g.row.F-Row.Denot = setting net (g.F.RowFamily.rows_of f net) (g.F.RowFamily.rows_used f net) c.args.inst.bids.now c.root-node.result in
-    let making = c.make_tables.new.making in
+    let making = c.in_ok-made.made in
     let node_is = ap (λ (x : Summed g.row.F.Denot). x.node) c.in_ok-summary.ensures in
     subst (All IsSound) (sym c.deref-3.ensures.value) (tables_sound s making.numbering.rows.items making.groups c.allow_told.new.tables.items (subst (λ (ds : List Decision). AreTables (setting net (g.F.RowFamily.rows_of f net) (g.F.RowFamily.rows_used f net) c.args.inst.bids.now ds) (length c.args.inst.bids.now) making.numbering.rows.items making.groups c.allow_told.new.tables.items) node_is c.in_ok-allow_told.ensures.tables))
 
@@ -65,9 +65,9 @@ returns g c =
     let f = c.args.rows.now in
     let rows = g.F.RowFamily.rows_of f net in
     let s : Setting g.row.F-Row.Denot = setting net rows (g.F.RowFamily.rows_used f net) c.args.inst.bids.now c.root-node.result in
-    let making = c.make_tables.new.making in
+    let making = c.in_ok-made.made in
     let numbered = making.numbering.rows.items in
-    let is = c.in_ok-tables.ensures.making in
+    let is = c.in_ok-made.ensures in
     let tables = c.allow_told.new.tables.items in
     let node_is = ap (λ (x : Summed g.row.F.Denot). x.node) c.in_ok-summary.ensures in
     let tables_at : AreTables s (length s.bids) numbered making.groups tables =
@@ -93,7 +93,6 @@ returns g c =
         is = record {
           numbering = is.numbering;
           rows = is.rows_are;
-          order = c.in_ok-order.ensures;
           capacities = subst (λ (rs : List g.row.F-Row.Denot). HaveCapacities rows rs levels.capacities.items) c.deref.ensures.value wide.capacities;
           price_count = wide.count ∙ ap length c.deref.ensures.value;
           levels = wide.levels;

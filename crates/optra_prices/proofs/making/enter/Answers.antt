@@ -11,10 +11,9 @@ returns-clause-making g c =
     let net = c.args.net.now in
     let f = c.args.rows.now in
     let making = c.args.making.now in
-    let is : (head : Head) → Type 0 = IsHead net (g.F.RowFamily.rows_of f net) (g.F.RowFamily.rows_used f net) making.numbering making.groups in
+    let is : (head : Head) → Type 0 = IsHead net (g.F.RowFamily.rows_of f net) (g.F.RowFamily.rows_used f net) making.named.items making.groups in
     let made = c.requires.making in
     record {
-      numbering = made.numbering;
       rows_are = made.rows_are;
       groups_are = made.groups_are;
       heads_are = subst (All is) (sym c.in_ok-push.ensures.items) (All-push is making.heads.items c.args.head made.heads_are c.requires.head);

@@ -10,8 +10,7 @@ enter-requires-clause-making g c =
     let made = c.guessed_group.ensures.making in
     let found = c.in_ok-group.ensures in
     record {
-      numbering = found.numbering;
       rows_are = found.rows_are;
       groups_are = found.groups_are;
-      heads_are = heads_kept net (g.F.RowFamily.rows_of f net) (g.F.RowFamily.rows_used f net) making.numbering c.new_group.new.numbering making.groups c.new_group.new.groups making.heads.items found.extends found.keeps made.heads_are;
+      heads_are = heads_kept net (g.F.RowFamily.rows_of f net) (g.F.RowFamily.rows_used f net) making.named.items c.new_group.new.named.items making.groups c.new_group.new.groups making.heads.items found.extends found.keeps made.heads_are;
     }

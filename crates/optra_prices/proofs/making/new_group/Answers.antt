@@ -13,16 +13,15 @@ returns g c =
     let is = c.in_ok-push_touches.ensures in
     let adds = is.touches in
     let starts = c.args.groups.now.starts.items in
-    let small : uses_in_all adds.more ≤ 8192 = let t = touches_use c.push_touches.new.numbering.rows.items uses adds.more used adds.are in let l = lists.total in omega arith in
+    let small : uses_in_all adds.more ≤ 8192 = let t = touches_use c.push_touches.new.named.items uses adds.more used adds.are in let l = lists.total in omega arith in
     let len : c.len-2.result ≡ length c.push_touches.new.touches.items = grind (arith, c.len-2.ensures) in
     let place : c.in-Ok.number ≡ length starts - 1 = grind (arith, c.in-Ok.ensures.1, c.len.ensures) in
     let added = group_added starts c.args.groups.now.touches.items adds.more c.push.new.self.items c.push_touches.new.touches.items c.len-2.result c.in-Ok.number c.requires.groups small adds.is c.in_ok-push.ensures.items len place in
     record {
-      numbering = is.numbering;
       rows_are = is.rows;
       extends = is.extends;
       groups_are = added.groups;
       keeps = added.keeps;
       within = added.within;
-      touches = subst (λ touches. AreTouches c.push_touches.new.numbering.rows.items uses touches used) (sym added.is) adds.are;
+      touches = subst (λ touches. AreTouches c.push_touches.new.named.items uses touches used) (sym added.is) adds.are;
     }

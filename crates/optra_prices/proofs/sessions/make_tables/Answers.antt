@@ -29,11 +29,11 @@ loop-number-preserved g c =
     let at : slice_get bids n ≡ Some bid = slice_get_read bids (length bids) n bid refl l c.index-bids-number.is in
     let old = c.loop-number.making in
     let new = c.bid_table.new.making in
-    let numbered = new.numbering.rows.items in
+    let numbered = new.named.items in
     let is = c.in_ok-table.ensures in
     record {
       making = is.making;
       tables = subst (HoldArcs net rows used bids (n + 1) numbered new.groups) (sym c.in_ok-push.ensures.items)
-          (arcs_push net rows used bids n old.numbering.rows.items numbered old.groups new.groups c.loop-number.tables.items bid c.in_ok-table.table c.loop-number.invariant.tables is.grows.extends is.grows.keeps is.making.groups_are at
+          (arcs_push net rows used bids n old.named.items numbered old.groups new.groups c.loop-number.tables.items bid c.in_ok-table.table c.loop-number.invariant.tables is.grows.extends is.grows.keeps is.making.groups_are at
           (record { arcs_are = is.table; covers = is.covers }));
     }

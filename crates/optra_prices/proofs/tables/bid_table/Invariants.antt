@@ -6,9 +6,9 @@ use Rattle.optra_prices.proofs.tables.bid_table.Given as goal
 
 abbrev pub invariant-loop-k : goal.invariant-loop-k
 invariant-loop-k g l = record {
-  making : IsMaking g.F.Row.Ord.cmp l.net (g.F.RowFamily.rows_of l.rows l.net) (g.F.RowFamily.rows_used l.rows l.net) l.making;
+  making : IsMaking l.net (g.F.RowFamily.rows_of l.rows l.net) (g.F.RowFamily.rows_used l.rows l.net) l.making;
   grows : Grows l.initial.making l.making;
   count : length l.arcs.items ≡ l.k;
-  terms : AreTerms l.net (g.F.RowFamily.rows_of l.rows l.net) (g.F.RowFamily.rows_used l.rows l.net) l.bid l.graph l.making.numbering.rows.items l.making.groups.starts.items l.making.groups.touches.items l.arcs.items;
+  terms : AreTerms l.net (g.F.RowFamily.rows_of l.rows l.net) (g.F.RowFamily.rows_used l.rows l.net) l.bid l.graph l.making.named.items l.making.groups.starts.items l.making.groups.touches.items l.arcs.items;
   covers : Covers l.most l.arcs.items;
 }

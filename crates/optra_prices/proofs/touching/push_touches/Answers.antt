@@ -1,11 +1,10 @@
-use Rattle.std.proofs.Common.{◌≡◌, ◌≤◌, true, length, sym, ◌∙◌, arith}
+use Rattle.std.proofs.Common.{◌≡◌, ◌≤◌, true, length, sym, ◌∙◌, arith, inr}
 use Rattle.optra_node.proofs.LeastLemmas.{at_contains, none_past}
 use Rattle.optra_prices.proofs.NumberLemmas.{grows_extends, extends_more, adds_touch, all_touches, all_grows, adds_none}
 use Rattle.optra_prices.proofs.touching.push_touches.Goals as goal
 
 pub loop-k-init : goal.loop-k-init
 loop-k-init g c = record {
-  numbering = c.requires.numbering;
   rows = c.requires.rows;
   extends = λ n row at. at;
   touches = adds_none _ _ (g.F.RowFamily.rows_used c.args.rows.now c.args.net.now c.args.kind c.args.leg) _;
@@ -18,17 +17,16 @@ loop-k-preserved g c =
     let rows = g.F.RowFamily.rows_of f net in
     let lists = g.met.F.RowFamily.lists_rows f net c.args.kind c.args.leg c.track_count.ensures.proper c.requires.usable in
     let at = sym c.touched.ensures ∙ c.in-Some.is in
-    let number = c.in_ok-row_number.ensures in
-    let old = c.loop-k.numbering.rows.items in
-    let new = c.number.new.numbering.rows.items in
-    let grown = grows_extends old new c.in-Some.row number.grows in
+    let number = c.in_ok-place.ensures in
+    let old = c.loop-k.named.items in
+    let new = c.name_row.new.named.items in
+    let grown = grows_extends old new c.in-Some.row (inr number.more) in
     record {
-      numbering = number.numbering;
-      rows = all_grows (λ row. rows.is_row row ≡ true) old new c.in-Some.row number.grows c.loop-k.invariant.rows
+      rows = all_grows (λ row. rows.is_row row ≡ true) old new c.in-Some.row (inr number.more) c.loop-k.invariant.rows
           (lists.are_rows c.in-Some.row ((lists.used c.in-Some.row).1 (at_contains (g.F.RowFamily.rows_used f net c.args.kind c.args.leg) c.loop-k.k c.in-Some.row at)));
       extends = extends_more _ old new c.loop-k.invariant.extends grown;
-      touches = adds_touch old new (rows.uses c.args.kind c.args.leg) (g.F.RowFamily.rows_used f net c.args.kind c.args.leg) c.loop-k.k c.in_ok-row_number.row_number c.leg_use-uses.result c.in-Some.row _ _ _
-          c.loop-k.invariant.touches grown at number.number c.leg_use-uses.ensures c.in_ok-push.ensures.items;
+      touches = adds_touch old new (rows.uses c.args.kind c.args.leg) (g.F.RowFamily.rows_used f net c.args.kind c.args.leg) c.loop-k.k c.in_ok-place.place c.leg_use-uses.result c.in-Some.row _ _ _
+          c.loop-k.invariant.touches grown at number.place c.leg_use-uses.ensures c.in_ok-push.ensures.items;
     }
 
 pub returns-in_default : goal.returns-in_default
@@ -38,7 +36,6 @@ returns-in_default g c =
     let used = g.F.RowFamily.rows_used f net c.args.kind c.args.leg in
     let past : length used ≤ c.loop-k.k = none_past used c.loop-k.k (sym c.touched.ensures ∙ c.in_default.is) in
     record {
-      numbering = c.loop-k.invariant.numbering;
       rows = c.loop-k.invariant.rows;
       extends = c.loop-k.invariant.extends;
       touches = all_touches _ _ used c.loop-k.k _ _ c.loop-k.invariant.touches past;
@@ -52,7 +49,6 @@ returns g c =
     let lists = g.met.F.RowFamily.lists_rows f net c.args.kind c.args.leg c.track_count.ensures.proper c.requires.usable in
     let past : length used ≤ c.loop-k.k = let few = lists.few in omega arith in
     record {
-      numbering = c.loop-k.invariant.numbering;
       rows = c.loop-k.invariant.rows;
       extends = c.loop-k.invariant.extends;
       touches = all_touches _ _ used c.loop-k.k _ _ c.loop-k.invariant.touches past;

@@ -1,96 +1,90 @@
 -- The best of the allowed walks is the first worthiest where each of its legs has room, and else the search finds it.
-use Rattle.std.proofs.Common.{refl, sym, subst}
-use Rattle.std.specs.Prelude.{All}
-use Rattle.std.proofs.lemmas.Option.{slice_get_within}
+use Rattle.std.proofs.Common.{◌≡◌, ℕ, ◌<◌, List, Option, None, Some, length, refl, sym, ap, ◌∙◌, subst, arith}
 use Rattle.std.proofs.lemmas.Result.{IfOk-weaker}
-use Rattle.optra_network.specs.declared.TypeId.{TypeId}
-use Rattle.optra_walk.specs.Families.{IsUsable}
-use Rattle.optra_walk.proofs.UsableLemmas.{walk_usable}
-use Rattle.optra_rows.specs.Loads.{HasRoom, total_of}
-use Rattle.optra_repair.specs.Placings.{IsPutWhole, AddsWalk}
-use Rattle.optra_repair.proofs.GivenLemmas.{none_allowed, none_placeable, best_worthiest, put_given, put_adds}
+use Rattle.optra_walk.specs.declared.Leg.{Leg}
+use Rattle.optra_graph.specs.Timed.{IsRoute, walk_of}
+use Rattle.optra_prices.specs.Arcs.{path_reply}
+use Rattle.optra_prices.specs.Parts.{IsTableGraph}
+use Rattle.optra_prices.proofs.ListLemmas.{some_at}
+use Rattle.optra_repair.specs.Placings.{IsBestAllowed, IsWorthiest}
+use Rattle.optra_repair.proofs.GivenLemmas.{none_allowed, none_placeable, best_worthiest, put_given}
+use Rattle.optra_repair.proofs.WorthLemmas.{reply_some, found_none, found_some}
 use Rattle.optra_repair.proofs.placing.place.Goals as goal
 
-pub returns-in_default-clause-given : goal.returns-in_default-clause-given
-returns-in_default-clause-given g c placed totals =
+pub returns-then-is_no_path-clause-given : goal.returns-then-is_no_path-clause-given
+returns-then-is_no_path-clause-given g c bid total placed at within room totals =
     let net = c.args.inst.net.now in
-    let best = rw c.in_default.is at c.in_ok-best.ensures in
-    none_allowed net (g.F.RowFamily.rows_of c.args.rows.now net) c.args.inst.bids.now c.args.node.now c.args.number c.args.bid.now placed (best c.args.bid.now c.requires.bid)
+    let rows = g.F.RowFamily.rows_of c.args.rows.now net in
+    let bids = c.args.inst.bids.now in
+    let n = c.args.number in
+    let tables = c.args.kept.now.tables.items in
+    let count = c.requires.kept.is.tables.count_is in
+    let l : n < length tables = omega (arith, count, c.requires.number) in
+    let table = some_at tables n l in
+    let t = table.0.graph.now in
+    let none = c.is_no_path.ensures.none c.if-is_no_path.true in
+    let best = subst (λ (path : List ℕ). IsBestAllowed net rows bids c.args.node.now n bid (path_reply t path)) none (c.best_allowed-best.ensures.best bid t at (table.0, table.1, refl)) in
+    none_allowed net rows bids c.args.node.now n bid placed best
 
-pub each_fits-requires : goal.each_fits-requires
-each_fits-requires g c =
-    let net = c.args.inst.net.now in
-    let bid = c.args.bid.now in
-    let best = rw c.in-Some.is at c.in_ok-best.ensures in
-    let usable = walk_usable net c.track_count.ensures.proper bid c.in-Some.best (best bid c.requires.bid).0.allowed.walk in
-    subst (λ (kind : TypeId). All (IsUsable net kind) c.legs_of.result.now) (sym c.kind_of-kind.ensures) (subst (All (IsUsable net bid.path.kind)) (sym c.legs_of.ensures) usable)
-
-pub put-requires-clause-usable : goal.put-requires-clause-usable
-put-requires-clause-usable g c =
-    let net = c.args.inst.net.now in
-    let bid = c.args.bid.now in
-    let best = rw c.in-Some.is at c.in_ok-best.ensures in
-    let usable = walk_usable net c.track_count.ensures.proper bid c.in-Some.best (best bid c.requires.bid).0.allowed.walk in
-    subst (λ (kind : TypeId). All (IsUsable net kind) c.in-Some.best) (sym c.kind_of-kind.ensures) usable
-
-pub returns-then-each_fits-clause-given : goal.returns-then-each_fits-clause-given
-returns-then-each_fits-clause-given g c =
+pub returns-then-has_room_for_path-clause-given : goal.returns-then-has_room_for_path-clause-given
+returns-then-has_room_for_path-clause-given g c =
     let net = c.args.inst.net.now in
     let f = c.args.rows.now in
     let rows = g.F.RowFamily.rows_of f net in
     let bids = c.args.inst.bids.now in
     let node = c.args.node.now in
     let n = c.args.number in
-    let bid = c.args.bid.now in
     let proper = c.track_count.ensures.proper in
-    let legs = c.in-Some.best in
-    let total = total_of g.F.Row.Ord.cmp c.args.load.now.totals in
-    let after = total_of g.F.Row.Ord.cmp c.put.new.load.totals in
-    let best = rw c.in-Some.is at c.in_ok-best.ensures in
-    let room : All (HasRoom rows total bid.path.kind) legs = subst (λ (kind : TypeId). All (HasRoom rows total kind) legs) c.kind_of-kind.ensures (subst (All (HasRoom rows total c.kind_of-kind.result)) c.legs_of.ensures (c.if-each_fits.ensures.0 refl)) in
+    let tables = c.args.kept.now.tables.items in
+    let count = c.requires.kept.is.tables.count_is in
+    let l : n < length tables = omega (arith, count, c.requires.number) in
+    let table = some_at tables n l in
+    let t = table.0.graph.now in
+    let there : IsTableGraph c.args.kept.now n t = (table.0, table.1, refl) in
+    let path = c.best_allowed-best.result.now in
     IfOk-weaker c.put.result _ _
-    (λ given put placed totals.
-    let worthiest = best_worthiest net rows bids node n bid placed total c.requires.within totals proper (λ leg usable. (g.met.F.RowFamily.lists_rows f net bid.path.kind leg proper usable).are_rows) legs (best bid c.requires.bid) room in
-    put_given net rows bids node n bid placed total c.requires.within totals after legs given worthiest (subst (λ (kind : TypeId). IsPutWhole rows kind legs given total after) c.kind_of-kind.ensures put))
+    (λ given put bid total placed at within room totals.
+    let best = subst (λ (walk : Option (List Leg)). IsBestAllowed net rows bids node n bid walk) (reply_some t path (c.is_no_path.ensures.some c.if-is_no_path.false)) (c.best_allowed-best.ensures.best bid t at there) in
+    let each = (c.has_room_for_path.ensures bid t total at there room).0 c.if-has_room_for_path.true in
+    let worthiest = best_worthiest net rows bids node n bid placed total within totals proper (λ leg usable. (g.met.F.RowFamily.lists_rows f net bid.path.kind leg proper usable).are_rows) (walk_of t path) best each in
+    put_given net rows bids node n bid placed total within totals _ (walk_of t path) given worthiest (put bid t total at there within room))
     c.put.ensures.put
 
-pub worthiest-requires-clause-number : goal.worthiest-requires-clause-number
-worthiest-requires-clause-number g c = slice_get_within c.args.inst.bids.now c.args.number c.args.bid.now c.requires.bid
-
-pub returns-in_default-2-clause-given : goal.returns-in_default-2-clause-given
-returns-in_default-2-clause-given g c placed totals =
+pub returns-then-not-branch-clause-given : goal.returns-then-not-branch-clause-given
+returns-then-not-branch-clause-given g c bid total placed at within room totals =
     let net = c.args.inst.net.now in
-    let total = total_of g.F.Row.Ord.cmp c.args.load.now.totals in
-    let worthiest = rw c.in_default-2.is at c.in_ok-walk.ensures.worthiest in
-    none_placeable net (g.F.RowFamily.rows_of c.args.rows.now net) c.args.inst.bids.now c.args.node.now c.args.number c.args.bid.now placed (worthiest c.args.bid.now total placed c.requires.bid c.requires.room c.requires.within totals)
+    let rows = g.F.RowFamily.rows_of c.args.rows.now net in
+    let bids = c.args.inst.bids.now in
+    let n = c.args.number in
+    let tables = c.args.kept.now.tables.items in
+    let count = c.requires.kept.is.tables.count_is in
+    let l : n < length tables = omega (arith, count, c.requires.number) in
+    let table = some_at tables n l in
+    let t = table.0.graph.now in
+    let none = subst (λ (walk : Option (List Leg)). IsWorthiest net rows bids c.args.node.now placed n bid walk) (found_none t _ c.in_ok-worthiest.field-0 c.if-not-branch.true)
+    (c.in_ok-worthiest.ensures.worthiest bid t total placed at (table.0, table.1, refl) room within totals) in
+    none_placeable net rows bids c.args.node.now n bid placed none
 
-pub put-requires-2-clause-usable : goal.put-requires-2-clause-usable
-put-requires-2-clause-usable g c =
-    let net = c.args.inst.net.now in
-    let bid = c.args.bid.now in
-    let is = rw c.in-Some-2.is at c.in_ok-walk.ensures.walk in
-    subst (λ (kind : TypeId). All (IsUsable net kind) c.in-Some-2.walk) (sym c.kind_of-kind.ensures) (walk_usable net c.track_count.ensures.proper bid c.in-Some-2.walk (is bid c.requires.bid))
+pub put-requires-2-clause-route : goal.put-requires-2-clause-route
+put-requires-2-clause-route g c t there = subst (IsRoute t) (sym c.path.ensures) (c.in_ok-worthiest.ensures.route t c.if-not-branch.false there)
 
 pub returns-clause-given : goal.returns-clause-given
 returns-clause-given g c =
     let net = c.args.inst.net.now in
     let rows = g.F.RowFamily.rows_of c.args.rows.now net in
-    let bid = c.args.bid.now in
-    let legs = c.in-Some-2.walk in
-    let total = total_of g.F.Row.Ord.cmp c.args.load.now.totals in
-    let after = total_of g.F.Row.Ord.cmp c.put-2.new.load.totals in
-    let worthiest = rw c.in-Some-2.is at c.in_ok-walk.ensures.worthiest in
+    let bids = c.args.inst.bids.now in
+    let node = c.args.node.now in
+    let n = c.args.number in
+    let tables = c.args.kept.now.tables.items in
+    let count = c.requires.kept.is.tables.count_is in
+    let l : n < length tables = omega (arith, count, c.requires.number) in
+    let table = some_at tables n l in
+    let t = table.0.graph.now in
+    let there : IsTableGraph c.args.kept.now n t = (table.0, table.1, refl) in
+    let path = c.path.result.now in
     IfOk-weaker c.put-2.result _ _
-    (λ given put placed totals.
-    put_given net rows c.args.inst.bids.now c.args.node.now c.args.number bid placed total c.requires.within totals after legs given (worthiest bid total placed c.requires.bid c.requires.room c.requires.within totals)
-    (subst (λ (kind : TypeId). IsPutWhole rows kind legs given total after) c.kind_of-kind.ensures put))
-    c.put-2.ensures.put
-
-pub returns-clause-adds : goal.returns-clause-adds
-returns-clause-adds g c =
-    let rows = g.F.RowFamily.rows_of c.args.rows.now c.args.inst.net.now in
-    let total = total_of g.F.Row.Ord.cmp c.args.load.now.totals in
-    let after = total_of g.F.Row.Ord.cmp c.put-2.new.load.totals in
-    IfOk-weaker c.put-2.result _ _
-    (λ given put. subst (λ (kind : TypeId). AddsWalk rows kind given total after) c.kind_of-kind.ensures (put_adds rows c.kind_of-kind.result total after c.in-Some-2.walk given put))
+    (λ given put bid total placed at within room totals.
+    let found = c.in_ok-worthiest.ensures.worthiest bid t total placed at there room within totals in
+    let worthiest = subst (λ (walk : Option (List Leg)). IsWorthiest net rows bids node placed n bid walk) (found_some t _ c.in_ok-worthiest.field-0 c.if-not-branch.false ∙ ap (λ (arcs : List ℕ). Some (walk_of t arcs)) (sym c.path.ensures)) found in
+    put_given net rows bids node n bid placed total within totals _ (walk_of t path) given worthiest (put bid t total at there within room))
     c.put-2.ensures.put
