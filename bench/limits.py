@@ -10,6 +10,8 @@ full-wide       300 stations, 1,000 tracks, 16 types, all running times and head
 full-one        the same network with one such bid
 full-tenth      the same network with 100 bids of 8 stops and waits of 30 minutes, each within some 200 minutes of the two days
 full-narrow     the same with 1,000 such bids
+crossed         the same network in version 2 without bids, every entry at the greatest reach, 4,000, and all stations with a limit
+crossed-most    the same with as many crossings, of a minute each way, as a table of 268,435,456 bytes holds
 certificate     a certificate of splits, 268,435,456 bytes long, whose tree never ends
 certificate+1   the same and a byte more
 one-record      a certificate of that length whose second record is nearly all of it
@@ -59,6 +61,50 @@ def wide(_number):
 def narrow(number):
     start = number * 97 % 2600
     return f"{start},{start + 5},{start + 10}", f"{start + 90},{start + 150},{start + 200}", f"{start},{start + 200}"
+
+
+def as_crossed(folder, rows):
+    """The largest network in version 2, with these crossings, and no bids."""
+    tables.network(f"{folder}/net", 300, 1000, 16)
+    demo.write(f"{folder}/net/stations.csv", ["station,halt_max"] + [f"S{station},1000" for station in range(300)])
+    with open(f"{folder}/net/crossings.csv", "w") as file:
+        file.write("first_track,second_track,first,second,minutes\n")
+        file.writelines(rows)
+    demo.write(f"{folder}/bids.csv", [demo.BIDS])
+    demo.write(f"{folder}/stops.csv", [demo.STOPS])
+
+
+def both_ways(one, other, first, second, there, back):
+    """A crossing in both directions."""
+    yield f"T{one},T{other},c{first},c{second},{there}\n"
+    yield f"T{other},T{one},c{second},c{first},{back}\n"
+
+
+def greatest_reach():
+    """Each track crosses one other track for 120 minutes each way, all types, and a third one for 120 and 57, each type with
+    itself: 16 times 239 minutes and 176 are 4,000."""
+    for start in range(0, 1000, 4):
+        for one, other in ((start, start + 1), (start + 2, start + 3)):
+            for first in range(16):
+                for second in range(16):
+                    yield from both_ways(one, other, first, second, 120, 120)
+        for one, other in ((start, start + 2), (start + 1, start + 3)):
+            for kind in range(16):
+                yield from both_ways(one, other, kind, kind, 120, 57)
+
+
+def most_crossings():
+    """Crossings of a minute each way, of each track with the next ones, all types, up to the greatest length of a table."""
+    left = LIMIT - 100
+    for away in range(1, 125):
+        for one in range(1000):
+            for first in range(16):
+                for second in range(16):
+                    rows = list(both_ways(one, (one + away) % 1000, first, second, 1, 1))
+                    left -= len(rows[0]) + len(rows[1])
+                    if left < 0:
+                        return
+                    yield from rows
 
 
 def cliques(folder, count):
@@ -129,6 +175,8 @@ CASES = {
     "full-one": planned(lambda folder: full(folder, 1, wide), "--steps", "1", "--budget", "1"),
     "full-tenth": planned(lambda folder: full(folder, 100, narrow), "--steps", "5", "--budget", "3"),
     "full-narrow": planned(lambda folder: full(folder, 1000, narrow), "--steps", "5", "--budget", "3"),
+    "crossed": planned(lambda folder: as_crossed(folder, greatest_reach())),
+    "crossed-most": planned(lambda folder: as_crossed(folder, most_crossings())),
     "certificate": with_certificate(of_splits, "verdict,unreadable,ROW,C6"),
     "certificate+1": with_certificate(lambda folder: of_splits(folder, b"x"), "too long: c.csv"),
     "one-record": with_certificate(of_one_record, "verdict,unreadable,ROW,C5"),
