@@ -82,7 +82,8 @@ impl Auction {
     /// The least raise of a standing bid, in cents.
     pub fn least_raise(&self, standing: u32) -> Cents
         requires { standing < length self.now.standing }
-        ensures { option_map (λ b. least_raise_of self.now.rules b.amount) (slice_get self.now.standing standing) ≡ Some result }
+        ensures { option_map (λ b. least_raise_of self.now.rules b.amount) (slice_get
+            self.now.standing standing) ≡ Some result }
     {
         let (_, terms) = self.standing.at(standing as usize);
         self.rules.least_raise(terms.amount)
@@ -126,7 +127,8 @@ impl Auction {
 
     fn planned(&self, alloc: Global, place: usize) -> Result<Bid, NoMemory>
         requires { place < length self.now.standing }
-        ensures { IfOk result (λ bid. option_and_then (planned_of self.now.specs) (slice_get self.now.standing place) ≡ Some (offer_of bid)) }
+        ensures { IfOk result (λ bid. option_and_then (planned_of self.now.specs) (slice_get
+            self.now.standing place) ≡ Some (offer_of bid)) }
     {
         let (name, terms) = self.standing.at(place);
         let spec = self.specs.at(terms.spec as usize);
@@ -245,7 +247,8 @@ impl Auction {
 
     /// The place of the specification on which a bid may be opened, or why it is refused.
     fn opening_place(&self, bid: &Name, spec: &Name, amount: Cents) -> Result<usize, Refusal>
-        ensures place { FindsPlace (opening_refusal self.now bid.now spec.now amount) (spec_named self.now spec.now) result }
+        ensures place { FindsPlace (opening_refusal self.now bid.now spec.now amount)
+            (spec_named self.now spec.now) result }
         ensures name { OnOk result (IsTrue (is_name bid.now)) }
     {
         if self.closed {
@@ -268,7 +271,8 @@ impl Auction {
 
     /// The place of the standing bid that may be raised, or why it is refused.
     fn raise_place(&self, bidder: &Name, bid: &Name, amount: Cents) -> Result<usize, Refusal>
-        ensures { FindsPlace (raise_refusal self.now bidder.now bid.now amount) (place_named self.now bid.now) result }
+        ensures { FindsPlace (raise_refusal self.now bidder.now bid.now amount)
+            (place_named self.now bid.now) result }
     {
         if self.closed {
             return Err(Refusal::A9);
@@ -290,7 +294,8 @@ impl Auction {
         bid: &Name,
         spec: &Name,
     ) -> Result<(usize, usize), Refusal>
-        ensures { FindsPlaces (amend_refusal self.now bidder.now bid.now spec.now) (place_named self.now bid.now) (spec_named self.now spec.now) result }
+        ensures { FindsPlaces (amend_refusal self.now bidder.now bid.now spec.now)
+            (place_named self.now bid.now) (spec_named self.now spec.now) result }
     {
         if self.closed {
             return Err(Refusal::A9);
@@ -311,7 +316,8 @@ impl Auction {
 
     /// The place of the standing bid that may be withdrawn, or why it is refused.
     fn withdraw_place(&self, bidder: &Name, bid: &Name) -> Result<usize, Refusal>
-        ensures { FindsPlace (withdraw_refusal self.now bidder.now bid.now) (place_named self.now bid.now) result }
+        ensures { FindsPlace (withdraw_refusal self.now bidder.now bid.now)
+            (place_named self.now bid.now) result }
     {
         if self.closed {
             return Err(Refusal::A9);

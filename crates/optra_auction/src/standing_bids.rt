@@ -182,7 +182,8 @@ fn put_behind(map: &mut IndexMap<String, Terms>, count: usize, name: Name, terms
     ensures room { HaveRoom map.new count }
     ensures same { standing_in map.new.entries count ≡ standing_in map.old.entries count }
     ensures behind { count ≤ result }
-    ensures terms { option_map standing_of (slice_get map.new.entries result) ≡ Some (named name terms) }
+    ensures terms { option_map standing_of (slice_get map.new.entries result)
+        ≡ Some (named name terms) }
 {
     match map.get_index_of(name.text()) {
         Some(place) => {

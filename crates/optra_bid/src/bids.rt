@@ -125,8 +125,10 @@ impl Bid {
     /// A call that fails changes nothing.
     pub fn add_stop(&mut self, raw: &RawStop) -> Result<(), BidFault>
         ensures rule { FollowsBidRule (stop_refusal self.old.path raw.now) result }
-        ensures ok { OnOk result (self.new.path ≡ record self.old.path { stops = self.old.path.stops ++ stop_of raw.now ∷ [] }) }
-        ensures others { (self.new.name ≡ self.old.name) × (self.new.bidder ≡ self.old.bidder) × (self.new.money ≡ self.old.money) }
+        ensures ok { OnOk result (self.new.path
+            ≡ record self.old.path { stops = self.old.path.stops ++ stop_of raw.now ∷ [] }) }
+        ensures others { (self.new.name ≡ self.old.name) × (self.new.bidder ≡ self.old.bidder)
+            × (self.new.money ≡ self.old.money) }
         ensures err { OnErr result (self.new ≡ self.old) }
     {
         let [from, to] = raw.arrive;

@@ -69,7 +69,8 @@ impl Builder {
     pub fn station(&mut self, name: &str) -> Result<StationId, NetFault>
         requires { IsTrue (is_name name.now) }
         ensures rule { FollowsRule (station_refusal self.old name.now) result }
-        ensures ok { OnOk result (self.new ≡ record self.old { stations = self.old.stations ++ name.now ∷ [] }) }
+        ensures ok { OnOk result (self.new
+            ≡ record self.old { stations = self.old.stations ++ name.now ∷ [] }) }
         ensures id { IfOk result (λ id. id.0 ≡ length self.old.stations) }
         ensures err { OnErr result (self.new ≡ self.old) }
     {
@@ -108,7 +109,8 @@ impl Builder {
     pub fn train_type(&mut self, name: &str) -> Result<TypeId, NetFault>
         requires { IsTrue (is_name name.now) }
         ensures rule { FollowsRule (type_refusal self.old name.now) result }
-        ensures ok { OnOk result (self.new ≡ record self.old { types = self.old.types ++ name.now ∷ [] }) }
+        ensures ok { OnOk result (self.new
+            ≡ record self.old { types = self.old.types ++ name.now ∷ [] }) }
         ensures id { IfOk result (λ id. id.0 ≡ length self.old.types) }
         ensures err { OnErr result (self.new ≡ self.old) }
     {
@@ -198,8 +200,10 @@ impl Builder {
         second: &str,
         minutes: u64,
     ) -> Result<(), NetFault>
-        ensures rule { FollowsRule (headway_refusal self.old track.now first.now second.now minutes) result }
-        ensures ok { OnOk result (after_headway self.old track.now first.now second.now minutes ≡ Some self.new) }
+        ensures rule { FollowsRule (headway_refusal self.old track.now first.now second.now minutes)
+            result }
+        ensures ok { OnOk result (after_headway self.old track.now first.now second.now minutes
+            ≡ Some self.new) }
         ensures err { OnErr result (self.new ≡ self.old) }
     {
         let (Some(t), Some(a), Some(b)) = (
@@ -233,8 +237,10 @@ impl Builder {
         second: &str,
         minutes: u64,
     ) -> Result<(), NetFault>
-        ensures rule { FollowsRule (crossing_refusal self.old first_track.now second_track.now first.now second.now minutes) result }
-        ensures ok { OnOk result (after_crossing self.old first_track.now second_track.now first.now second.now minutes ≡ Some self.new) }
+        ensures rule { FollowsRule (crossing_refusal self.old first_track.now second_track.now
+            first.now second.now minutes) result }
+        ensures ok { OnOk result (after_crossing self.old first_track.now second_track.now first.now
+            second.now minutes ≡ Some self.new) }
         ensures err { OnErr result (self.new ≡ self.old) }
     {
         let (Some(t), Some(u), Some(a), Some(b)) = (

@@ -88,8 +88,10 @@ impl Rows {
         requires few { tracks ≤ 1000 }
         requires of_pairs { All (λ row. IsPair tracks row.0) running.now.entries }
         requires of_triples { All (λ row. IsTriple tracks row.0) headways.now.entries }
-        ensures running { IfOk result (λ rows. HoldsPairs (found_times running.now.entries) tracks rows.running.items) }
-        ensures headways { IfOk result (λ rows. HoldsTriples (found_headway headways.now.entries) tracks rows.headways.items) }
+        ensures running { IfOk result (λ rows. HoldsPairs (found_times running.now.entries) tracks
+            rows.running.items) }
+        ensures headways { IfOk result (λ rows. HoldsTriples (found_headway headways.now.entries)
+            tracks rows.headways.items) }
     {
         Ok(Rows {
             running: running_table(alloc, tracks, running)?,
@@ -112,7 +114,8 @@ impl Rows {
 
     /// Whether the type has running times on the track.
     pub(crate) fn may_use(&self, track: TrackId, kind: TypeId) -> bool
-        ensures { result ≡ not ((at_pair no_times self.now.running.items track.0 kind.0).pass_pass == 0) }
+        ensures { result
+            ≡ not ((at_pair no_times self.now.running.items track.0 kind.0).pass_pass == 0) }
     {
         self.times(track, kind).pass_pass != 0
     }
@@ -178,7 +181,8 @@ fn out_lists(
 ) -> Result<Vec<Vec<TrackId>>, NoMemory>
     requires few { length tracks.now ≤ 1000 }
     requires ends { All (λ t. t.tail.0 < stations) tracks.now }
-    ensures { IfOk result (λ lists. HoldsOut tracks.now (length tracks.now) stations (map (λ list. list.items) lists.items)) }
+    ensures { IfOk result (λ lists. HoldsOut tracks.now (length tracks.now) stations
+        (map (λ list. list.items) lists.items)) }
 {
     let mut lists = empty_lists(alloc, stations)?;
     for place in 0..tracks.len() {
@@ -227,7 +231,8 @@ fn headway_table(
 ) -> Result<Vec<u16>, NoMemory>
     requires few { tracks ≤ 1000 }
     requires of_triples { All (λ row. IsTriple tracks row.0) rows.now.entries }
-    ensures { IfOk result (λ table. HoldsTriples (found_headway rows.now.entries) tracks table.items) }
+    ensures { IfOk result (λ table. HoldsTriples (found_headway rows.now.entries) tracks
+        table.items) }
 {
     let mut table = Vec::new(alloc);
     table.resize(tracks * 256, 0)?;

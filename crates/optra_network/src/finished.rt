@@ -47,7 +47,8 @@ impl Network {
     /// The running time in minutes, 1 to 240, from a halt or a pass at the tail to a halt or a pass at the head. None
     /// exactly where the type may not use the track, so also for a track or a type that isn't there.
     pub fn run(&self, track: TrackId, kind: TypeId, from_halt: bool, to_halt: bool) -> Option<u16>
-        ensures minutes { result ≡ option_map (minutes_by from_halt to_halt) (times_of self.now track kind) }
+        ensures minutes { result ≡ option_map (minutes_by from_halt to_halt) (times_of self.now
+            track kind) }
         ensures range { IfSome result (IsFromTo 1 240) }
     {
         let times = self.tables.rows.times(track, kind);
@@ -122,7 +123,8 @@ impl Network {
     pub fn partners(&self, track: TrackId, kind: TypeId) -> &[Partner]
         requires { MayUse self.now track kind }
         ensures partners { result.now ≡ partners_of self.now track kind }
-        ensures each { (partner : Partner) → Contains result.now partner ↔ IsPartner self.now track kind partner }
+        ensures each { (partner : Partner) → Contains result.now partner
+            ↔ IsPartner self.now track kind partner }
     {
         &self.tables.partners[track.0 as usize * 16 + kind.0 as usize]
     }
@@ -136,6 +138,14 @@ impl Network {
         ensures proper { IsProper self.now }
     {
         &self.tables.crossers[track.0 as usize * 16 + kind.0 as usize]
+    }
+
+    /// A law, and no work: what every network keeps. Callers see a network as its value alone, so one that rests on it
+    /// says so by this call; where a leg is usable or an instance is at hand, it is known without it.
+    pub fn laws(&self)
+        ensures { IsProper self.now }
+    {
+        let _tables = &self.tables;
     }
 
     /// How many stations there are, at most 300.

@@ -22,7 +22,8 @@ impl Builder {
 
     /// The same of one track.
     fn has_headways_on(&self, track: TrackId) -> bool
-        ensures { IsTrue result ↔ ((a b : ℕ) → a < length self.now.types → b < length self.now.types → has_headway self.now track.0 a b ≡ true) }
+        ensures { IsTrue result ↔ ((a b : ℕ) → a < length self.now.types → b < length self.now.types
+            → has_headway self.now track.0 a b ≡ true) }
     {
         for first in 0..self.types.len() {
             if !self.has_headways_after(track, TypeId(first as u16)) {
@@ -34,7 +35,8 @@ impl Builder {
 
     /// The same of one track and one first type.
     fn has_headways_after(&self, track: TrackId, first: TypeId) -> bool
-        ensures { IsTrue result ↔ ((b : ℕ) → b < length self.now.types → has_headway self.now track.0 first.0 b ≡ true) }
+        ensures { IsTrue result ↔ ((b : ℕ) → b < length self.now.types
+            → has_headway self.now track.0 first.0 b ≡ true) }
     {
         for second in 0..self.types.len() {
             if !self.has_headway(track, first, TypeId(second as u16)) {

@@ -21,7 +21,8 @@ impl Builder {
     /// The crossers by track and type, each list in the order of their tracks.
     pub(super) fn crossers(&self, alloc: Global, rows: &Rows) -> Result<Vec<Vec<Crosser>>, NoMemory>
         requires { AreRows self.now rows.now }
-        ensures { IfOk result (λ lists. HoldsCrossers self.now (length self.now.tracks) (map (λ list. list.items) lists.items)) }
+        ensures { IfOk result (λ lists. HoldsCrossers self.now (length self.now.tracks)
+            (map (λ list. list.items) lists.items)) }
     {
         let mut lists = self.listed(alloc, rows)?;
         sort_each(&mut lists);
@@ -31,7 +32,8 @@ impl Builder {
     /// The crossers by track and type, each list in the order of the crossings.
     fn listed(&self, alloc: Global, rows: &Rows) -> Result<Vec<Vec<Crosser>>, NoMemory>
         requires { AreRows self.now rows.now }
-        ensures { IfOk result (λ lists. HoldsPairs (crossers_at self.now) (length self.now.tracks) (map (λ list. list.items) lists.items)) }
+        ensures { IfOk result (λ lists. HoldsPairs (crossers_at self.now) (length self.now.tracks)
+            (map (λ list. list.items) lists.items)) }
     {
         let mut lists = empty_lists(alloc, self.tracks.len() * 16)?;
         for i in 0..self.crossings.len() {
@@ -70,7 +72,8 @@ impl Builder {
 
 /// Sorts each of the lists.
 fn sort_each(lists: &mut Vec<Vec<Crosser>>)
-    ensures { AreSortedFrom (map (λ list. list.items) lists.old.items) (map (λ list. list.items) lists.new.items) }
+    ensures { AreSortedFrom (map (λ list. list.items) lists.old.items) (map (λ list. list.items)
+        lists.new.items) }
 {
     for place in 0..lists.len() {
         lists[place].sort_unstable();

@@ -30,7 +30,8 @@ impl Builder {
     /// The reaches by track and type, each of them cut at one more than the most, or None where a crossing isn't there in
     /// its other direction.
     fn reaches(&self, alloc: Global) -> Result<Option<Vec<u16>>, NoMemory>
-        ensures { IfOk result (λ reaches. MatchOption reaches (¬ HasBothWays self.now) (λ r. AreReaches self.now r.items)) }
+        ensures { IfOk result (λ reaches. MatchOption reaches (¬ HasBothWays self.now)
+            (λ r. AreReaches self.now r.items)) }
     {
         let mut reaches = Vec::new(alloc);
         reaches.resize(self.tracks.len() * 16, 0)?;

@@ -55,7 +55,8 @@ impl Builder {
     /// The least headways by track and type.
     fn leasts(&self, alloc: Global, rows: &Rows) -> Result<Vec<u16>, NoMemory>
         requires { AreRows self.now rows.now }
-        ensures { IfOk result (λ leasts. leasts.items ≡ map (least_at self.now) (range_with_len 0 (length self.now.tracks * 16))) }
+        ensures { IfOk result (λ leasts. leasts.items ≡ map (least_at self.now) (range_with_len 0
+            (length self.now.tracks * 16))) }
     {
         let mut leasts = Vec::new(alloc);
         for place in 0..self.tracks.len() * 16 {

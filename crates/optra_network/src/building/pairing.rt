@@ -22,7 +22,8 @@ impl Builder {
     ) -> Result<Vec<Vec<Partner>>, NoMemory>
         requires rows { AreRows self.now rows.now }
         requires leasts { HoldsPairs (hmin_at self.now) (length self.now.tracks) leasts.now }
-        ensures { IfOk result (λ lists. map (λ list. list.items) lists.items ≡ map (partners_at self.now) (range_with_len 0 (length self.now.tracks * 16))) }
+        ensures { IfOk result (λ lists. map (λ list. list.items) lists.items
+            ≡ map (partners_at self.now) (range_with_len 0 (length self.now.tracks * 16))) }
     {
         let mut partners = Vec::new(alloc);
         for place in 0..self.tracks.len() * 16 {
@@ -66,7 +67,8 @@ impl Builder {
         requires rows { AreRows self.now rows.now }
         requires leasts { HoldsPairs (hmin_at self.now) (length self.now.tracks) leasts.now }
         ensures most { result ≤ 120 }
-        ensures within { (partner : Partner) → is_partner self.now track kind partner ≡ true → (120 < partner.shift + result) × (partner.shift < 120 + result) }
+        ensures within { (partner : Partner) → is_partner self.now track kind partner ≡ true
+            → (120 < partner.shift + result) × (partner.shift < 120 + result) }
     {
         let mut reach = 0;
         for place in 0..self.types.len() {
@@ -91,7 +93,8 @@ impl Builder {
         requires rows { AreRows self.now rows.now }
         requires leasts { HoldsPairs (hmin_at self.now) (length self.now.tracks) leasts.now }
         ensures most { result ≤ 120 }
-        ensures near { (t u : ℕ) → is_paired self.now track t first u second ≡ true → u < t + result }
+        ensures near { (t u : ℕ) → is_paired self.now track t first u second ≡ true → u < t
+            + result }
     {
         if !rows.may_use(track, first) {
             return 0;
