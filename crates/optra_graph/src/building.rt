@@ -69,7 +69,8 @@ pub fn build(
 ) -> Result<TimeGraph, NoMemory>
     requires { IsPathOn net.now bid.now.path }
     ensures graph { IfOk result (λ graph. IsGraphOf net.now bid.now.path graph) }
-    ensures counted { builds.new ≡ (if is_ok result then min (builds.old + 1) u64.MAX else builds.old) }
+    ensures counted { builds.new ≡ (if is_ok result then min (builds.old + 1) u64.MAX else
+        builds.old) }
 {
     let graph = make_graph(alloc, net, bid)?;
     builds.raise();

@@ -100,9 +100,8 @@ fn limit(bid: &Bid, deadlines: &[Minute], station: StationId) -> Minute
 
 /// The least of the running times of the bid's type on the track.
 fn least_run(net: &Network, bid: &Bid, track: TrackId) -> Option<u16>
-    ensures { (a b : Bool) (minutes : ℕ)
-        → option_map (minutes_by a b) (times_of net.now track bid.now.path.kind) ≡ Some minutes
-        → IsSomeAnd result (λ least. least ≤ minutes) }
+    ensures { (a b : Bool) (minutes : ℕ) → option_map (minutes_by a b) (times_of net.now track
+        bid.now.path.kind) ≡ Some minutes → IsSomeAnd result (λ least. least ≤ minutes) }
 {
     let kind = bid.path.kind;
     let pass_pass = net.run(track, kind, false, false)?;

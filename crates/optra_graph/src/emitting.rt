@@ -31,7 +31,8 @@ pub fn add_starts(
     requires arcs { dag.old.arcs ≡ [] }
     requires ends { length dag.old.ends ≡ node_of flags.now (places_of layout) + 1 }
     requires minutes { minutes.old.items ≡ [] }
-    ensures starts { OnOk result (Starts bid.now.path layout.entry flags.now (layout.entry.first + layout.entry.minutes) dag.new.arcs minutes.new.items) }
+    ensures starts { OnOk result (Starts bid.now.path layout.entry flags.now (layout.entry.first
+        + layout.entry.minutes) dag.new.arcs minutes.new.items) }
     ensures ends { OnOk result (dag.new.ends ≡ dag.old.ends) }
 {
     for minute in layout.first..starts_end(bid, layout) {
@@ -64,7 +65,8 @@ pub fn add_legs(
     requires few { length dag.old.arcs ≤ 2880 }
     requires ends { length dag.old.ends ≡ node_of flags.now (places_of layout) + 1 }
     requires legs { legs.old.items ≡ [] }
-    ensures arcs { OnOk result (Emits net.now bid.now.path layout.entry flags.now (places_of layout.entry) dag.old.arcs dag.new.arcs legs.new.items) }
+    ensures arcs { OnOk result (Emits net.now bid.now.path layout.entry flags.now
+        (places_of layout.entry) dag.old.arcs dag.new.arcs legs.new.items) }
     ensures ends { OnOk result (dag.new.ends ≡ dag.old.ends) }
 {
     for place in 0..layout.places() {
@@ -92,8 +94,10 @@ fn add_arcs(
     requires nodes { All (λ step. node_of flags.now step.to < length dag.old.ends) steps.now }
     requires sorted { All (λ before. before.from ≤ from) dag.old.arcs }
     requires room { length dag.old.arcs + length steps.now ≤ 4294967295 }
-    ensures arcs { OnOk result (dag.new.arcs ≡ dag.old.arcs ++ map (arc_of flags.now from) (filter (is_kept flags.now) steps.now)) }
-    ensures legs { OnOk result (legs.new.items ≡ legs.old.items ++ map leg_of_step (filter (is_kept flags.now) steps.now)) }
+    ensures arcs { OnOk result (dag.new.arcs ≡ dag.old.arcs
+        ++ map (arc_of flags.now from) (filter (is_kept flags.now) steps.now)) }
+    ensures legs { OnOk result (legs.new.items ≡ legs.old.items
+        ++ map leg_of_step (filter (is_kept flags.now) steps.now)) }
     ensures ends { OnOk result (dag.new.ends ≡ dag.old.ends) }
 {
     for step in steps {

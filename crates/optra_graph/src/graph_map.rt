@@ -69,7 +69,8 @@ impl GraphMap {
 
     /// The graph of the bid's path specification, where it is held.
     pub fn graph(&self, bid: &Bid) -> Option<&TimeGraph>
-        ensures { MatchOption result (¬ Contains (map path_of self.now) bid.now.path) (λ graph. Contains self.now (record { path = bid.now.path; graph = graph.now })) }
+        ensures { MatchOption result (¬ Contains (map path_of self.now) bid.now.path)
+            (λ graph. Contains self.now (record { path = bid.now.path; graph = graph.now })) }
     {
         match place_in(&self.entries, bid, &numbers(bid)) {
             Some(place) => Some(self.at(place)),
@@ -98,8 +99,10 @@ impl GraphMap {
         builds: &mut Builds,
     ) -> Result<usize, NoMemory>
         requires { IsPathOn net.now bid.now.path }
-        ensures kept { IfOk result (λ place. IsKept net.now bid.now.path self.old builds.old self.new builds.new) }
-        ensures place { IfOk result (λ place. option_map path_of (slice_get self.new place) ≡ Some bid.now.path) }
+        ensures kept { IfOk result (λ place. IsKept net.now bid.now.path self.old builds.old
+            self.new builds.new) }
+        ensures place { IfOk result (λ place. option_map path_of (slice_get self.new place)
+            ≡ Some bid.now.path) }
         ensures err { OnErr result ((self.new ≡ self.old) × (builds.new ≡ builds.old)) }
         ensures held { Contains (map path_of self.old) bid.now.path → IsOk result }
     {
@@ -122,8 +125,10 @@ impl GraphMap {
         requires path { IsPathOn net.now bid.now.path }
         requires numbers { numbers.now.items ≡ numbers_of bid.now.path }
         requires absent { place_of bid.now.path (map path_of self.old) ≡ None }
-        ensures added { IfOk result (λ place. IsAdded net.now bid.now.path self.old builds.old self.new builds.new) }
-        ensures place { IfOk result (λ place. option_map path_of (slice_get self.new place) ≡ Some bid.now.path) }
+        ensures added { IfOk result (λ place. IsAdded net.now bid.now.path self.old builds.old
+            self.new builds.new) }
+        ensures place { IfOk result (λ place. option_map path_of (slice_get self.new place)
+            ≡ Some bid.now.path) }
         ensures err { OnErr result ((self.new ≡ self.old) × (builds.new ≡ builds.old)) }
     {
         let key = Vec::from_slice(alloc, numbers.as_slice())?;
@@ -144,8 +149,10 @@ impl GraphMap {
         builds: &mut Builds,
     ) -> Result<(), NoMemory>
         requires { All (λ bid. IsPathOn net.now bid.path) bids.now }
-        ensures held { OnOk result (All (λ bid. Contains (map path_of self.new) bid.path) bids.now) }
-        ensures others { All (λ path. Contains (map path_of self.old) path ⊎ Contains (map (λ bid. bid.path) bids.now) path) (map path_of self.new) }
+        ensures held { OnOk result (All (λ bid. Contains (map path_of self.new) bid.path)
+            bids.now) }
+        ensures others { All (λ path. Contains (map path_of self.old) path
+            ⊎ Contains (map (λ bid. bid.path) bids.now) path) (map path_of self.new) }
         ensures grows { Grows net.now self.old builds.old self.new builds.new }
     {
         for bid in bids {

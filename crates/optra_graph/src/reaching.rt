@@ -18,8 +18,8 @@ use std::alloc::Global;
 pub fn starts_end(bid: &Bid, layout: Layout<'_>) -> Minute
     requires depart { IsWindow bid.now.path.depart }
     requires origin { bid.now.path.origin.0 < length layout.columns.now.deadlines.items }
-    ensures { result ≡ min (bid.now.path.depart.to + 1)
-        (deadline_of layout.entry bid.now.path.origin) }
+    ensures { result ≡ min (bid.now.path.depart.to + 1) (deadline_of layout.entry
+        bid.now.path.origin) }
 {
     (bid.path.depart.to + 1).min(layout.deadline(bid.path.origin))
 }
@@ -69,7 +69,8 @@ pub fn reach(
 fn mark_starts(net: &Network, bid: &Bid, layout: Layout<'_>, flags: &mut Vec<bool>)
     requires setting { IsSetting net.now bid.now.path layout }
     requires len { length flags.old.items ≡ places_of layout + 1 }
-    ensures { AreStartsSet bid.now.path layout.entry (layout.entry.first + layout.entry.minutes) flags.old.items flags.new.items }
+    ensures { AreStartsSet bid.now.path layout.entry (layout.entry.first + layout.entry.minutes)
+        flags.old.items flags.new.items }
 {
     for minute in layout.first..starts_end(bid, layout) {
         let place = layout.place(make_start(bid, minute));
@@ -98,10 +99,11 @@ pub fn trim(
 ) -> usize
     requires setting { IsSetting net.now bid.now.path layout }
     requires reached { IsReached net.now bid.now.path layout flags.old.items }
-    requires steps { AreStepsTo net.now bid.now.path layout (places_of layout) flags.old.items table.now }
+    requires steps { AreStepsTo net.now bid.now.path layout (places_of layout) flags.old.items
+        table.now }
     ensures flags { IsKept net.now bid.now.path layout.entry flags.new.items }
-    ensures steps { AreStepsTo net.now bid.now.path layout.entry
-        (places_of layout.entry) flags.new.items table.now }
+    ensures steps { AreStepsTo net.now bid.now.path layout.entry (places_of layout.entry)
+        flags.new.items table.now }
 {
     let mut arcs: usize = 0;
     let mut left = layout.places();
@@ -119,7 +121,8 @@ fn settle(flags: &mut Vec<bool>, place: u32, steps: &[Step]) -> usize
     requires place { place < length flags.old.items }
     requires steps { All (λ step. step.to < length flags.old.items) steps.now }
     ensures count { result ≡ count_by (λ step. is_set flags.old.items step.to) steps.now }
-    ensures flags { flags.new.items ≡ (if nat_eq result 0 then slice_set flags.old.items place false else flags.old.items) }
+    ensures flags { flags.new.items ≡ (if nat_eq result 0 then slice_set flags.old.items place false
+        else flags.old.items) }
 {
     let on = count_on(flags, steps);
     if on == 0 {

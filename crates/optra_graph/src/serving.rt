@@ -32,8 +32,10 @@ pub trait Graphs {
     fn prepare(&mut self, alloc: Global, bids: &[Bid]) -> Result<(), NoMemory>
         requires { All (λ bid. IsPathOn (network self.old) bid.path) bids.now }
         ensures held { OnOk result (All (λ bid. Contains (held self.new) bid.path) bids.now) }
-        ensures others { OnOk result (All (λ path. Contains (held self.old) path ⊎ Contains (map (λ bid. bid.path) bids.now) path) (held self.new)) }
-        ensures kept { OnOk result (keeps self.old ≡ true → All (Contains (held self.new)) (held self.old)) }
+        ensures others { OnOk result (All (λ path. Contains (held self.old) path
+            ⊎ Contains (map (λ bid. bid.path) bids.now) path) (held self.new)) }
+        ensures kept { OnOk result (keeps self.old ≡ true
+            → All (Contains (held self.new)) (held self.old)) }
         ensures network { network self.new ≡ network self.old }
         ensures keeps { keeps self.new ≡ keeps self.old };
 

@@ -39,7 +39,8 @@ pub fn fill_steps(
 ) -> Result<(), NoMemory>
     requires setting { IsSetting net.now bid.now.path layout }
     requires placed { IsPlaced layout state }
-    ensures few { OnOk result (length steps.new.items ≤ 63 * length (out_tracks_of net.now.tracks state.station)) }
+    ensures few { OnOk result (length steps.new.items ≤ 63
+        * length (out_tracks_of net.now.tracks state.station)) }
     ensures steps { OnOk result (AreSteps net.now bid.now.path layout.entry state steps.new.items) }
 {
     steps.clear();
@@ -68,7 +69,8 @@ fn find_way(
     requires setting { IsSetting net.now bid.now.path layout }
     requires tail { tail_of net.now (leg_by state track Action.Pass) ≡ Some state.station }
     requires minute { state.minute ≤ 2879 }
-    ensures { MatchOption result (¬ MayUse net.now track bid.now.path.kind) (λ way. (way.track ≡ track) × IsWay net.now bid.now.path layout.entry state way) }
+    ensures { MatchOption result (¬ MayUse net.now track bid.now.path.kind)
+        (λ way. (way.track ≡ track) × IsWay net.now bid.now.path layout.entry state way) }
 {
     let kind = kind_of(bid);
     let pass = net.run(track, kind, state.halted, false)?;
@@ -95,9 +97,11 @@ fn add_way(
     requires setting { IsSetting net.now bid.now.path layout }
     requires placed { IsPlaced layout state }
     requires way { IsWay net.now bid.now.path layout state way }
-    requires before { AreStepsBelow net.now bid.now.path layout state (bound_of way.track.0 0) steps.old.items }
+    requires before { AreStepsBelow net.now bid.now.path layout state (bound_of way.track.0 0)
+        steps.old.items }
     ensures few { OnOk result (length steps.new.items ≤ length steps.old.items + 63) }
-    ensures steps { OnOk result (AreStepsBelow net.now bid.now.path layout.entry state (bound_of way.track.0 4) steps.new.items) }
+    ensures steps { OnOk result (AreStepsBelow net.now bid.now.path layout.entry state
+        (bound_of way.track.0 4) steps.new.items) }
 {
     add_pass(net, bid, layout, state, way, steps)?;
     add_halts(net, bid, layout, state, way, steps)?;
@@ -108,7 +112,8 @@ fn add_way(
 fn make_step(layout: Layout<'_>, state: State, way: Way, action: Action, after: State) -> Step
     requires small { IsSmall layout }
     requires placed { IsPlaced layout after }
-    ensures { result ≡ record { leg = leg_by state way.track action; to = place_of layout.entry after } }
+    ensures { result
+        ≡ record { leg = leg_by state way.track action; to = place_of layout.entry after } }
 {
     Step {
         leg: make_leg(state, way, action),
@@ -146,9 +151,11 @@ fn add_pass(
     requires setting { IsSetting net.now bid.now.path layout }
     requires placed { IsPlaced layout state }
     requires way { IsWay net.now bid.now.path layout state way }
-    requires before { AreStepsBelow net.now bid.now.path layout state (bound_of way.track.0 0) steps.old.items }
+    requires before { AreStepsBelow net.now bid.now.path layout state (bound_of way.track.0 0)
+        steps.old.items }
     ensures few { OnOk result (length steps.new.items ≤ length steps.old.items + 1) }
-    ensures steps { OnOk result (AreStepsBelow net.now bid.now.path layout.entry state (bound_of way.track.0 1) steps.new.items) }
+    ensures steps { OnOk result (AreStepsBelow net.now bid.now.path layout.entry state
+        (bound_of way.track.0 1) steps.new.items) }
 {
     if way.pass >= way.deadline {
         return Ok(());
@@ -172,7 +179,8 @@ fn next_stop(bid: &Bid, done: u16) -> Option<Stop>
 
 /// Whether the train halts right for the stop when it arrives by the way.
 fn may_halt(stop: Stop, way: Way) -> bool
-    ensures { IsTrue result ↔ ((stop.station ≡ way.head) × (stop.arrive.from ≤ way.halt) × (way.halt ≤ stop.arrive.to)) }
+    ensures { IsTrue result ↔ ((stop.station ≡ way.head) × (stop.arrive.from ≤ way.halt)
+        × (way.halt ≤ stop.arrive.to)) }
 {
     stop.station == way.head && stop.arrive.from <= way.halt && way.halt <= stop.arrive.to
 }
@@ -180,7 +188,8 @@ fn may_halt(stop: Stop, way: Way) -> bool
 /// The state after a halt or a wait at the head of the way.
 fn stand(way: Way, dwell: u16, done: u16) -> State
     requires { way.halt + dwell < 65536 }
-    ensures { result ≡ record { station = way.head; minute = way.halt + dwell; halted = true; done = done } }
+    ensures { result
+        ≡ record { station = way.head; minute = way.halt + dwell; halted = true; done = done } }
 {
     State {
         station: way.head,
@@ -202,9 +211,11 @@ fn add_halts(
     requires setting { IsSetting net.now bid.now.path layout }
     requires placed { IsPlaced layout state }
     requires way { IsWay net.now bid.now.path layout state way }
-    requires before { AreStepsBelow net.now bid.now.path layout state (bound_of way.track.0 1) steps.old.items }
+    requires before { AreStepsBelow net.now bid.now.path layout state (bound_of way.track.0 1)
+        steps.old.items }
     ensures few { OnOk result (length steps.new.items ≤ length steps.old.items + 31) }
-    ensures steps { OnOk result (AreStepsBelow net.now bid.now.path layout.entry state (bound_of way.track.0 2) steps.new.items) }
+    ensures steps { OnOk result (AreStepsBelow net.now bid.now.path layout.entry state
+        (bound_of way.track.0 2) steps.new.items) }
 {
     let Some(stop) = next_stop(bid, state.done) else {
         return Ok(());
@@ -232,9 +243,11 @@ fn add_waits(
     requires setting { IsSetting net.now bid.now.path layout }
     requires placed { IsPlaced layout state }
     requires way { IsWay net.now bid.now.path layout state way }
-    requires before { AreStepsBelow net.now bid.now.path layout state (bound_of way.track.0 2) steps.old.items }
+    requires before { AreStepsBelow net.now bid.now.path layout state (bound_of way.track.0 2)
+        steps.old.items }
     ensures few { OnOk result (length steps.new.items ≤ length steps.old.items + 30) }
-    ensures steps { OnOk result (AreStepsBelow net.now bid.now.path layout.entry state (bound_of way.track.0 3) steps.new.items) }
+    ensures steps { OnOk result (AreStepsBelow net.now bid.now.path layout.entry state
+        (bound_of way.track.0 3) steps.new.items) }
 {
     let before = dwell_end(way, wait_max(bid));
     for dwell in 1..before {
@@ -253,7 +266,9 @@ fn wait_max(bid: &Bid) -> u16
 
 /// Whether the walk may end when the train arrives by the way.
 fn may_finish(bid: &Bid, state: State, way: Way) -> bool
-    ensures { IsTrue result ↔ ((state.done ≡ length bid.now.path.stops) × (way.head ≡ bid.now.path.destination) × (bid.now.path.arrive.from ≤ way.halt) × (way.halt ≤ bid.now.path.arrive.to)) }
+    ensures { IsTrue result ↔ ((state.done ≡ length bid.now.path.stops)
+        × (way.head ≡ bid.now.path.destination) × (bid.now.path.arrive.from ≤ way.halt)
+        × (way.halt ≤ bid.now.path.arrive.to)) }
 {
     let path = &bid.path;
     usize::from(state.done) == path.stops.len()
@@ -274,9 +289,11 @@ fn add_finish(
     requires setting { IsSetting net.now bid.now.path layout }
     requires placed { IsPlaced layout state }
     requires way { IsWay net.now bid.now.path layout state way }
-    requires before { AreStepsBelow net.now bid.now.path layout state (bound_of way.track.0 3) steps.old.items }
+    requires before { AreStepsBelow net.now bid.now.path layout state (bound_of way.track.0 3)
+        steps.old.items }
     ensures few { OnOk result (length steps.new.items ≤ length steps.old.items + 1) }
-    ensures steps { OnOk result (AreStepsBelow net.now bid.now.path layout.entry state (bound_of way.track.0 4) steps.new.items) }
+    ensures steps { OnOk result (AreStepsBelow net.now bid.now.path layout.entry state
+        (bound_of way.track.0 4) steps.new.items) }
 {
     if !may_finish(bid, state, way) {
         return Ok(());

@@ -26,7 +26,10 @@ fn is_above<F: RowFamily>(
     requires usable { IsUsable inst.net.now (kind_at inst.bids.now bid) leg }
     requires formed { All (IsFormedDecision inst.net.now (length inst.bids.now)) decisions.now }
     requires row { (F.rows_of rows.now inst.net.now).is_row row ≡ true }
-    ensures { IsTrue result ↔ ((F.rows_of rows.now inst.entry.net.now).capacity row < (F.rows_of rows.now inst.entry.net.now).uses (kind_at inst.entry.bids.now bid) leg row + others_load (F.rows_of rows.now inst.entry.net.now) inst.entry.bids.now decisions.now bid row) }
+    ensures { IsTrue result ↔ ((F.rows_of rows.now inst.entry.net.now).capacity row
+        < (F.rows_of rows.now inst.entry.net.now).uses (kind_at inst.entry.bids.now bid) leg row +
+        others_load (F.rows_of rows.now inst.entry.net.now) inst.entry.bids.now decisions.now bid
+        row) }
 {
     let own = rows.leg_use(inst.net, kind_at(inst, bid), leg, row);
     let others = others_load(inst, rows, decisions, bid, row);
@@ -44,9 +47,9 @@ fn is_usable_blocked<F: RowFamily>(
     requires bid { bid < length inst.bids.now }
     requires usable { IsUsable inst.net.now (kind_at inst.bids.now bid) leg }
     requires formed { All (IsFormedDecision inst.net.now (length inst.bids.now)) decisions.now }
-    ensures { IsTrue result ↔ IsBlocked (F.rows_of rows.now inst.entry.net.now) inst.entry.bids.now decisions.now bid (kind_at inst.entry.bids.now bid) leg }
+    ensures { IsTrue result ↔ IsBlocked (F.rows_of rows.now inst.entry.net.now) inst.entry.bids.now
+        decisions.now bid (kind_at inst.entry.bids.now bid) leg }
 {
-    let _ = inst.net.track_count();
     let kind = kind_at(inst, bid);
     for k in 0..8192 {
         let Some(row) = rows.touched(inst.net, kind, leg, k) else {
@@ -70,7 +73,8 @@ pub(crate) fn is_blocked<F: RowFamily>(
     requires bid { bid < length inst.bids.now }
     requires leg { IsFormedLeg inst.net.now leg }
     requires formed { All (IsFormedDecision inst.net.now (length inst.bids.now)) decisions.now }
-    ensures { IsTrue result ↔ IsBlocked (F.rows_of rows.now inst.entry.net.now) inst.entry.bids.now decisions.now bid (kind_at inst.entry.bids.now bid) leg }
+    ensures { IsTrue result ↔ IsBlocked (F.rows_of rows.now inst.entry.net.now) inst.entry.bids.now
+        decisions.now bid (kind_at inst.entry.bids.now bid) leg }
 {
     may_use(inst.net, leg.track, kind_at(inst, bid))
         && is_usable_blocked(inst, rows, decisions, bid, leg)
@@ -85,7 +89,8 @@ fn is_overfull<F: RowFamily>(
 ) -> bool
     requires formed { All (IsFormedDecision inst.net.now (length inst.bids.now)) decisions.now }
     requires row { (F.rows_of rows.now inst.net.now).is_row row ≡ true }
-    ensures { IsTrue result ↔ IsOverfull (F.rows_of rows.now inst.entry.net.now) inst.entry.bids.now decisions.now row }
+    ensures { IsTrue result ↔ IsOverfull (F.rows_of rows.now inst.entry.net.now) inst.entry.bids.now
+        decisions.now row }
 {
     u128::from(rows.cap(inst.net, row)) < yes_load(inst, rows, decisions, row)
 }
@@ -100,9 +105,11 @@ fn least_used<F: RowFamily>(
 ) -> Option<F::Row>
     requires usable { IsUsable inst.net.now kind leg }
     requires formed { All (IsFormedDecision inst.net.now (length inst.bids.now)) decisions.now }
-    ensures { IsLeastOrNone F.Row.cmp (λ row. (0 < (F.rows_of rows.now inst.entry.net.now).uses kind leg row) × IsOverfull (F.rows_of rows.now inst.entry.net.now) inst.entry.bids.now decisions.now row) result }
+    ensures { IsLeastOrNone F.Row.cmp
+        (λ row. (0 < (F.rows_of rows.now inst.entry.net.now).uses kind leg row)
+        × IsOverfull (F.rows_of rows.now inst.entry.net.now) inst.entry.bids.now decisions.now row)
+        result }
 {
-    let _ = inst.net.track_count();
     for k in 0..8192 {
         let Some(row) = rows.touched(inst.net, kind, leg, k) else {
             return None;
@@ -123,7 +130,10 @@ fn least_decided<F: RowFamily>(
 ) -> Option<F::Row>
     requires decision { IsFormedDecision inst.net.now (length inst.bids.now) decision }
     requires formed { All (IsFormedDecision inst.net.now (length inst.bids.now)) decisions.now }
-    ensures { IsLeastOrNone F.Row.cmp (λ row. (0 < yes_uses (F.rows_of rows.now inst.entry.net.now) inst.entry.bids.now row decision) × IsOverfull (F.rows_of rows.now inst.entry.net.now) inst.entry.bids.now decisions.now row) result }
+    ensures { IsLeastOrNone F.Row.cmp
+        (λ row. (0 < yes_uses (F.rows_of rows.now inst.entry.net.now) inst.entry.bids.now row
+        decision) × IsOverfull (F.rows_of rows.now inst.entry.net.now) inst.entry.bids.now
+        decisions.now row) result }
 {
     let kind = kind_at(inst, decision.bid);
     if decision.yes && may_use(inst.net, decision.leg.track, kind) {
@@ -153,7 +163,8 @@ pub(crate) fn least_overfull<F: RowFamily>(
     decisions: &[Decision],
 ) -> Option<F::Row>
     requires formed { All (IsFormedDecision inst.net.now (length inst.bids.now)) decisions.now }
-    ensures { IsLeastOrNone F.Row.cmp (IsOverfull (F.rows_of rows.now inst.entry.net.now) inst.entry.bids.now decisions.now) result }
+    ensures { IsLeastOrNone F.Row.cmp (IsOverfull (F.rows_of rows.now inst.entry.net.now)
+        inst.entry.bids.now decisions.now) result }
 {
     let mut least: Option<F::Row> = None;
     for decision in decisions {

@@ -27,10 +27,10 @@ pub fn may_use(net: &Network, track: TrackId, kind: TypeId) -> bool
 fn uses_at<F: RowFamily>(inst: Instance<'_>, rows: &F, bid: u32, leg: Leg, row: F::Row) -> u32
     requires bid { bid < length inst.bids.now }
     requires formed { IsFormedLeg inst.net.now leg }
-    ensures value { result ≡ uses_at (F.rows_of rows.now inst.entry.net.now) inst.entry.bids.now row bid leg }
+    ensures value { result ≡ uses_at (F.rows_of rows.now inst.entry.net.now) inst.entry.bids.now row
+        bid leg }
     ensures few { result ≤ 8192 }
 {
-    let _proper = inst.net.track_count();
     let kind = kind_at(inst, bid);
     if !may_use(inst.net, leg.track, kind) {
         return 0;
@@ -46,7 +46,8 @@ pub(crate) fn yes_load<F: RowFamily>(
     row: F::Row,
 ) -> u128
     requires formed { All (IsFormedDecision inst.net.now (length inst.bids.now)) decisions.now }
-    ensures { result ≡ yes_load (F.rows_of rows.now inst.entry.net.now) inst.entry.bids.now decisions.now row }
+    ensures { result ≡ yes_load (F.rows_of rows.now inst.entry.net.now) inst.entry.bids.now
+        decisions.now row }
 {
     let mut total: u128 = 0;
     for d in decisions {
@@ -66,7 +67,8 @@ pub(crate) fn others_load<F: RowFamily>(
     row: F::Row,
 ) -> u128
     requires formed { All (IsFormedDecision inst.net.now (length inst.bids.now)) decisions.now }
-    ensures value { result ≡ others_load (F.rows_of rows.now inst.entry.net.now) inst.entry.bids.now decisions.now bid row }
+    ensures value { result ≡ others_load (F.rows_of rows.now inst.entry.net.now) inst.entry.bids.now
+        decisions.now bid row }
     ensures few { result < 2 ^ 80 }
 {
     let mut total: u128 = 0;

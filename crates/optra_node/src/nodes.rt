@@ -53,7 +53,8 @@ impl Node {
         requires node { IsNode inst.net.now (length inst.bids.now) self.now }
         requires bid { bid < length inst.bids.now }
         requires leg { IsFormedLeg inst.net.now leg }
-        ensures { IsTrue result ↔ IsLegOk inst.entry.net.now (F.rows_of rows.now inst.entry.net.now) inst.entry.bids.now self.now bid (kind_at inst.entry.bids.now bid) leg }
+        ensures { IsTrue result ↔ IsLegOk inst.entry.net.now (F.rows_of rows.now inst.entry.net.now)
+            inst.entry.bids.now self.now bid (kind_at inst.entry.bids.now bid) leg }
     {
         let_by(inst.net, kind_at(inst, bid), &self.decisions, bid, leg)
             && !is_blocked(inst, rows, &self.decisions, bid, leg)
@@ -75,7 +76,8 @@ impl Node {
         requires node { IsNode inst.net.now (length inst.bids.now) self.now }
         requires bid { bid < length inst.bids.now }
         requires leg { IsFormedLeg inst.net.now leg }
-        ensures { IsTrue result ↔ IsBlocked (F.rows_of rows.now inst.entry.net.now) inst.entry.bids.now self.now bid (kind_at inst.entry.bids.now bid) leg }
+        ensures { IsTrue result ↔ IsBlocked (F.rows_of rows.now inst.entry.net.now)
+            inst.entry.bids.now self.now bid (kind_at inst.entry.bids.now bid) leg }
     {
         is_blocked(inst, rows, &self.decisions, bid, leg)
     }
@@ -83,7 +85,8 @@ impl Node {
     /// The least row of which the yes legs alone use more than the capacity. `None` exactly where there is no such row.
     pub fn overfull<F: RowFamily>(&self, inst: Instance<'_>, rows: &F) -> Option<F::Row>
         requires { IsNode inst.net.now (length inst.bids.now) self.now }
-        ensures { IsLeastOrNone F.Row.cmp (IsOverfull (F.rows_of rows.now inst.entry.net.now) inst.entry.bids.now self.now) result }
+        ensures { IsLeastOrNone F.Row.cmp (IsOverfull (F.rows_of rows.now inst.entry.net.now)
+            inst.entry.bids.now self.now) result }
     {
         least_overfull(inst, rows, &self.decisions)
     }
@@ -100,7 +103,8 @@ impl Node {
     pub fn child(&self, alloc: Global, decision: Decision) -> Result<Node, NoMemory>
         requires { IsUndecided self.now decision.bid decision.leg }
         ensures value { IfOk result (λ child. child ≡ self.now ++ decision ∷ []) }
-        ensures node { (net : Net) (bids : ℕ) → IsNode net bids self.now → IsFormedDecision net bids decision → IfOk result (IsNode net bids) }
+        ensures node { (net : Net) (bids : ℕ) → IsNode net bids self.now
+            → IsFormedDecision net bids decision → IfOk result (IsNode net bids) }
     {
         let mut decisions = Vec::with_capacity(alloc, self.decisions.len() + 1)?;
         decisions.extend_from_slice(&self.decisions)?;

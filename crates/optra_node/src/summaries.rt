@@ -57,7 +57,8 @@ fn by_bid(
     decisions: &[Decision],
 ) -> Result<Vec<Vec<Decision>>, NoMemory>
     requires { All (λ d. d.bid < bids) decisions.now }
-    ensures { IfOk result (λ lists. AreByBid bids decisions.now (map (λ list. list.items) lists.items)) }
+    ensures { IfOk result (λ lists. AreByBid bids decisions.now (map (λ list. list.items)
+        lists.items)) }
 {
     let mut lists = empty_lists(alloc, bids)?;
     for place in 0..decisions.len() {
@@ -79,7 +80,8 @@ impl<'a, F: RowFamily> Summary<'a, F> {
         node: &'a Node,
     ) -> Result<Summary<'a, F>, NoMemory>
         requires { IsNode inst.net.now (length inst.bids.now) node.now }
-        ensures { IfOk result (λ summary. summary ≡ summed rows.now inst.entry.net.now inst.entry.bids.now node.now) }
+        ensures { IfOk result (λ summary. summary
+            ≡ summed rows.now inst.entry.net.now inst.entry.bids.now node.now) }
     {
         let totals = loads(alloc, inst, rows, &node.decisions)?;
         let own = by_bid(alloc, inst.bids.len(), &node.decisions)?;
@@ -112,7 +114,8 @@ impl<'a, F: RowFamily> Summary<'a, F> {
     /// leg is blocked.
     pub fn let_by(&self, bid: u32, leg: Leg) -> bool
         requires { bid < length self.now.bids }
-        ensures { IsTrue result ↔ IsLetBy self.now.net self.now.node bid (kind_at self.now.bids bid) leg }
+        ensures { IsTrue result ↔ IsLetBy self.now.net self.now.node bid (kind_at self.now.bids bid)
+            leg }
     {
         let inst = self.inst;
         let_by(inst.net, kind_at(inst, bid), self.own(bid), bid, leg)
@@ -122,7 +125,8 @@ impl<'a, F: RowFamily> Summary<'a, F> {
     pub fn blocked(&self, bid: u32, leg: Leg) -> bool
         requires bid { bid < length self.now.bids }
         requires leg { IsFormedLeg self.now.net leg }
-        ensures { IsTrue result ↔ IsBlocked (F.rows_of self.now.family self.now.net) self.now.bids self.now.node bid (kind_at self.now.bids bid) leg }
+        ensures { IsTrue result ↔ IsBlocked (F.rows_of self.now.family self.now.net) self.now.bids
+            self.now.node bid (kind_at self.now.bids bid) leg }
     {
         let inst = self.inst;
         is_blocked_beside(
@@ -139,7 +143,8 @@ impl<'a, F: RowFamily> Summary<'a, F> {
     pub fn leg_ok(&self, bid: u32, leg: Leg) -> bool
         requires bid { bid < length self.now.bids }
         requires leg { IsFormedLeg self.now.net leg }
-        ensures { IsTrue result ↔ IsLegOk self.now.net (F.rows_of self.now.family self.now.net) self.now.bids self.now.node bid (kind_at self.now.bids bid) leg }
+        ensures { IsTrue result ↔ IsLegOk self.now.net (F.rows_of self.now.family self.now.net)
+            self.now.bids self.now.node bid (kind_at self.now.bids bid) leg }
     {
         self.let_by(bid, leg) && !self.blocked(bid, leg)
     }

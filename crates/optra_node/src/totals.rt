@@ -22,7 +22,8 @@ pub fn total<R: Copy + Ord>(totals: &BTreeMap<R, u128>, row: R) -> u128
 /// Adds to the total of one row.
 fn raise<R: Copy + Ord>(totals: &mut BTreeMap<R, u128>, row: R, by: u32) -> Result<(), NoMemory>
     requires { total_of R.cmp totals.old row + by < 2 ^ 128 }
-    ensures { OnOk result ((q : R) → total_of R.cmp totals.new q ≡ total_of R.cmp totals.old q + (if is_eq (R.cmp row q) then by else 0)) }
+    ensures { OnOk result ((q : R) → total_of R.cmp totals.new q
+        ≡ total_of R.cmp totals.old q + (if is_eq (R.cmp row q) then by else 0)) }
 {
     let sum = total(totals, row) + u128::from(by);
     totals.insert(row, sum)?;
@@ -39,10 +40,10 @@ pub fn add_leg<F: RowFamily>(
 ) -> Result<(), NoMemory>
     requires usable { IsUsable net.now kind leg }
     requires room { (q : F.Row) → total_of F.Row.cmp totals.old q < 2 ^ 100 }
-    ensures added { OnOk result ((q : F.Row) → total_of F.Row.cmp totals.new q ≡ total_of F.Row.cmp totals.old q + (F.rows_of rows.now net.now).uses kind leg q) }
+    ensures added { OnOk result ((q : F.Row) → total_of F.Row.cmp totals.new q
+        ≡ total_of F.Row.cmp totals.old q + (F.rows_of rows.now net.now).uses kind leg q) }
     ensures few { OnOk result ((q : F.Row) → (F.rows_of rows.now net.now).uses kind leg q ≤ 8192) }
 {
-    let _ = net.track_count();
     for k in 0..8192 {
         let Some(row) = rows.touched(net, kind, leg, k) else {
             return Ok(());
@@ -61,8 +62,11 @@ pub fn add_decision<F: RowFamily>(
 ) -> Result<(), NoMemory>
     requires decision { IsFormedDecision inst.net.now (length inst.bids.now) decision }
     requires room { (q : F.Row) → total_of F.Row.cmp totals.old q < 2 ^ 100 }
-    ensures added { OnOk result ((q : F.Row) → total_of F.Row.cmp totals.new q ≡ total_of F.Row.cmp totals.old q + yes_uses (F.rows_of rows.now inst.entry.net.now) inst.entry.bids.now q decision) }
-    ensures few { OnOk result ((q : F.Row) → yes_uses (F.rows_of rows.now inst.entry.net.now) inst.entry.bids.now q decision ≤ 8192) }
+    ensures added { OnOk result ((q : F.Row) → total_of F.Row.cmp totals.new q
+        ≡ total_of F.Row.cmp totals.old q + yes_uses (F.rows_of rows.now inst.entry.net.now)
+        inst.entry.bids.now q decision) }
+    ensures few { OnOk result ((q : F.Row) → yes_uses (F.rows_of rows.now inst.entry.net.now)
+        inst.entry.bids.now q decision ≤ 8192) }
 {
     let kind = kind_at(inst, decision.bid);
     if decision.yes && may_use(inst.net, decision.leg.track, kind) {
@@ -79,7 +83,8 @@ pub(crate) fn loads<F: RowFamily>(
     decisions: &[Decision],
 ) -> Result<BTreeMap<F::Row, u128>, NoMemory>
     requires { All (IsFormedDecision inst.net.now (length inst.bids.now)) decisions.now }
-    ensures loads { IfOk result (AreLoads F.Row.cmp (F.rows_of rows.now inst.entry.net.now) inst.entry.bids.now decisions.now) }
+    ensures loads { IfOk result (AreLoads F.Row.cmp (F.rows_of rows.now inst.entry.net.now)
+        inst.entry.bids.now decisions.now) }
     ensures few { IfOk result (λ totals. (q : F.Row) → total_of F.Row.cmp totals q < 2 ^ 100) }
 {
     let mut totals = BTreeMap::new(alloc);
@@ -101,10 +106,13 @@ fn is_above<F: RowFamily>(
 ) -> bool
     requires usable { IsUsable inst.net.now kind leg }
     requires formed { All (IsFormedDecision inst.net.now (length inst.bids.now)) own.now }
-    requires within { (q : F.Row) → yes_load (F.rows_of rows.now inst.net.now) inst.bids.now own.now q ≤ total_of F.Row.cmp totals.now q }
+    requires within { (q : F.Row) → yes_load (F.rows_of rows.now inst.net.now) inst.bids.now own.now
+        q ≤ total_of F.Row.cmp totals.now q }
     requires few { (q : F.Row) → total_of F.Row.cmp totals.now q < 2 ^ 100 }
     requires row { (F.rows_of rows.now inst.net.now).is_row row ≡ true }
-    ensures { IsTrue result ↔ ((F.rows_of rows.now inst.entry.net.now).capacity row < (F.rows_of rows.now inst.entry.net.now).uses kind leg row + load_beside F.Row.cmp (F.rows_of rows.now inst.entry.net.now) inst.entry.bids.now totals.now own.now row) }
+    ensures { IsTrue result ↔ ((F.rows_of rows.now inst.entry.net.now).capacity row
+        < (F.rows_of rows.now inst.entry.net.now).uses kind leg row + load_beside F.Row.cmp
+        (F.rows_of rows.now inst.entry.net.now) inst.entry.bids.now totals.now own.now row) }
 {
     let others = total(totals, row) - yes_load(inst, rows, own, row);
     u128::from(rows.cap(inst.net, row))
@@ -123,11 +131,13 @@ fn is_usable_blocked_beside<F: RowFamily>(
 ) -> bool
     requires usable { IsUsable inst.net.now kind leg }
     requires formed { All (IsFormedDecision inst.net.now (length inst.bids.now)) own.now }
-    requires within { (q : F.Row) → yes_load (F.rows_of rows.now inst.net.now) inst.bids.now own.now q ≤ total_of F.Row.cmp totals.now q }
+    requires within { (q : F.Row) → yes_load (F.rows_of rows.now inst.net.now) inst.bids.now own.now
+        q ≤ total_of F.Row.cmp totals.now q }
     requires few { (q : F.Row) → total_of F.Row.cmp totals.now q < 2 ^ 100 }
-    ensures { IsTrue result ↔ IsBlockedBeside (F.rows_of rows.now inst.entry.net.now) (load_beside F.Row.cmp (F.rows_of rows.now inst.entry.net.now) inst.entry.bids.now totals.now own.now) kind leg }
+    ensures { IsTrue result ↔ IsBlockedBeside (F.rows_of rows.now inst.entry.net.now) (load_beside
+        F.Row.cmp (F.rows_of rows.now inst.entry.net.now) inst.entry.bids.now totals.now own.now)
+        kind leg }
 {
-    let _ = inst.net.track_count();
     for k in 0..8192 {
         let Some(row) = rows.touched(inst.net, kind, leg, k) else {
             return false;
@@ -151,9 +161,12 @@ pub fn is_blocked_beside<F: RowFamily>(
 ) -> bool
     requires leg { IsFormedLeg inst.net.now leg }
     requires formed { All (IsFormedDecision inst.net.now (length inst.bids.now)) own.now }
-    requires within { (q : F.Row) → yes_load (F.rows_of rows.now inst.net.now) inst.bids.now own.now q ≤ total_of F.Row.cmp totals.now q }
+    requires within { (q : F.Row) → yes_load (F.rows_of rows.now inst.net.now) inst.bids.now own.now
+        q ≤ total_of F.Row.cmp totals.now q }
     requires few { (q : F.Row) → total_of F.Row.cmp totals.now q < 2 ^ 100 }
-    ensures { IsTrue result ↔ IsBlockedBeside (F.rows_of rows.now inst.entry.net.now) (load_beside F.Row.cmp (F.rows_of rows.now inst.entry.net.now) inst.entry.bids.now totals.now own.now) kind leg }
+    ensures { IsTrue result ↔ IsBlockedBeside (F.rows_of rows.now inst.entry.net.now) (load_beside
+        F.Row.cmp (F.rows_of rows.now inst.entry.net.now) inst.entry.bids.now totals.now own.now)
+        kind leg }
 {
     may_use(inst.net, leg.track, kind)
         && is_usable_blocked_beside(inst, rows, totals, own, kind, leg)

@@ -39,7 +39,8 @@ impl<'n> GraphStore<'n> {
 
     /// Holds nothing yet.
     pub fn new(alloc: Global, net: &'n Network) -> Result<GraphStore<'n>, NoMemory>
-        ensures { IfOk result (λ store. store ≡ record { network = net.now; held = []; built = 0 }) }
+        ensures { IfOk result (λ store. store
+            ≡ record { network = net.now; held = []; built = 0 }) }
     {
         Ok(GraphStore {
             alloc,

@@ -27,7 +27,10 @@ pub struct HeadwayRows;
 impl HeadwayRows {
     /// The family of headway rows, which takes no memory.
     pub fn new() -> HeadwayRows
-        ensures { (net : Net) (bids : List Bid) (walks : List (Option (List Step))) → IsProper net → All (λ e. IsUsable net e.0 e.1) (entries_of bids walks) → KeepsHeadways net (uses_of bids walks) ↔ FitRows (headway_rows net) (entries_of bids walks) }
+        ensures { (net : Net) (bids : List Bid) (walks : List (Option (List Step))) → IsProper net
+            → All (λ e. IsUsable net e.0 e.1) (entries_of bids walks)
+            → KeepsHeadways net (uses_of bids walks)
+            ↔ FitRows (headway_rows net) (entries_of bids walks) }
     {
         HeadwayRows
     }
@@ -37,7 +40,7 @@ impl HeadwayRows {
 pub fn headway_rows_are_few(net: &Network)
     ensures { AreFewHeadways net.now }
 {
-    let _proper = net.track_count();
+    net.laws();
 }
 
 impl RowFamily for HeadwayRows {
@@ -73,7 +76,7 @@ impl RowFamily for HeadwayRows {
         ensures row { result ≡ (headway_rows net.now).is_row row }
         ensures rule { IsTrue result ↔ IsHeadwayRow net.now row }
     {
-        let _ = net.track_count();
+        net.laws();
         is_row(net, row)
     }
 
@@ -136,7 +139,8 @@ fn first_over(partners: &[Partner], time: Minute) -> usize
 fn pair_at(partners: &[Partner], track: TrackId, kind: TypeId, time: Minute, k: u32) -> Option<HRow>
     requires time { time ≤ 2879 }
     requires order { ShiftsRise partners.now }
-    ensures { result ≡ option_map (pair_of track kind time) (kept (is_not_over time) (slice_get partners.now (position_or_len (is_started time) partners.now + k))) }
+    ensures { result ≡ option_map (pair_of track kind time) (kept (is_not_over time)
+        (slice_get partners.now (position_or_len (is_started time) partners.now + k))) }
 {
     let start = first_started(partners, time);
     let partner = partners.get(start + k as usize)?;
@@ -208,7 +212,7 @@ fn least_of(net: &Network, track: TrackId, kind: TypeId) -> u16
     ensures most { result ≤ 120 }
     ensures proper { IsProper net.now }
 {
-    let _ = net.track_count();
+    net.laws();
     net.hmin(track, kind).unwrap_or(0)
 }
 
@@ -235,7 +239,8 @@ fn is_pair(
 /// Whether the second minute is at least the first number of minutes after the first one, and less than the second
 /// number.
 fn is_apart(least: u16, headway: u16, first_at: Minute, second_at: Minute) -> bool
-    ensures { result ≡ (nat_le (first_at + least) second_at && nat_lt second_at (first_at + headway)) }
+    ensures { result ≡ (nat_le (first_at + least) second_at && nat_lt second_at (first_at
+        + headway)) }
 {
     let (first_at, second_at) = (u32::from(first_at), u32::from(second_at));
     first_at + u32::from(least) <= second_at && second_at < first_at + u32::from(headway)

@@ -110,7 +110,6 @@ impl<A: RowFamily, B: RowFamily> RowFamily for Both<A, B> {
     }
 
     fn used_count(&self, net: &Network, kind: TypeId, leg: Leg) -> u32 {
-        let _ = net.track_count();
         self.first.used_count(net, kind, leg) + self.second.used_count(net, kind, leg)
     }
 

@@ -11,11 +11,12 @@ use std::alloc::Global;
 use std::collections::BTreeMap;
 
 /// How much legs use of each row of a family, in totals that are kept only of rows that some leg has touched. A row that
-/// isn't kept has the total 0, and no caller can tell it from one that is kept with 0.
+/// isn't kept has the total 0.
 #[derive(Drop)]
 pub struct Load<F: RowFamily> {
-    totals: BTreeMap<F::Row, u64>,
-    ghost bounded: { (row : F.Row) → total_of F.Row.cmp totals row < 2 ^ 62 },
+    /// The totals of rows that some leg has touched, each below 2^62.
+    pub totals: BTreeMap<F::Row, u64>,
+    pub ghost bounded: { (row : F.Row) → total_of F.Row.cmp totals row < 2 ^ 62 },
 }
 
 impl<F: RowFamily> Load<F> {
@@ -32,9 +33,13 @@ impl<F: RowFamily> Load<F> {
     /// had, no total has changed.
     pub fn add(&mut self, net: &Network, rows: &F, kind: TypeId, leg: Leg) -> Result<(), NoMemory>
         requires usable { IsUsable net.now kind leg }
-        requires below { (row : F.Row) → total_of F.Row.cmp self.old.totals row + (F.rows_of rows.now net.now).uses kind leg row < 2 ^ 62 }
-        ensures ok { OnOk result ((row : F.Row) → total_of F.Row.cmp self.new.totals row ≡ total_of F.Row.cmp self.old.totals row + (F.rows_of rows.now net.now).uses kind leg row) }
-        ensures err { OnErr result ((row : F.Row) → total_of F.Row.cmp self.new.totals row ≡ total_of F.Row.cmp self.old.totals row) }
+        requires below { (row : F.Row) → total_of F.Row.cmp self.old.totals row
+            + (F.rows_of rows.now net.now).uses kind leg row < 2 ^ 62 }
+        ensures ok { OnOk result ((row : F.Row) → total_of F.Row.cmp self.new.totals row
+            ≡ total_of F.Row.cmp self.old.totals row + (F.rows_of rows.now net.now).uses kind leg
+            row) }
+        ensures err { OnErr result ((row : F.Row) → total_of F.Row.cmp self.new.totals row
+            ≡ total_of F.Row.cmp self.old.totals row) }
     {
         keep_all(&mut self.totals, net, rows, kind, leg)?;
         raise_all(&mut self.totals, net, rows, kind, leg);
@@ -44,8 +49,11 @@ impl<F: RowFamily> Load<F> {
     /// Takes the uses of a usable leg of the type away from the totals. Each of these totals must be at least the use.
     pub fn take(&mut self, net: &Network, rows: &F, kind: TypeId, leg: Leg)
         requires usable { IsUsable net.now kind leg }
-        requires enough { (row : F.Row) → (F.rows_of rows.now net.now).uses kind leg row ≤ total_of F.Row.cmp self.old.totals row }
-        ensures { (row : F.Row) → total_of F.Row.cmp self.new.totals row + (F.rows_of rows.now net.now).uses kind leg row ≡ total_of F.Row.cmp self.old.totals row }
+        requires enough { (row : F.Row) → (F.rows_of rows.now net.now).uses kind leg row
+            ≤ total_of F.Row.cmp self.old.totals row }
+        ensures { (row : F.Row) → total_of F.Row.cmp self.new.totals row
+            + (F.rows_of rows.now net.now).uses kind leg row
+            ≡ total_of F.Row.cmp self.old.totals row }
     {
         lower_all(&mut self.totals, net, rows, kind, leg);
     }
@@ -53,9 +61,9 @@ impl<F: RowFamily> Load<F> {
     /// Whether a usable leg of the type fits: no row that it uses would get above its capacity.
     pub fn fits(&self, net: &Network, rows: &F, kind: TypeId, leg: Leg) -> bool
         requires { IsUsable net.now kind leg }
-        ensures { IsTrue result ↔ HasRoom (F.rows_of rows.now net.now) (total_of F.Row.cmp self.now.totals) kind leg }
+        ensures { IsTrue result ↔ HasRoom (F.rows_of rows.now net.now) (total_of F.Row.cmp
+            self.now.totals) kind leg }
     {
-        let _ = net.track_count();
         for k in 0..8192 {
             let Some(row) = rows.touched(net, kind, leg, k) else {
                 return true;
@@ -92,7 +100,8 @@ fn keep<R: Copy + Ord>(totals: &mut BTreeMap<R, u64>, row: R) -> Result<(), NoMe
 fn raise<R: Copy + Ord>(totals: &mut BTreeMap<R, u64>, row: R, by: u64)
     requires kept { IsSome (get R.cmp totals.old row) }
     requires fits { total_of R.cmp totals.old row + by < 2 ^ 64 }
-    ensures raised { (q : R) → total_of R.cmp totals.new q ≡ total_of R.cmp totals.old q + (if is_eq (R.cmp row q) then by else 0) }
+    ensures raised { (q : R) → total_of R.cmp totals.new q ≡ total_of R.cmp totals.old q
+        + (if is_eq (R.cmp row q) then by else 0) }
     ensures kept { (q : R) → IsSome (get R.cmp totals.old q) → IsSome (get R.cmp totals.new q) }
 {
     if let Some(total) = totals.get_mut(&row) {
@@ -103,7 +112,8 @@ fn raise<R: Copy + Ord>(totals: &mut BTreeMap<R, u64>, row: R, by: u64)
 /// Takes away from a total.
 fn lower<R: Copy + Ord>(totals: &mut BTreeMap<R, u64>, row: R, by: u64)
     requires { by ≤ total_of R.cmp totals.old row }
-    ensures { (q : R) → total_of R.cmp totals.new q + (if is_eq (R.cmp row q) then by else 0) ≡ total_of R.cmp totals.old q }
+    ensures { (q : R) → total_of R.cmp totals.new q + (if is_eq (R.cmp row q) then by else 0)
+        ≡ total_of R.cmp totals.old q }
 {
     if let Some(total) = totals.get_mut(&row) {
         *total -= by;
@@ -119,10 +129,11 @@ fn keep_all<F: RowFamily>(
     leg: Leg,
 ) -> Result<(), NoMemory>
     requires usable { IsUsable net.now kind leg }
-    ensures totals { (q : F.Row) → total_of F.Row.cmp totals.new q ≡ total_of F.Row.cmp totals.old q }
-    ensures kept { OnOk result ((q : F.Row) → 0 < (F.rows_of rows.now net.now).uses kind leg q → IsSome (get F.Row.cmp totals.new q)) }
+    ensures totals { (q : F.Row) → total_of F.Row.cmp totals.new q
+        ≡ total_of F.Row.cmp totals.old q }
+    ensures kept { OnOk result ((q : F.Row) → 0 < (F.rows_of rows.now net.now).uses kind leg q
+        → IsSome (get F.Row.cmp totals.new q)) }
 {
-    let _ = net.track_count();
     for k in 0..8192 {
         let Some(row) = rows.touched(net, kind, leg, k) else {
             break;
@@ -141,11 +152,13 @@ fn raise_all<F: RowFamily>(
     leg: Leg,
 )
     requires usable { IsUsable net.now kind leg }
-    requires bound { (q : F.Row) → total_of F.Row.cmp totals.old q + (F.rows_of rows.now net.now).uses kind leg q < 2 ^ 62 }
-    requires kept { (q : F.Row) → 0 < (F.rows_of rows.now net.now).uses kind leg q → IsSome (get F.Row.cmp totals.old q) }
-    ensures { (q : F.Row) → total_of F.Row.cmp totals.new q ≡ total_of F.Row.cmp totals.old q + (F.rows_of rows.now net.now).uses kind leg q }
+    requires bound { (q : F.Row) → total_of F.Row.cmp totals.old q
+        + (F.rows_of rows.now net.now).uses kind leg q < 2 ^ 62 }
+    requires kept { (q : F.Row) → 0 < (F.rows_of rows.now net.now).uses kind leg q
+        → IsSome (get F.Row.cmp totals.old q) }
+    ensures { (q : F.Row) → total_of F.Row.cmp totals.new q ≡ total_of F.Row.cmp totals.old q
+        + (F.rows_of rows.now net.now).uses kind leg q }
 {
-    let _ = net.track_count();
     for k in 0..8192 {
         let Some(row) = rows.touched(net, kind, leg, k) else {
             return;
@@ -163,10 +176,11 @@ fn lower_all<F: RowFamily>(
     leg: Leg,
 )
     requires usable { IsUsable net.now kind leg }
-    requires enough { (q : F.Row) → (F.rows_of rows.now net.now).uses kind leg q ≤ total_of F.Row.cmp totals.old q }
-    ensures { (q : F.Row) → total_of F.Row.cmp totals.new q + (F.rows_of rows.now net.now).uses kind leg q ≡ total_of F.Row.cmp totals.old q }
+    requires enough { (q : F.Row) → (F.rows_of rows.now net.now).uses kind leg q
+        ≤ total_of F.Row.cmp totals.old q }
+    ensures { (q : F.Row) → total_of F.Row.cmp totals.new q + (F.rows_of rows.now net.now).uses kind
+        leg q ≡ total_of F.Row.cmp totals.old q }
 {
-    let _ = net.track_count();
     for k in 0..8192 {
         let Some(row) = rows.touched(net, kind, leg, k) else {
             return;

@@ -51,6 +51,7 @@ module _ (net : Net) (proper : IsProper net) (path : Path) (legs : List Leg) (wa
 
 pub walk_usable : (net : Net) → IsProper net → (bid : Bid) (legs : List Leg) → IsWalk net bid.path legs → All (IsUsable net bid.path.kind) legs
 walk_usable net proper bid legs walk k d l = record {
+  proper = proper;
   may_use = walk.may_use k d l;
   depart = ends (last_leg legs) refl walk.end;
   dwell = dwells (get_or legs k d).action refl;

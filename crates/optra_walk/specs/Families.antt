@@ -2,7 +2,7 @@
 use Rattle.std.specs.Prelude.{◌≡◌, ℕ, ◌≤◌, ◌<◌, ◌↔◌, Bool, true, List, [], ◌∷◌, ◌++◌, map, length, sum_by, All, Contains, Option, None, Some, ⊤}
 use Rattle.std.specs.declared.cmp.Ordering.{Ordering}
 use Rattle.std.specs.declared.cmp.Ordering.TheVariants.{Less, Equal}
-use Rattle.optra_network.specs.Net.{Net, MayUse}
+use Rattle.optra_network.specs.Net.{Net, IsProper, MayUse}
 use Rattle.optra_network.specs.declared.TypeId.{TypeId}
 use Rattle.optra_bid.specs.declared.bids.Bid.{Bid}
 use Rattle.optra_walk.specs.declared.Leg.{Leg}
@@ -12,8 +12,9 @@ use Rattle.optra_walk.specs.Legs.{dwell_of}
 abbrev pub Entry : Type 0
 Entry = TypeId × Leg
 
--- the type may use the track, and the leg departs by minute 2,879 and dwells at most 240 minutes
+-- on a network that Builder::finish made, the type may use the track, and the leg departs by minute 2,879 and dwells at most 240 minutes
 pub record IsUsable (net : Net) (kind : TypeId) (leg : Leg) : Type 0 where
+  pub proper : IsProper net
   pub may_use : MayUse net leg.track kind
   pub depart : leg.depart ≤ 2879
   pub dwell : dwell_of leg.action ≤ 240

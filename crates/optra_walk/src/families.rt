@@ -68,7 +68,8 @@ pub trait RowFamily {
     fn use_alike(&self, net: &Network, kind: TypeId, first: Leg, second: Leg) -> bool
         requires first { IsUsable net.now kind first }
         requires second { IsUsable net.now kind second }
-        ensures { result ≡ true → UseAlike (rows_of self.now net.now) (rows_used self.now net.now) kind first second }
+        ensures { result ≡ true
+            → UseAlike (rows_of self.now net.now) (rows_used self.now net.now) kind first second }
     {
         let _ = net;
         let _ = kind;

@@ -167,7 +167,8 @@ fn finishes_last(legs: &[Leg]) -> bool
 
 /// Whether the halts meet the stops one for one, in their order.
 fn meets_stops(net: &Network, kind: TypeId, legs: &[Leg], stops: &[Stop]) -> bool
-    ensures { IsTrue result ↔ AllZip (MeetsStop net.now kind) (filter (λ leg. is_halt leg.action) legs.now) stops.now }
+    ensures { IsTrue result
+        ↔ AllZip (MeetsStop net.now kind) (filter (λ leg. is_halt leg.action) legs.now) stops.now }
 {
     let mut rest = stops;
     for leg in legs {
@@ -205,7 +206,7 @@ pub fn follows(net: &Network, bid: &Bid, legs: &[Leg]) -> bool
     ensures few { IsTrue result → (0 < length legs.now) × (length legs.now < 2880) }
 {
     let is_walk = obeys_rules(net, bid, legs);
-    let _proper = net.track_count();
+    net.laws();
     is_walk
 }
 

@@ -4,17 +4,18 @@
 //! No call of this crate takes memory.
 #![tactic(auto)]
 
-use optra_bid::Bid;
-use optra_network::{Minute, Network, TrackId};
+use optra_network::{Minute, TrackId};
 use std::marker::Model;
 
 mod families;
 mod following;
+mod instance;
 mod ordering;
 mod valuing;
 
 pub use families::RowFamily;
 pub use following::{arrival, follows, next_depart};
+pub use instance::Instance;
 pub use ordering::walk_order;
 pub use valuing::value;
 
@@ -69,12 +70,4 @@ impl Model for Choice {
     ghost Value = { List (Option (List Leg)) };
 
     ghost view = { λ a. a.walks.items };
-}
-
-/// The bids that are planned together on a network. Calls that take one need at most 1,000 bids, whose types, ends and
-/// stop stations are positions of the network.
-#[derive(Clone, Copy)]
-pub struct Instance<'a> {
-    pub net: &'a Network,
-    pub bids: &'a [Bid],
 }

@@ -21,7 +21,7 @@ pub fn value(net: &Network, bid: &Bid, legs: &[Leg]) -> Cents
     ensures value { result ≡ value_of net.now bid.now.path bid.now.money legs.now }
     ensures bound { IsValue result }
 {
-    let _proper = net.track_count();
+    net.laws();
     let path = &bid.path;
     let (Some(first), Some(last)) = (legs.first(), legs.last()) else {
         unreachable!()

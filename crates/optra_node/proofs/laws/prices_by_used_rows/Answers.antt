@@ -23,7 +23,7 @@ pub returns : goal.returns
 returns g c prices kind leg usable =
     let net = c.args.inst.net.now in
     let f = c.args.rows.now in
-    let proper = c.track_count.ensures.proper in
+    let proper = c.args.inst.proper in
     let uses = (g.F.RowFamily.rows_of f net).uses kind leg in
     let rows = g.F.RowFamily.rows_used f net kind leg in
     let cmp = g.F.Row.Ord.cmp in

@@ -5,5 +5,5 @@ pub returns : goal.returns
 returns g c node number bid legs walk =
     let net = c.args.inst.net.now in
     let rows = g.F.RowFamily.rows_of c.args.rows.now net in
-    let proper = c.track_count.ensures.proper in
+    let proper = c.args.inst.proper in
     (tests_pass net proper rows c.args.inst.bids.now node number bid legs walk, passes_allowed net proper rows c.args.inst.bids.now node number bid legs walk)
