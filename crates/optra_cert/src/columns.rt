@@ -31,7 +31,7 @@ pub fn station_in(net: &Network, field: &[u8]) -> Option<StationId>
 pub fn track_in(net: &Network, field: &[u8]) -> Option<TrackId>
     ensures { option_map (λ track. track.0) result ≡ told_in net.now a_track field.now }
 {
-    let _proper = net.track_count();
+    net.laws();
     match str::from_utf8(field) {
         Ok(name) => net.track_id(name),
         Err(_) => None,

@@ -75,7 +75,8 @@ pub fn bid_told(bids: usize, row: &ByteRecord) -> Result<u32, Refusal>
 /// The position of the bid and the leg that stand behind the word.
 pub fn leg_told(net: &Network, bids: usize, row: &ByteRecord) -> Result<(u32, Leg), Refusal>
     requires { bids ≤ 1000 }
-    ensures gives { Gives (λ told. told) result (leg_told net.now bids (drop 1 (fields_of row.now))) }
+    ensures gives { Gives (λ told. told) result
+        (leg_told net.now bids (drop 1 (fields_of row.now))) }
     ensures there { IfOk result (λ told. told.0 < bids) }
 {
     if row.len() != 7 {

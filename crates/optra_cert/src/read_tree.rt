@@ -106,7 +106,9 @@ impl<R: Copy + Ord> ReadTree<R> {
     /// Adds a price, of which one less is to come.
     fn push_price(&mut self, row: R, price: i64) -> Result<(), NoMemory>
         requires { 0 < self.old.due }
-        ensures { OnOk result (self.new ≡ record self.old { due = self.old.due - 1; prices = self.old.prices ++ (row, price) ∷ [] }) }
+        ensures { OnOk result (self.new
+            ≡ record self.old
+            { due = self.old.due - 1; prices = self.old.prices ++ (row, price) ∷ [] }) }
     {
         self.prices.push((row, price))?;
         self.due -= 1;

@@ -38,12 +38,12 @@ pub fn read_certificate<F: RowText>(
     rows: &F,
     bytes: &[u8],
 ) -> Result<Certificate<F::Row>, CertError>
-    requires few { length inst.bids.now ≤ 1000 }
     requires apart { AreApart (F.texts_of rows.now).kinds }
-    ensures ok { IfOk result (IsTextOf F.Row.cmp (F.texts_of rows.now) inst.entry.net.now (length inst.entry.bids.now) bytes.now) }
-    ensures err { IfErr result (IsAnswer F.Row.cmp (F.texts_of rows.now) inst.entry.net.now (length inst.entry.bids.now) bytes.now) }
+    ensures ok { IfOk result (IsTextOf F.Row.cmp (F.texts_of rows.now) inst.entry.net.now
+        (length inst.entry.bids.now) bytes.now) }
+    ensures err { IfErr result (IsAnswer F.Row.cmp (F.texts_of rows.now) inst.entry.net.now
+        (length inst.entry.bids.now) bytes.now) }
 {
-    let _proper = inst.net.track_count();
     let most = rows.version();
     read_text(alloc, inst, rows, most, bytes)
 }
@@ -64,11 +64,10 @@ fn read_text<F: RowText>(
     most: u8,
     bytes: &[u8],
 ) -> Result<Certificate<F::Row>, CertError>
-    requires few { length inst.bids.now ≤ 1000 }
     requires apart { AreApart (F.texts_of rows.now).kinds }
     requires most { most ≡ (F.texts_of rows.now).version }
-    ensures { Reads (λ cert. cert) result
-        (read_text F.Row.cmp (F.texts_of rows.now) inst.entry.net.now (length inst.entry.bids.now) bytes.now) }
+    ensures { Reads (λ cert. cert) result (read_text F.Row.cmp (F.texts_of rows.now)
+        inst.entry.net.now (length inst.entry.bids.now) bytes.now) }
 {
     if !is_canonical(alloc, bytes)? {
         return fault(CertCode::Csv, 0);
@@ -86,12 +85,11 @@ fn read_records<F: RowText>(
     most: u8,
     records: &mut Records<'_>,
 ) -> Result<Certificate<F::Row>, CertError>
-    requires few { length inst.bids.now ≤ 1000 }
     requires apart { AreApart (F.texts_of rows.now).kinds }
     requires most { most ≡ (F.texts_of rows.now).version }
     requires fits { length records.old + 2 < 2 ^ 64 }
-    ensures { Reads (λ cert. cert) result
-        (read_records F.Row.cmp (F.texts_of rows.now) inst.entry.net.now (length inst.entry.bids.now) records.old) }
+    ensures { Reads (λ cert. cert) result (read_records F.Row.cmp (F.texts_of rows.now)
+        inst.entry.net.now (length inst.entry.bids.now) records.old) }
 {
     let mut row = ByteRecord::new(alloc);
     let Some(version) = read_version(records, &mut row, most)? else {
@@ -143,8 +141,8 @@ fn read_rows<F: RowText>(
     requires few { length frame.now.inst.bids.now ≤ 1000 }
     requires can { CanRead (F.texts_of frame.now.rows.now) frame.now.version }
     requires fits { length records.old + 2 < 2 ^ 64 }
-    ensures { Reads (λ cert. cert) result
-        (read_rows F.Row.cmp (F.texts_of frame.now.rows.now) frame.now.inst.net.now (length frame.now.inst.bids.now) frame.now.version
+    ensures { Reads (λ cert. cert) result (read_rows F.Row.cmp (F.texts_of frame.now.rows.now)
+        frame.now.inst.net.now (length frame.now.inst.bids.now) frame.now.version
         (started (length frame.now.inst.bids.now)) 2 records.old) }
 {
     let mut reading = Reading::new(alloc, frame.inst.bids.len())?;
@@ -173,8 +171,8 @@ fn take_row<F: RowText>(
     requires can { CanRead (F.texts_of frame.now.rows.now) frame.now.version }
     requires each { length reading.old.walks.choice ≡ length frame.now.inst.bids.now }
     ensures { Reads (λ _. reading.new) result
-        (in_row number (step F.Row.cmp (F.texts_of frame.now.rows.now) frame.now.inst.net.now (length frame.now.inst.bids.now)
-        frame.now.version reading.old (fields_of row.now))) }
+        (in_row number (step F.Row.cmp (F.texts_of frame.now.rows.now) frame.now.inst.net.now
+        (length frame.now.inst.bids.now) frame.now.version reading.old (fields_of row.now))) }
 {
     match step(alloc, frame, reading, cells, row) {
         Ok(()) => Ok(()),

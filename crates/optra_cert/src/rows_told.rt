@@ -21,7 +21,8 @@ const MOST_FIELDS: usize = 32;
 /// Puts bytes at a place of cells.
 fn put(alloc: Global, cells: &mut Vec<Cell>, i: usize, bytes: &[u8]) -> Result<(), NoMemory>
     requires { i ≤ length cells.old.items }
-    ensures put { OnOk result (take (i + 1) cells.new.items ≡ take i cells.old.items ++ bytes.now ∷ []) }
+    ensures put { OnOk result (take (i + 1) cells.new.items ≡ take i cells.old.items ++ bytes.now
+        ∷ []) }
     ensures room { OnOk result (i < length cells.new.items) }
 {
     if i < cells.len() {
@@ -60,7 +61,8 @@ pub fn row_told<F: RowText>(
 ) -> Result<F::Row, Refusal>
     requires few { n ≤ length (fields_of row.now) - 1 }
     requires can { CanRead (F.texts_of frame.now.rows.now) frame.now.version }
-    ensures { Gives (λ told. told) result (row_or_fault (read_row (F.texts_of frame.now.rows.now) frame.now.inst.net.now frame.now.version (take n (drop 1 (fields_of row.now))))) }
+    ensures { Gives (λ told. told) result (row_or_fault (read_row (F.texts_of frame.now.rows.now)
+        frame.now.inst.net.now frame.now.version (take n (drop 1 (fields_of row.now))))) }
 {
     // More fields tell no row, so they aren't held once more.
     if n > MOST_FIELDS {
@@ -103,7 +105,8 @@ pub fn price_told<F: RowText>(
     row: &ByteRecord,
 ) -> Result<(F::Row, Cents), Refusal>
     requires { CanRead (F.texts_of frame.now.rows.now) frame.now.version }
-    ensures { Gives (λ told. told) result (price_told (F.texts_of frame.now.rows.now) frame.now.inst.net.now frame.now.version (drop 1 (fields_of row.now))) }
+    ensures { Gives (λ told. told) result (price_told (F.texts_of frame.now.rows.now)
+        frame.now.inst.net.now frame.now.version (drop 1 (fields_of row.now))) }
 {
     let n = row.len().saturating_sub(2);
     let told = row_told(alloc, frame, cells, row, n)?;

@@ -26,8 +26,10 @@ pub fn write_certificate<F: RowText>(
     cert: &Certificate<F::Row>,
 ) -> Result<Vec<u8>, NoMemory>
     requires apart { AreApart (F.texts_of rows.now).kinds }
-    requires writable { IsWritable F.Row.cmp (F.texts_of rows.now) inst.net.now (length inst.bids.now) (F.texts_of rows.now).version cert.now }
-    ensures { IfOk result (λ text. text.items ≡ cert_text (F.texts_of rows.now) inst.entry.net.now (F.texts_of rows.now).version cert.now) }
+    requires writable { IsWritable F.Row.cmp (F.texts_of rows.now) inst.net.now
+        (length inst.bids.now) (F.texts_of rows.now).version cert.now }
+    ensures { IfOk result (λ text. text.items ≡ cert_text (F.texts_of rows.now) inst.entry.net.now
+        (F.texts_of rows.now).version cert.now) }
 {
     let mut printer = Printer::new(alloc);
     let mut fields = Fields::new(alloc);
@@ -52,7 +54,8 @@ fn print_head(
     revenue: Cents,
     bound: Cents,
 ) -> Result<(), NoMemory>
-    ensures { OnOk result (printer.new ≡ printer.old ++ records_text (head_records version revenue bound)) }
+    ensures { OnOk result (printer.new ≡ printer.old ++ records_text (head_records version revenue
+        bound)) }
 {
     print_count(printer, fields, "optra-certificate", u64::from(version))?;
     print_amount(printer, fields, "revenue", revenue)?;
@@ -66,7 +69,8 @@ fn print_amount(
     word: &str,
     amount: Cents,
 ) -> Result<(), NoMemory>
-    ensures { OnOk result (printer.new ≡ printer.old ++ record_text (word.now ∷ signed_decimal amount ∷ [])) }
+    ensures { OnOk result (printer.new ≡ printer.old
+        ++ record_text (word.now ∷ signed_decimal amount ∷ [])) }
 {
     fields.clear();
     fields.text(word)?;
@@ -81,7 +85,8 @@ fn print_count(
     word: &str,
     count: u64,
 ) -> Result<(), NoMemory>
-    ensures { OnOk result (printer.new ≡ printer.old ++ record_text (word.now ∷ decimal count ∷ [])) }
+    ensures { OnOk result (printer.new ≡ printer.old ++ record_text (word.now ∷ decimal count
+        ∷ [])) }
 {
     fields.clear();
     fields.text(word)?;
@@ -97,7 +102,8 @@ fn print_walks(
     walks: &[Option<Walk>],
 ) -> Result<(), NoMemory>
     requires { All (λ walk. IfSome walk (IsFormedWalk net.now)) walks.now }
-    ensures { OnOk result (printer.new ≡ printer.old ++ records_text (leg_records net.now 0 walks.now)) }
+    ensures { OnOk result (printer.new ≡ printer.old
+        ++ records_text (leg_records net.now 0 walks.now)) }
 {
     'walks: for (i, walk) in walks.iter().enumerate() {
         if let Some(walk) = walk {
@@ -117,7 +123,8 @@ fn print_legs(
 ) -> Result<(), NoMemory>
     requires few { bid < 2 ^ 63 }
     requires formed { All (IsFormedLeg net.now) legs.now }
-    ensures { OnOk result (printer.new ≡ printer.old ++ records_text (map (leg_record net.now (codes "leg") bid) legs.now)) }
+    ensures { OnOk result (printer.new ≡ printer.old
+        ++ records_text (map (leg_record net.now (codes "leg") bid) legs.now)) }
 {
     'legs: for leg in legs {
         print_leg(printer, fields, net, "leg", bid, *leg)?;
@@ -136,7 +143,8 @@ fn print_leg(
 ) -> Result<(), NoMemory>
     requires few { bid < 2 ^ 63 }
     requires formed { IsFormedLeg net.now leg }
-    ensures { OnOk result (printer.new ≡ printer.old ++ record_text (leg_record net.now word.now bid leg)) }
+    ensures { OnOk result (printer.new ≡ printer.old ++ record_text (leg_record net.now word.now bid
+        leg)) }
 {
     fields.clear();
     fields.text(word)?;
@@ -188,7 +196,8 @@ fn print_items<F: RowText>(
     tree: &[Item<F::Row>],
 ) -> Result<(), NoMemory>
     requires { All (IsPrintable (F.texts_of rows.now) net.now) tree.now }
-    ensures { OnOk result (printer.new ≡ printer.old ++ records_text (flat_map (item_records (F.texts_of rows.now) net.now) tree.now)) }
+    ensures { OnOk result (printer.new ≡ printer.old
+        ++ records_text (flat_map (item_records (F.texts_of rows.now) net.now) tree.now)) }
 {
     'items: for item in tree {
         print_item(alloc, printer, fields, net, rows, item)?;
@@ -206,7 +215,8 @@ fn print_item<F: RowText>(
     item: &Item<F::Row>,
 ) -> Result<(), NoMemory>
     requires { IsPrintable (F.texts_of rows.now) net.now item.now }
-    ensures { OnOk result (printer.new ≡ printer.old ++ records_text (item_records (F.texts_of rows.now) net.now item.now)) }
+    ensures { OnOk result (printer.new ≡ printer.old
+        ++ records_text (item_records (F.texts_of rows.now) net.now item.now)) }
 {
     match item {
         Item::Split { bid, leg } => {
@@ -233,7 +243,9 @@ fn print_prices<F: RowText>(
     prices: &Prices<F::Row>,
 ) -> Result<(), NoMemory>
     requires { All (λ e. IsKnownRow (F.texts_of rows.now) net.now e.0) prices.now }
-    ensures { OnOk result (printer.new ≡ printer.old ++ records_text ((codes "priced" ∷ decimal (length prices.now) ∷ []) ∷ map (price_record (F.texts_of rows.now) net.now) prices.now)) }
+    ensures { OnOk result (printer.new ≡ printer.old
+        ++ records_text ((codes "priced" ∷ decimal (length prices.now) ∷ [])
+        ∷ map (price_record (F.texts_of rows.now) net.now) prices.now)) }
 {
     let entries = prices.entries.as_slice();
     print_count(printer, fields, "priced", entries.len() as u64)?;
@@ -250,7 +262,8 @@ fn print_entries<F: RowText>(
     entries: &[(F::Row, i64)],
 ) -> Result<(), NoMemory>
     requires { All (λ e. IsKnownRow (F.texts_of rows.now) net.now e.0) entries.now }
-    ensures { OnOk result (printer.new ≡ printer.old ++ records_text (map (price_record (F.texts_of rows.now) net.now) entries.now)) }
+    ensures { OnOk result (printer.new ≡ printer.old
+        ++ records_text (map (price_record (F.texts_of rows.now) net.now) entries.now)) }
 {
     'entries: for entry in entries {
         let (row, price) = *entry;
@@ -272,7 +285,8 @@ fn add_row<F: RowText>(
     row: F::Row,
 ) -> Result<(), NoMemory>
     requires { IsKnownRow (F.texts_of rows.now) net.now row }
-    ensures { OnOk result (fields.new ≡ fields.old ++ row_fields (F.texts_of rows.now) net.now row) }
+    ensures { OnOk result (fields.new ≡ fields.old ++ row_fields (F.texts_of rows.now) net.now
+        row) }
 {
     let cells = rows.fields(alloc, net, row)?;
     add_cells(fields, &cells)

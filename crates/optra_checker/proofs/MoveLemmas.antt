@@ -158,7 +158,7 @@ module _ (w : Weights) (net : Net) (bid : Bid) (table : RestTable) (s : State) (
   usable way by for a few =
       let late = ready.placed.late in
       let end = ready.setting.small.end in
-      let here : IsUsable net bid.path.kind (leg_by s way.track a) = record { may_use = by.may_use; depart = omega arith; dwell = few } in
+      let here : IsUsable net bid.path.kind (leg_by s way.track a) = record { proper = ready.setting.proper; may_use = by.may_use; depart = omega arith; dwell = few } in
       subst (λ (k : TypeId). IsUsable w.net k (leg_by s way.track a)) (sym for.kind_is) (subst (λ (n : Net). IsUsable n bid.path.kind (leg_by s way.track a)) (sym for.net_is) here)
 
   module _ (way : Way) (by : IsWay net bid.path s way) (for : AreWeightsFor w net bid.path) where

@@ -7,7 +7,7 @@ use Rattle.std.proofs.lemmas.Bool.{false≢true}
 use Rattle.std.proofs.lemmas.List.{length-append}
 use Rattle.std.proofs.lemmas.List.Elements.{All-head, All-tail}
 use Rattle.std.proofs.lemmas.List.Sums.{sum_by-append, sum_by-cons}
-use Rattle.optra_network.specs.Net.{Net, MayUse, times_of}
+use Rattle.optra_network.specs.Net.{IsProper, Net, MayUse, times_of}
 use Rattle.std.specs.Option.{option_map_or}
 use Rattle.optra_network.specs.declared.Times.{Times}
 use Rattle.optra_network.specs.declared.TypeId.{TypeId}
@@ -72,7 +72,7 @@ module _ {R : Type 0} (rows : Rows R) (bids : List Bid) where
       omega arith
 
 -- a decision's leg uses little of each row, by the laws of a family
-module _ {R : Type 0} (cmp : R → R → Ordering) (net : Net) (rows : Rows R) (used : TypeId → Leg → List R) (lists : (kind : TypeId) (leg : Leg) → IsUsable net kind leg → ListsRows cmp rows.is_row (rows.uses kind leg) (used kind leg)) (unusable : (kind : TypeId) (leg : Leg) (row : R) → (MayUse net leg.track kind → ⊥) → rows.uses kind leg row ≡ 0) (bids : List Bid) where
+module _ {R : Type 0} (cmp : R → R → Ordering) (net : Net) (proper : IsProper net) (rows : Rows R) (used : TypeId → Leg → List R) (lists : (kind : TypeId) (leg : Leg) → IsUsable net kind leg → ListsRows cmp rows.is_row (rows.uses kind leg) (used kind leg)) (unusable : (kind : TypeId) (leg : Leg) (row : R) → (MayUse net leg.track kind → ⊥) → rows.uses kind leg row ≡ 0) (bids : List Bid) where
   leg_few : (kind : TypeId) (leg : Leg) (row : R) → IsFormedLeg net leg → rows.uses kind leg row ≤ 8192
   leg_few kind leg row formed = by (times_of net leg.track kind) refl
     where
@@ -80,7 +80,7 @@ module _ {R : Type 0} (cmp : R → R → Ordering) (net : Net) (rows : Rows R) (
       by None e = let none = unusable kind leg row (λ m. false≢true (subst IsSome e m)) in omega arith
       by (Some t) e =
           uses_few cmp rows.is_row (rows.uses kind leg) (used kind leg)
-          (lists kind leg (record { may_use = subst IsSome (sym e) refl; depart = formed.depart; dwell = formed.dwell })) row
+          (lists kind leg (record { proper = proper; may_use = subst IsSome (sym e) refl; depart = formed.depart; dwell = formed.dwell })) row
 
   decision_few : (row : R) (d : Decision) → IsFormedDecision net (length bids) d → yes_uses rows bids row d ≤ 8192
   decision_few row d formed = by d.yes (slice_get bids d.bid)

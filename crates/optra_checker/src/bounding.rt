@@ -62,7 +62,6 @@ fn greatest_bound<F: RowFamily>(
     rows: &F,
     tree: &[Item<F::Row>],
 ) -> Result<Option<i128>, NoMemory>
-    requires instance { IsInstance inst.net.now inst.bids.now }
     requires whole { IsTree tree.now }
     requires items { All (IsFormedItem F.Row.cmp inst.net.now (length inst.bids.now)) tree.now }
     requires splits { All (λ p. SplitsUndecided p.0 p.1) (places tree.now) }
@@ -102,14 +101,12 @@ pub(crate) fn bound_holds<F: RowFamily>(
     tree: &[Item<F::Row>],
     stated: Cents,
 ) -> Result<bool, NoMemory>
-    requires instance { IsInstance inst.net.now inst.bids.now }
     requires whole { IsTree tree.now }
     requires items { All (IsFormedItem F.Row.cmp inst.net.now (length inst.bids.now)) tree.now }
     requires splits { All (λ p. SplitsUndecided p.0 p.1) (places tree.now) }
     requires prices { All (HasPrices (F.rows_of rows.now inst.net.now)) tree.now }
-    ensures { IfOk result (λ holds. IsTrue holds
-        ↔ IsGreatestBound inst.entry.net.now (F.rows_of rows.now inst.entry.net.now)
-        inst.entry.bids.now tree.now stated) }
+    ensures { IfOk result (λ holds. IsTrue holds ↔ IsGreatestBound inst.entry.net.now (F.rows_of
+        rows.now inst.entry.net.now) inst.entry.bids.now tree.now stated) }
 {
     let greatest = greatest_bound(alloc, inst, rows, tree)?;
     Ok(is_stated(greatest, stated))

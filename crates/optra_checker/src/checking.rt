@@ -1,6 +1,5 @@
 //! The check of a certificate.
 ghost use Rattle.std.specs.Prelude.{◌≡◌, ◌↔◌, IfOk, MatchOption, length};
-ghost use Rattle.optra_bid.specs.Instances.{IsInstance};
 ghost use Rattle.optra_node.specs.Certificates.{IsFormed, IsValid};
 ghost use Rattle.optra_checker.specs.Verdicts.{ChoiceHolds, TreeHolds, IsFirstReason, IsVerdict};
 
@@ -39,12 +38,10 @@ fn choice_fault<F: RowFamily>(
     rows: &F,
     cert: &Certificate<F::Row>,
 ) -> Result<Option<Reason>, NoMemory>
-    requires instance { IsInstance inst.net.now inst.bids.now }
     requires formed { IsFormed F.Row.cmp inst.net.now (length inst.bids.now) cert.now.choice
         cert.now.tree }
-    ensures { IfOk result (λ fault. MatchOption fault
-        (ChoiceHolds inst.entry.net.now (F.KeepsRule rows.now inst.entry.net.now)
-        inst.entry.bids.now cert.now)
+    ensures { IfOk result (λ fault. MatchOption fault (ChoiceHolds inst.entry.net.now
+        (F.KeepsRule rows.now inst.entry.net.now) inst.entry.bids.now cert.now)
         (IsFirstReason inst.entry.net.now (F.rows_of rows.now inst.entry.net.now)
         (F.KeepsRule rows.now inst.entry.net.now) inst.entry.bids.now cert.now)) }
 {
@@ -68,14 +65,12 @@ fn tree_fault<F: RowFamily>(
     rows: &F,
     cert: &Certificate<F::Row>,
 ) -> Result<Option<Reason>, NoMemory>
-    requires instance { IsInstance inst.net.now inst.bids.now }
     requires formed { IsFormed F.Row.cmp inst.net.now (length inst.bids.now) cert.now.choice
         cert.now.tree }
     requires choice { ChoiceHolds inst.net.now (F.KeepsRule rows.now inst.net.now) inst.bids.now
         cert.now }
-    ensures { IfOk result (λ fault. MatchOption fault
-        (TreeHolds inst.entry.net.now (F.rows_of rows.now inst.entry.net.now) inst.entry.bids.now
-        cert.now)
+    ensures { IfOk result (λ fault. MatchOption fault (TreeHolds inst.entry.net.now
+        (F.rows_of rows.now inst.entry.net.now) inst.entry.bids.now cert.now)
         (IsFirstReason inst.entry.net.now (F.rows_of rows.now inst.entry.net.now)
         (F.KeepsRule rows.now inst.entry.net.now) inst.entry.bids.now cert.now)) }
 {
@@ -102,7 +97,6 @@ fn verdict_on<F: RowFamily>(
     rows: &F,
     cert: &Certificate<F::Row>,
 ) -> Result<Verdict, NoMemory>
-    requires instance { IsInstance inst.net.now inst.bids.now }
     requires formed { IsFormed F.Row.cmp inst.net.now (length inst.bids.now) cert.now.choice
         cert.now.tree }
     ensures { IfOk result (IsVerdict inst.entry.net.now (F.rows_of rows.now inst.entry.net.now)
@@ -133,17 +127,15 @@ pub fn check<F: RowFamily>(
     rows: &F,
     cert: &Certificate<F::Row>,
 ) -> Result<Verdict, NoMemory>
-    requires instance { IsInstance inst.net.now inst.bids.now }
     requires formed { IsFormed F.Row.cmp inst.net.now (length inst.bids.now) cert.now.choice
         cert.now.tree }
-    ensures yes { IfOk result
-        (λ verdict. (verdict ≡ Verdict.Yes cert.now.revenue cert.now.bound)
+    ensures yes { IfOk result (λ verdict. (verdict ≡ Verdict.Yes cert.now.revenue cert.now.bound)
         ↔ IsValid inst.entry.net.now (F.rows_of rows.now inst.entry.net.now)
         (F.KeepsRule rows.now inst.entry.net.now) inst.entry.bids.now cert.now.revenue
         cert.now.bound cert.now.choice cert.now.tree) }
-    ensures verdict { IfOk result
-        (IsVerdict inst.entry.net.now (F.rows_of rows.now inst.entry.net.now)
-        (F.KeepsRule rows.now inst.entry.net.now) inst.entry.bids.now cert.now) }
+    ensures verdict { IfOk result (IsVerdict inst.entry.net.now
+        (F.rows_of rows.now inst.entry.net.now) (F.KeepsRule rows.now inst.entry.net.now)
+        inst.entry.bids.now cert.now) }
 {
     verdict_on(alloc, inst, rows, cert)
 }

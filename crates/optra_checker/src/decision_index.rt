@@ -35,8 +35,8 @@ fn bucket_of(bid: u32, leg: Leg) -> usize
 /// Puts a decision behind those of a list.
 fn add_at(lists: &mut Vec<Vec<Decision>>, place: usize, decision: Decision) -> Result<(), NoMemory>
     requires { place < vec_len lists.old }
-    ensures { OnOk result ((key : Decision → ℕ) (count : ℕ) (node : List Decision)
-        → key decision ≡ place → AreKeyed key count node (map (λ list. list.items) lists.old.items)
+    ensures { OnOk result ((key : Decision → ℕ) (count : ℕ) (node : List Decision) → key decision
+        ≡ place → AreKeyed key count node (map (λ list. list.items) lists.old.items)
         → AreKeyed key count (node ++ decision ∷ []) (map (λ list. list.items) lists.new.items)) }
 {
     lists[place].push(decision)?;
@@ -73,9 +73,9 @@ fn put_yes(lists: &mut Vec<Vec<Decision>>, decision: Decision) -> Result<(), NoM
 fn take_yes(lists: &mut Vec<Vec<Decision>>, decision: Decision)
     requires { decision.bid < vec_len lists.old }
     ensures { (bids : ℕ) (node : List Decision)
-        → AreKeyed (λ d. d.bid) bids (yes_part (node ++ decision ∷ []))
-        (map (λ list. list.items) lists.old.items)
-        → AreKeyed (λ d. d.bid) bids (yes_part node) (map (λ list. list.items) lists.new.items) }
+        → AreKeyed (λ d. d.bid) bids (yes_part (node ++ decision ∷ [])) (map (λ list. list.items)
+        lists.old.items) → AreKeyed (λ d. d.bid) bids (yes_part node) (map (λ list. list.items)
+        lists.new.items) }
 {
     if decision.yes {
         drop_at(lists, decision.bid as usize, decision);
@@ -120,8 +120,8 @@ impl DecisionIndex {
     pub(crate) fn take_off(&mut self, decision: Decision)
         requires bid { decision.bid < vec_len self.old.yes }
         requires buckets { vec_len self.old.buckets ≡ 4096 }
-        ensures { (bids : ℕ) (node : List Decision)
-            → IsIndexOf bids (node ++ decision ∷ []) self.old → IsIndexOf bids node self.new }
+        ensures { (bids : ℕ) (node : List Decision) → IsIndexOf bids (node ++ decision
+            ∷ []) self.old → IsIndexOf bids node self.new }
     {
         take_yes(&mut self.yes, decision);
         let bucket = bucket_of(decision.bid, decision.leg);
@@ -131,8 +131,8 @@ impl DecisionIndex {
     /// The yes decisions of the bid.
     pub(crate) fn yes_of(&self, bid: u32) -> &[Decision]
         requires { bid < vec_len self.now.yes }
-        ensures { (bids : ℕ) (node : List Decision) → IsIndexOf bids node self.now
-            → result.now ≡ decisions_for (yes_part node) bid }
+        ensures { (bids : ℕ) (node : List Decision) → IsIndexOf bids node self.now → result.now
+            ≡ decisions_for (yes_part node) bid }
     {
         &self.yes[bid as usize]
     }
@@ -140,8 +140,8 @@ impl DecisionIndex {
     /// The bucket in which a decision of the leg for the bid stands.
     fn bucket(&self, bid: u32, leg: Leg) -> &[Decision]
         requires { vec_len self.now.buckets ≡ 4096 }
-        ensures { (bids : ℕ) (node : List Decision) → IsIndexOf bids node self.now
-            → result.now ≡ bucket_in node bid leg }
+        ensures { (bids : ℕ) (node : List Decision) → IsIndexOf bids node self.now → result.now
+            ≡ bucket_in node bid leg }
     {
         &self.buckets[bucket_of(bid, leg)]
     }

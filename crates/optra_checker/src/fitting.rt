@@ -17,8 +17,7 @@ use std::collections::BTreeMap;
 fn raise<R: Copy + Ord>(totals: &mut BTreeMap<R, u128>, row: R, by: u32) -> Result<u128, NoMemory>
     requires { total_of R.cmp totals.old row + by < 2 ^ 128 }
     ensures sum { IfOk result (λ sum. sum ≡ total_of R.cmp totals.old row + by) }
-    ensures raised { OnOk result
-        ((q : R) → total_of R.cmp totals.new q
+    ensures raised { OnOk result ((q : R) → total_of R.cmp totals.new q
         ≡ total_of R.cmp totals.old q + (if is_eq (R.cmp row q) then by else 0)) }
 {
     let by = u128::from(by);
@@ -48,14 +47,11 @@ fn leg_fits<F: RowFamily>(
 ) -> Result<bool, NoMemory>
     requires usable { IsUsable net.now kind leg }
     requires within { AreWithin (F.rows_of rows.now net.now) (total_of F.Row.cmp totals.old) }
-    ensures added { OnOk result
-        ((q : F.Row) → total_of F.Row.cmp totals.new q
+    ensures added { OnOk result ((q : F.Row) → total_of F.Row.cmp totals.new q
         ≡ total_of F.Row.cmp totals.old q + (F.rows_of rows.now net.now).uses kind leg q) }
-    ensures within { IfOk result
-        (λ fits. IsTrue fits ↔ AreWithin (F.rows_of rows.now net.now)
+    ensures within { IfOk result (λ fits. IsTrue fits ↔ AreWithin (F.rows_of rows.now net.now)
         (total_of F.Row.cmp totals.new)) }
 {
-    let _ = net.track_count();
     let mut fits = true;
     for k in 0..8192 {
         let Some(row) = rows.touched(net, kind, leg, k) else {
@@ -78,15 +74,12 @@ fn legs_fit<F: RowFamily>(
 ) -> Result<bool, NoMemory>
     requires usable { All (IsUsable net.now kind) legs.now }
     requires within { AreWithin (F.rows_of rows.now net.now) (total_of F.Row.cmp totals.old) }
-    ensures added { IfOk result
-        (λ fit. IsTrue fit → (q : F.Row)
-        → total_of F.Row.cmp totals.new q
-        ≡ total_of F.Row.cmp totals.old q + load_of (F.rows_of rows.now net.now) q
-        (map (λ leg. (kind, leg)) legs.now)) }
-    ensures within { IfOk result
-        (λ fit. IsTrue fit ↔ AreWithin (F.rows_of rows.now net.now)
-        (λ q. total_of F.Row.cmp totals.old q + load_of (F.rows_of rows.now net.now) q
-        (map (λ leg. (kind, leg)) legs.now))) }
+    ensures added { IfOk result (λ fit. IsTrue fit → (q : F.Row) → total_of F.Row.cmp totals.new q
+        ≡ total_of F.Row.cmp totals.old q
+        + load_of (F.rows_of rows.now net.now) q (map (λ leg. (kind, leg)) legs.now)) }
+    ensures within { IfOk result (λ fit. IsTrue fit ↔ AreWithin (F.rows_of rows.now net.now)
+        (λ q. total_of F.Row.cmp totals.old q
+        + load_of (F.rows_of rows.now net.now) q (map (λ leg. (kind, leg)) legs.now))) }
 {
     'legs: for leg in legs {
         if !leg_fits(totals, net, rows, kind, *leg)? {
@@ -120,17 +113,14 @@ fn entry_fits<F: RowFamily>(
 ) -> Result<bool, NoMemory>
     requires walk { IfSome entry.now (IsWalk net.now bid.now.path) }
     requires within { AreWithin (F.rows_of rows.now net.now) (total_of F.Row.cmp totals.old) }
-    ensures added { IfOk result
-        (λ fits. IsTrue fits → (q : F.Row)
-        → total_of F.Row.cmp totals.new q
-        ≡ total_of F.Row.cmp totals.old q + load_of (F.rows_of rows.now net.now) q
-        (entries_of (bid.now ∷ []) (entry.now ∷ []))) }
-    ensures within { IfOk result
-        (λ fits. IsTrue fits ↔ AreWithin (F.rows_of rows.now net.now)
-        (λ q. total_of F.Row.cmp totals.old q + load_of (F.rows_of rows.now net.now) q
-        (entries_of (bid.now ∷ []) (entry.now ∷ [])))) }
+    ensures added { IfOk result (λ fits. IsTrue fits → (q : F.Row) → total_of F.Row.cmp totals.new q
+        ≡ total_of F.Row.cmp totals.old q + load_of (F.rows_of rows.now net.now) q (entries_of
+        (bid.now ∷ []) (entry.now ∷ []))) }
+    ensures within { IfOk result (λ fits. IsTrue fits ↔ AreWithin (F.rows_of rows.now net.now)
+        (λ q. total_of F.Row.cmp totals.old q + load_of (F.rows_of rows.now net.now) q (entries_of
+        (bid.now ∷ []) (entry.now ∷ [])))) }
 {
-    let _ = net.track_count();
+    net.laws();
     match entry {
         Some(walk) => legs_fit(totals, net, rows, kind_of(bid), legs_of(walk)),
         None => Ok(true),
@@ -146,10 +136,10 @@ pub(crate) fn rule_holds<F: RowFamily>(
     entries: &[Option<Walk>],
 ) -> Result<bool, NoMemory>
     requires { IsChoice net.now bids.now entries.now }
-    ensures { IfOk result (λ holds. IsTrue holds
-        ↔ F.KeepsRule rows.now net.now (entries_of bids.now entries.now)) }
+    ensures { IfOk result (λ holds. IsTrue holds ↔ F.KeepsRule rows.now net.now (entries_of bids.now
+        entries.now)) }
 {
-    let _ = net.track_count();
+    net.laws();
     let mut totals = BTreeMap::new(alloc);
     'bids: for (i, bid) in bids.iter().enumerate() {
         if !entry_fits(&mut totals, net, rows, bid, &entries[i])? {

@@ -4,7 +4,6 @@
 //! bids need no search at most leaves.
 ghost use Rattle.std.specs.Prelude.{◌≡◌, ◌↔◌, IfOk, IsTrue, Some, pos, negsuc, ◌*ℤ◌};
 ghost use Rattle.optra_bid.specs.Specs.{IsPathOn, IsBetween};
-ghost use Rattle.optra_bid.specs.Instances.{IsInstance};
 ghost use Rattle.optra_walk.specs.Values.{value_of};
 ghost use Rattle.optra_walk.specs.Walks.{IsWalk};
 ghost use Rattle.optra_checker.specs.Frees.{IsFree, AreFree, Attains};
@@ -123,7 +122,6 @@ pub(crate) fn find_frees(
     inst: Instance<'_>,
     table: &mut RestTable,
 ) -> Result<Vec<Free>, NoMemory>
-    requires { IsInstance inst.net.now inst.bids.now }
     ensures { IfOk result (λ frees. AreFree inst.entry.net.now inst.entry.bids.now frees.items) }
 {
     let mut frees = Vec::new(alloc);

@@ -45,7 +45,6 @@ fn used_price<F: RowFamily>(
     ensures value { result ≡ leg_price (F.rows_of rows.now inst.entry.net.now) prices.now kind leg }
     ensures range { IsBetween (pos 0) (pos 16384000000000000) result }
 {
-    let _ = inst.net.track_count();
     prices_by_used_rows(inst, rows);
     let mut total: i128 = 0;
     for k in 0..8192 {
@@ -96,7 +95,7 @@ pub(crate) fn capacity_price<F: RowFamily>(
     ensures value { result ≡ capacity_price (F.rows_of rows.now net.now) prices.now }
     ensures range { IsBetween (pos 0) (pos 2417851639229258349412352000000000000) result }
 {
-    let _ = net.track_count();
+    net.laws();
     let mut total: i128 = 0;
     'entries: for entry in prices {
         total += times(entry.1, rows.cap(net, entry.0));

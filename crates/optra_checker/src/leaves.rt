@@ -17,10 +17,9 @@ use std::alloc::Global;
 fn is_stuck<F: RowFamily>(alloc: Global, node: &OpenNode<'_, F>, bid: u32) -> Result<bool, NoMemory>
     requires instance { IsInstance node.now.net node.now.bids }
     requires bid { bid < length node.now.bids }
-    ensures { IfOk result (λ stuck. IsTrue stuck
-        ↔ IsSomeAnd (slice_get node.now.bids bid)
-        (λ b. IsStuck node.now.net (F.rows_of node.now.family node.now.net) node.now.bids
-        node.now.node bid b)) }
+    ensures { IfOk result (λ stuck. IsTrue stuck ↔ IsSomeAnd (slice_get node.now.bids bid) (λ b.
+        IsStuck node.now.net (F.rows_of node.now.family node.now.net) node.now.bids node.now.node
+        bid b)) }
 {
     let prices = Vec::new(alloc);
     let mut table = RestTable::new(alloc);
@@ -36,9 +35,8 @@ fn ends_dead<F: RowFamily>(
 ) -> Result<bool, NoMemory>
     requires instance { IsInstance node.now.net node.now.bids }
     requires formed { IsFormedItem F.Row.cmp node.now.net (length node.now.bids) item.now }
-    ensures { IfOk result (λ dead. IsTrue dead
-        ↔ EndsDead node.now.net (F.rows_of node.now.family node.now.net) node.now.bids
-        node.now.node item.now) }
+    ensures { IfOk result (λ dead. IsTrue dead ↔ EndsDead node.now.net (F.rows_of node.now.family
+        node.now.net) node.now.bids node.now.node item.now) }
 {
     match item {
         Item::NoWalk { bid } => is_stuck(alloc, node, *bid),
@@ -54,7 +52,6 @@ pub(crate) fn leaves_hold<F: RowFamily>(
     rows: &F,
     tree: &[Item<F::Row>],
 ) -> Result<bool, NoMemory>
-    requires instance { IsInstance inst.net.now inst.bids.now }
     requires whole { IsTree tree.now }
     requires items { All (IsFormedItem F.Row.cmp inst.net.now (length inst.bids.now)) tree.now }
     requires splits { All (λ p. SplitsUndecided p.0 p.1) (places tree.now) }

@@ -28,8 +28,7 @@ pub(crate) fn loaded_rows<R: Copy + Ord>(
     totals: &BTreeMap<R, u128>,
 ) -> Result<Vec<R>, NoMemory>
     ensures rising { IfOk result (λ loaded. AreRising R.cmp loaded.items) }
-    ensures all { IfOk result
-        (λ loaded. (row : R) → IsMissing R.cmp loaded.items row
+    ensures all { IfOk result (λ loaded. (row : R) → IsMissing R.cmp loaded.items row
         → total_of R.cmp totals.now row ≡ 0) }
 {
     let _ordered = totals.keys();
@@ -100,7 +99,6 @@ pub(crate) fn keeps_off<F: RowFamily>(
     requires rising { AreRising F.Row.cmp loaded.now }
     ensures { IsTrue result → KeepsOff F.Row.cmp (F.rows_of rows.now net.now) kind loaded.now leg }
 {
-    let _ = net.track_count();
     let mut near = 0;
     for k in 0..8192 {
         let Some(row) = rows.touched(net, kind, leg, k) else {

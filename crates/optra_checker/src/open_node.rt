@@ -1,6 +1,7 @@
 //! The node at hand while a tree is gone through.
 ghost use Rattle.std.specs.Prelude.{◌≡◌, ◌<◌, ◌↔◌, ◌++◌, ◌∷◌, [], All, IsTrue, IfOk, length, pos, true};
 ghost use Rattle.std.specs.List.{list_any};
+ghost use Rattle.optra_network.specs.Net.{IsProper};
 ghost use Rattle.optra_node.specs.Nodes.{IsFormedLeg, IsFormedDecision, IsUndecided, IsOverfull, IsBlocked, kind_at, has_yes, yes_load};
 ghost use Rattle.optra_node.specs.Spans.{IsLegOk, IsLetBy, IsStartOk};
 ghost use Rattle.optra_node.specs.Summaries.{decisions_for};
@@ -77,8 +78,8 @@ impl<'a, F: RowFamily> OpenNode<'a, F> {
         inst: Instance<'a>,
         rows: &'a F,
     ) -> Result<OpenNode<'a, F>, NoMemory>
-        ensures { IfOk result (λ node. node
-            ≡ summed rows.now inst.entry.net.now inst.entry.bids.now []) }
+        ensures { IfOk result (λ node. node ≡ summed rows.now inst.entry.net.now inst.entry.bids.now
+            []) }
     {
         let own = empty_lists(alloc, inst.bids.len())?;
         let index = DecisionIndex::new(alloc, inst.bids.len())?;
@@ -97,9 +98,8 @@ impl<'a, F: RowFamily> OpenNode<'a, F> {
     pub(crate) fn decide(self, decision: Decision) -> Result<OpenNode<'a, F>, NoMemory>
         requires formed { IsFormedDecision self.net (length self.bids) decision }
         requires undecided { IsUndecided self.node decision.bid decision.leg }
-        ensures { IfOk result (λ next. next
-            ≡ summed self.entry.family self.entry.net self.entry.bids
-            (self.entry.node ++ decision ∷ [])) }
+        ensures { IfOk result (λ next. next ≡ summed self.entry.family self.entry.net
+            self.entry.bids (self.entry.node ++ decision ∷ [])) }
     {
         let OpenNode {
             inst,
@@ -139,7 +139,6 @@ impl<'a, F: RowFamily> OpenNode<'a, F> {
             mut own,
             mut index,
         } = self;
-        let _ = inst.net.track_count();
         let Some(last) = decisions.pop() else {
             unreachable!()
         };
@@ -188,9 +187,8 @@ impl<'a, F: RowFamily> OpenNode<'a, F> {
         requires formed { IsFormedItem F.Row.cmp self.net (length self.bids) item.now }
         requires undecided { SplitsUndecided self.node item.now }
         ensures same { IfOk result (AreSame self.entry) }
-        ensures next { IfOk result
-            (λ next. IsNextWay (children self.entry.node item.now ++ to_come self.entry.node)
-            next.node) }
+        ensures next { IfOk result (λ next. IsNextWay (children self.entry.node item.now
+            ++ to_come self.entry.node) next.node) }
     {
         match item {
             Item::Split { bid, leg } => self.decide(Decision {
@@ -254,8 +252,8 @@ impl<'a, F: RowFamily> OpenNode<'a, F> {
     /// Whether each decision for the bid lets its walk have the leg.
     fn let_by(&self, bid: u32, leg: Leg) -> bool
         requires { bid < length self.now.bids }
-        ensures { IsTrue result ↔ IsLetBy self.now.net self.now.node bid
-            (kind_at self.now.bids bid) leg }
+        ensures { IsTrue result ↔ IsLetBy self.now.net self.now.node bid (kind_at self.now.bids bid)
+            leg }
     {
         if self.is_left_alone(bid) {
             return true;
@@ -302,9 +300,8 @@ impl<'a, F: RowFamily> OpenNode<'a, F> {
 
     /// Whether the yes legs use nothing of any of the rows.
     pub(crate) fn are_unused(&self, rows: &[F::Row]) -> bool
-        ensures { IsTrue result → All
-            (λ row. yes_load (F.rows_of self.now.family self.now.net) self.now.bids self.now.node
-            row ≡ 0) rows.now }
+        ensures { IsTrue result → All (λ row. yes_load (F.rows_of self.now.family self.now.net)
+            self.now.bids self.now.node row ≡ 0) rows.now }
     {
         'rows: for row in rows {
             if total(&self.totals, *row) > 0 {
@@ -322,6 +319,13 @@ impl<'a, F: RowFamily> OpenNode<'a, F> {
         self.inst
     }
 
+    /// A law, and no work: its network is one that a builder finished.
+    pub(crate) fn laws(&self)
+        ensures { IsProper self.now.net }
+    {
+        let _inst = self.inst;
+    }
+
     /// Whether a walk of the bid may have the leg, on a track that its type may use.
     pub(crate) fn usable_leg_ok(&self, bid: u32, leg: Leg) -> bool
         requires bid { bid < length self.now.bids }
@@ -330,16 +334,14 @@ impl<'a, F: RowFamily> OpenNode<'a, F> {
             (F.rows_used self.now.family self.now.net) self.now.bids self.now.node bid
             (kind_at self.now.bids bid) leg }
     {
-        let _ = self.inst.net.track_count();
         self.leg_ok(bid, leg)
     }
 
     /// The rows of which the yes legs use something, ascending. `NoMemory` is its only refusal.
     pub(crate) fn loaded(&self, alloc: Global) -> Result<Vec<F::Row>, NoMemory>
         ensures rising { IfOk result (λ loaded. AreRising F.Row.cmp loaded.items) }
-        ensures all { IfOk result
-            (λ loaded. AreLoaded F.Row.cmp (F.rows_of self.now.family self.now.net) self.now.bids
-            self.now.node loaded.items) }
+        ensures all { IfOk result (λ loaded. AreLoaded F.Row.cmp (F.rows_of self.now.family
+            self.now.net) self.now.bids self.now.node loaded.items) }
     {
         loaded_rows(alloc, &self.totals)
     }
@@ -355,7 +357,6 @@ impl<'a, F: RowFamily> OpenNode<'a, F> {
             (F.rows_used self.now.family self.now.net) self.now.bids self.now.node bid
             (kind_at self.now.bids bid) leg }
     {
-        let _ = self.inst.net.track_count();
         if !self.let_by(bid, leg) {
             return false;
         }
@@ -366,11 +367,9 @@ impl<'a, F: RowFamily> OpenNode<'a, F> {
     fn has_room(&self, bid: u32, leg: Leg) -> bool
         requires bid { bid < length self.now.bids }
         requires usable { IsUsable self.now.net (kind_at self.now.bids bid) leg }
-        ensures { IsTrue result ↔
-            (IsBlocked (F.rows_of self.now.family self.now.net) self.now.bids self.now.node bid
-            (kind_at self.now.bids bid) leg → ⊥) }
+        ensures { IsTrue result ↔ (IsBlocked (F.rows_of self.now.family self.now.net) self.now.bids
+            self.now.node bid (kind_at self.now.bids bid) leg → ⊥) }
     {
-        let _ = self.inst.net.track_count();
         !self.blocked(bid, leg)
     }
 

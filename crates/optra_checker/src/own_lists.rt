@@ -32,8 +32,8 @@ pub(crate) fn add_own(lists: &mut Vec<Vec<Decision>>, decision: Decision) -> Res
 /// Takes the last decision for a bid off.
 pub(crate) fn drop_own(lists: &mut Vec<Vec<Decision>>, decision: Decision)
     requires { decision.bid < vec_len lists.old }
-    ensures { (bids : ℕ) (node : List Decision)
-        → AreByBid bids (node ++ decision ∷ []) (map (λ list. list.items) lists.old.items)
+    ensures { (bids : ℕ) (node : List Decision) → AreByBid bids (node ++ decision
+        ∷ []) (map (λ list. list.items) lists.old.items)
         → AreByBid bids node (map (λ list. list.items) lists.new.items) }
 {
     let _ = lists[decision.bid as usize].pop();

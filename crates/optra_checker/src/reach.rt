@@ -204,8 +204,8 @@ fn find_ahead(
     requires path { IsPathOn net.now bid.now.path }
     requires last { AreLeast net.now bid.now.path.kind true bid.now.path.destination 0
         to_destination.items }
-    ensures { IfOk result (λ levels. AreAhead net.now bid.now.path
-        (map (λ level. level.items) levels.items) (length bid.now.path.stops)) }
+    ensures { IfOk result (λ levels. AreAhead net.now bid.now.path (map (λ level. level.items)
+        levels.items) (length bid.now.path.stops)) }
 {
     let path = &bid.path;
     let most = too_long(bid);
@@ -231,8 +231,8 @@ fn find_behind(
     requires path { IsPathOn net.now bid.now.path }
     requires first { AreLeast net.now bid.now.path.kind false bid.now.path.origin 0
         from_origin.items }
-    ensures { IfOk result (λ levels. AreBehind net.now bid.now.path
-        (map (λ level. level.items) levels.items) (length bid.now.path.stops)) }
+    ensures { IfOk result (λ levels. AreBehind net.now bid.now.path (map (λ level. level.items)
+        levels.items) (length bid.now.path.stops)) }
 {
     let path = &bid.path;
     let most = too_long(bid);
@@ -312,8 +312,8 @@ impl Reach {
         requires far { SkipsFar bid.now.path self.now.from_origin.items
             self.now.to_destination.items self.now.skips.items }
         requires count { count ≤ length self.now.from_origin.items }
-        ensures { IsWithoutFar bid.now.path self.now.from_origin.items
-            self.now.to_destination.items count result }
+        ensures { IsWithoutFar bid.now.path self.now.from_origin.items self.now.to_destination.items
+            count result }
     {
         let _ = bid;
         self.skips[count as usize]

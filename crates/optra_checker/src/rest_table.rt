@@ -112,12 +112,10 @@ impl RestTable {
     pub(crate) fn is_late(&self, way: Way) -> bool
         requires table { IsTable self.now }
         requires head { way.head.0 < self.now.layout.stations }
-        ensures pass { IsTrue result
-            → end_of self.now < way.pass + slice_index self.now.reach.to_destination.items
-            way.head.0 }
-        ensures halt { IsTrue result
-            → end_of self.now < way.halt + slice_index self.now.reach.to_destination.items
-            way.head.0 }
+        ensures pass { IsTrue result → end_of self.now < way.pass
+            + slice_index self.now.reach.to_destination.items way.head.0 }
+        ensures halt { IsTrue result → end_of self.now < way.halt
+            + slice_index self.now.reach.to_destination.items way.head.0 }
     {
         let arrival = way.pass.min(way.halt);
         let on = u32::from(self.reach.to_destination[way.head.0 as usize]);

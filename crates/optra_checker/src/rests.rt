@@ -105,8 +105,8 @@ fn halt_rest<W: Weighing>(
     requires weights { AreWeightsFor (W.weights weighing.now) net.now bid.now.path }
     requires ready { IsReadyFor (W.weights weighing.now) net.now bid.now table.now way.from }
     requires way { IsWay net.now bid.now.path way.from way }
-    requires halt { IsMove net.now bid.now.path way.from
-        (leg_by way.from way.track (Action.Halt dwell)) }
+    requires halt { IsMove net.now bid.now.path way.from (leg_by way.from way.track
+        (Action.Halt dwell)) }
     ensures best { IsBestRest (W.weights weighing.now) net.now bid.now way.from
         (IsLegBy way.from way.track (Action.Halt dwell)) result }
     ensures asks { AreAsked (W.weights weighing.now) asks.new }
@@ -134,8 +134,8 @@ fn wait_rest<W: Weighing>(
     requires weights { AreWeightsFor (W.weights weighing.now) net.now bid.now.path }
     requires ready { IsReadyFor (W.weights weighing.now) net.now bid.now table.now way.from }
     requires way { IsWay net.now bid.now.path way.from way }
-    requires wait { IsMove net.now bid.now.path way.from
-        (leg_by way.from way.track (Action.Wait dwell)) }
+    requires wait { IsMove net.now bid.now.path way.from (leg_by way.from way.track
+        (Action.Wait dwell)) }
     ensures best { IsBestRest (W.weights weighing.now) net.now bid.now way.from
         (IsLegBy way.from way.track (Action.Wait dwell)) result }
     ensures asks { AreAsked (W.weights weighing.now) asks.new }

@@ -30,12 +30,11 @@ fn take_leg<F: RowFamily>(
     leg: Leg,
 )
     requires usable { IsUsable net.now kind leg }
-    requires enough { (q : F.Row)
-        → (F.rows_of rows.now net.now).uses kind leg q ≤ total_of F.Row.cmp totals.old q }
-    ensures { (q : F.Row) → total_of F.Row.cmp totals.new q + (F.rows_of rows.now net.now).uses
-        kind leg q ≡ total_of F.Row.cmp totals.old q }
+    requires enough { (q : F.Row) → (F.rows_of rows.now net.now).uses kind leg q
+        ≤ total_of F.Row.cmp totals.old q }
+    ensures { (q : F.Row) → total_of F.Row.cmp totals.new q + (F.rows_of rows.now net.now).uses kind
+        leg q ≡ total_of F.Row.cmp totals.old q }
 {
-    let _ = net.track_count();
     for k in 0..8192 {
         let Some(row) = rows.touched(net, kind, leg, k) else {
             return;
@@ -52,11 +51,10 @@ pub(crate) fn take_decision<F: RowFamily>(
     decision: Decision,
 )
     requires decision { IsFormedDecision inst.net.now (length inst.bids.now) decision }
-    requires enough { (q : F.Row)
-        → yes_uses (F.rows_of rows.now inst.net.now) inst.bids.now q decision
-        ≤ total_of F.Row.cmp totals.old q }
-    ensures { (q : F.Row) → total_of F.Row.cmp totals.new q + yes_uses
-        (F.rows_of rows.now inst.entry.net.now) inst.entry.bids.now q decision
+    requires enough { (q : F.Row) → yes_uses (F.rows_of rows.now inst.net.now) inst.bids.now q
+        decision ≤ total_of F.Row.cmp totals.old q }
+    ensures { (q : F.Row) → total_of F.Row.cmp totals.new q
+        + yes_uses (F.rows_of rows.now inst.entry.net.now) inst.entry.bids.now q decision
         ≡ total_of F.Row.cmp totals.old q }
 {
     let kind = kind_at(inst, decision.bid);

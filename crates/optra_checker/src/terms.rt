@@ -53,8 +53,8 @@ fn leg_stays_free<F: RowFamily>(
     requires usable { IsUsable node.now.net (kind_at node.now.bids bid) leg }
     requires ascending { AreAscending F.Row.cmp prices.now }
     requires proper { ArePrices (F.rows_of node.now.family node.now.net) prices.now }
-    ensures { IsTrue result ↔ IsFreeLeg
-        (weights_at F.rows_of F.rows_used node.now bid prices.now) leg }
+    ensures { IsTrue result ↔ IsFreeLeg (weights_at F.rows_of F.rows_used node.now bid prices.now)
+        leg }
 {
     if !node.usable_leg_ok(bid, leg) {
         return false;
@@ -73,8 +73,8 @@ fn legs_stay_free<F: RowFamily>(
     requires usable { All (IsUsable node.now.net (kind_at node.now.bids bid)) legs.now }
     requires ascending { AreAscending F.Row.cmp prices.now }
     requires proper { ArePrices (F.rows_of node.now.family node.now.net) prices.now }
-    ensures { IsTrue result ↔ All
-        (IsFreeLeg (weights_at F.rows_of F.rows_used node.now bid prices.now)) legs.now }
+    ensures { IsTrue result
+        ↔ All (IsFreeLeg (weights_at F.rows_of F.rows_used node.now bid prices.now)) legs.now }
 {
     'legs: for leg in legs {
         if !leg_stays_free(node, prices, bid, *leg) {
@@ -94,8 +94,8 @@ fn legs_of(free: &Free) -> &[Leg]
 /// Whether a walk of the bid may start at the first departure of the legs.
 fn start_stays_free<F: RowFamily>(node: &OpenNode<'_, F>, bid: u32, legs: &[Leg]) -> bool
     requires { bid < length node.now.bids }
-    ensures start { IsTrue result
-        → may_start_at node.now.node bid (first_departure legs.now) ≡ true }
+    ensures start { IsTrue result → may_start_at node.now.node bid (first_departure legs.now)
+        ≡ true }
     ensures some { IsTrue result → 0 < length legs.now }
 {
     match legs.first() {
@@ -125,13 +125,13 @@ fn stays_free<F: RowFamily>(
     requires ascending { AreAscending F.Row.cmp prices.now }
     requires proper { ArePrices (F.rows_of node.now.family node.now.net) prices.now }
     ensures { IsTrue result → (b : Asked) → slice_get node.now.bids bid ≡ Some b
-        → IsBestWorth (weights_at F.rows_of F.rows_used node.now bid prices.now)
-        node.now.net b free.now.best }
+        → IsBestWorth (weights_at F.rows_of F.rows_used node.now bid prices.now) node.now.net b
+        free.now.best }
 {
     if is_missing(free.best) {
         return true;
     }
-    let _ = node.inst().net.track_count();
+    node.laws();
     let legs = legs_of(free);
     if !start_stays_free(node, bid, legs) {
         return false;
@@ -152,14 +152,13 @@ fn best_at<F: RowFamily>(
 ) -> Result<Option<i128>, NoMemory>
     requires instance { IsInstance node.now.net node.now.bids }
     requires bid { bid < length node.now.bids }
-    requires free { IfSome free
-        (λ f. IsSomeAnd (slice_get node.now.bids bid) (λ b. IsFree node.now.net b f.now)) }
+    requires free { IfSome free (λ f. IsSomeAnd (slice_get node.now.bids bid)
+        (λ b. IsFree node.now.net b f.now)) }
     requires ascending { AreAscending F.Row.cmp prices.now }
     requires proper { ArePrices (F.rows_of node.now.family node.now.net) prices.now }
-    ensures best { IfOk result
-        (λ best. (b : Asked) → slice_get node.now.bids bid ≡ Some b
-        → IsBestWorth (weights_at F.rows_of F.rows_used node.now bid prices.now)
-        node.now.net b best) }
+    ensures best { IfOk result (λ best. (b : Asked) → slice_get node.now.bids bid ≡ Some b
+        → IsBestWorth (weights_at F.rows_of F.rows_used node.now bid prices.now) node.now.net b
+        best) }
     ensures size { IfOk result (λ best. IfSome best IsWorthSize) }
 {
     if let Some(free) = free {
@@ -191,18 +190,16 @@ pub(crate) fn best_offer<F: RowFamily>(
 ) -> Result<Option<i128>, NoMemory>
     requires instance { IsInstance node.now.net node.now.bids }
     requires bid { bid < length node.now.bids }
-    requires free { IfSome free
-        (λ f. IsSomeAnd (slice_get node.now.bids bid) (λ b. IsFree node.now.net b f.now)) }
+    requires free { IfSome free (λ f. IsSomeAnd (slice_get node.now.bids bid)
+        (λ b. IsFree node.now.net b f.now)) }
     requires ascending { AreAscending F.Row.cmp prices.now }
     requires proper { ArePrices (F.rows_of node.now.family node.now.net) prices.now }
-    ensures best { IfOk result
-        (λ best. (b : Asked) → slice_get node.now.bids bid ≡ Some b
+    ensures best { IfOk result (λ best. (b : Asked) → slice_get node.now.bids bid ≡ Some b
         → IsBestOffer node.now.net (F.rows_of node.now.family node.now.net) node.now.bids
         node.now.node prices.now bid b best) }
     ensures size { IfOk result (λ best. IfSome best IsWorthSize) }
 {
-    let inst = node.inst();
-    let _ = inst.net.track_count();
+    node.laws();
     let best = best_at(alloc, node, prices, bid, free, table)?;
     if node.has_yes(bid) {
         Ok(best)
@@ -267,19 +264,16 @@ fn offer_at<F: RowFamily>(
     requires bid { bid < length node.now.bids }
     requires free { IsSomeAnd (slice_get node.now.bids bid) (λ b. IsFree node.now.net b free.now) }
     requires watched { AreWatched (F.rows_of node.now.family node.now.net)
-        (kind_at node.now.bids bid)
-        (yes_load (F.rows_of node.now.family node.now.net) node.now.bids node.now.node)
-        (option_map (λ w. w.items) watched.now) free.now.legs.items }
+        (kind_at node.now.bids bid) (yes_load (F.rows_of node.now.family node.now.net) node.now.bids
+        node.now.node) (option_map (λ w. w.items) watched.now) free.now.legs.items }
     requires ascending { AreAscending F.Row.cmp prices.now }
     requires proper { ArePrices (F.rows_of node.now.family node.now.net) prices.now }
-    ensures best { IfOk result
-        (λ best. (b : Asked) → slice_get node.now.bids bid ≡ Some b
+    ensures best { IfOk result (λ best. (b : Asked) → slice_get node.now.bids bid ≡ Some b
         → IsBestOffer node.now.net (F.rows_of node.now.family node.now.net) node.now.bids
         node.now.node prices.now bid b best) }
     ensures size { IfOk result (λ best. IfSome best IsWorthSize) }
 {
-    let inst = node.inst();
-    let _ = inst.net.track_count();
+    node.laws();
     if is_let_be(node, prices, bid, free, watched) {
         return Ok(Some(or_zero(free.best)));
     }
@@ -314,9 +308,8 @@ fn term_sum<F: RowFamily>(
         (map (option_map (λ w. w.items)) watches.now) }
     requires ascending { AreAscending F.Row.cmp prices.now }
     requires proper { ArePrices (F.rows_of node.now.family node.now.net) prices.now }
-    ensures terms { IfOk result
-        (AreTerms node.now.net (F.rows_of node.now.family node.now.net) node.now.bids node.now.node
-        prices.now (length node.now.bids)) }
+    ensures terms { IfOk result (AreTerms node.now.net (F.rows_of node.now.family node.now.net)
+        node.now.bids node.now.node prices.now (length node.now.bids)) }
     ensures size { IfOk result (λ sum. IfSome sum (IsSumSize 1000)) }
 {
     let count = node.inst().bids.len() as u32;

@@ -25,13 +25,12 @@ fn add_split<F: RowFamily>(
 ) -> Result<(), NoMemory>
     requires item { IsFormedItem F.Row.cmp inst.net.now (length inst.bids.now) item.now }
     requires room { (q : F.Row) → total_of F.Row.cmp loads.old q < 2 ^ 100 }
-    ensures spares { OnOk result
-        ((q : F.Row) → total_of F.Row.cmp loads.new q ≡ 0
+    ensures spares { OnOk result ((q : F.Row) → total_of F.Row.cmp loads.new q ≡ 0
         → Spares (F.rows_of rows.now inst.entry.net.now) inst.entry.bids.now q item.now) }
-    ensures more { OnOk result
-        ((q : F.Row) → total_of F.Row.cmp loads.old q ≤ total_of F.Row.cmp loads.new q) }
-    ensures few { OnOk result
-        ((q : F.Row) → total_of F.Row.cmp loads.new q ≤ total_of F.Row.cmp loads.old q + 8192) }
+    ensures more { OnOk result ((q : F.Row) → total_of F.Row.cmp loads.old q
+        ≤ total_of F.Row.cmp loads.new q) }
+    ensures few { OnOk result ((q : F.Row) → total_of F.Row.cmp loads.new q
+        ≤ total_of F.Row.cmp loads.old q + 8192) }
 {
     if let Item::Split { bid, leg } = item {
         let decision = Decision {
@@ -68,10 +67,10 @@ fn watch_row<R: Copy + Ord>(
     loads: &BTreeMap<R, u128>,
     row: R,
 ) -> Result<(), NoMemory>
-    ensures kept { OnOk result
-        ((q : R) → Contains watched.old.items q → Contains watched.new.items q) }
-    ensures watched { OnOk result
-        (0 < total_of R.cmp loads.now row → Contains watched.new.items row) }
+    ensures kept { OnOk result ((q : R) → Contains watched.old.items q
+        → Contains watched.new.items q) }
+    ensures watched { OnOk result (0 < total_of R.cmp loads.now row
+        → Contains watched.new.items row) }
 {
     if total(loads, row) > 0 {
         watched.push(row)?;
@@ -90,13 +89,11 @@ fn watch_leg<F: RowFamily>(
     leg: Leg,
 ) -> Result<bool, NoMemory>
     requires { IsUsable net.now kind leg }
-    ensures kept { IfOk result
-        (λ _. (q : F.Row) → Contains watched.old.items q → Contains watched.new.items q) }
-    ensures watched { IfOk result
-        (λ fits. IsTrue fits → IsWatched (F.rows_of rows.now net.now) kind
+    ensures kept { IfOk result (λ _. (q : F.Row) → Contains watched.old.items q
+        → Contains watched.new.items q) }
+    ensures watched { IfOk result (λ fits. IsTrue fits → IsWatched (F.rows_of rows.now net.now) kind
         (total_of F.Row.cmp loads.now) watched.new.items leg) }
 {
-    let _ = net.track_count();
     for k in 0..8192 {
         let Some(row) = rows.touched(net, kind, leg, k) else {
             return Ok(true);
@@ -161,7 +158,6 @@ pub(crate) fn find_watches<F: RowFamily>(
         (map (option_map (λ w. w.items)) watches.items)) }
 {
     let mut watches = Vec::new(alloc);
-    let _ = inst.net.track_count();
     'bids: for (i, bid) in inst.bids.iter().enumerate() {
         let legs = legs_of(&frees[i]);
         let watched = watch_legs(alloc, inst.net, rows, loads, kind_of(bid), legs)?;

@@ -24,7 +24,8 @@ impl CrossRows {
     /// The family of crossing rows, which takes no memory. Legs keep the headways and the crossings exactly where they use
     /// no row of headways and no row of crossings more than once.
     pub fn new() -> CrossRows
-        ensures { (net : Net) (entries : List Entry) → IsProper net → All (λ e. IsUsable net e.0 e.1) entries → AreBothRules net entries }
+        ensures { (net : Net) (entries : List Entry) → IsProper net
+            → All (λ e. IsUsable net e.0 e.1) entries → AreBothRules net entries }
     {
         CrossRows
     }
@@ -63,7 +64,7 @@ impl RowFamily for CrossRows {
         ensures row { result ≡ (cross_rows net.now).is_row row }
         ensures rule { IsTrue result ↔ IsCrossRow net.now row }
     {
-        let _ = net.track_count();
+        net.laws();
         is_row(net, row)
     }
 

@@ -12,7 +12,7 @@ use optra_network::Network;
 pub fn cross_rows_are_few(net: &Network)
     ensures { AreFewerThan row_cmp (cross_rows net.now) (10 ^ 16) }
 {
-    let _proper = net.track_count();
+    net.laws();
 }
 
 /// A law, and no work: the kinds of rows of crossings have different words.

@@ -24,9 +24,12 @@ pub fn take_actions(
     actions: Vec<TimedAct>,
 ) -> Result<Taken, NoMemory>
     requires { All (λ a. HasAmount a.act) actions.items }
-    ensures outcomes { IfOk result (λ taken. taken.outcomes.items ≡ outcomes auction.old (acts_of auction.old.round actions.items)) }
-    ensures later { IfOk result (λ taken. taken.later.items ≡ other_acts auction.old.round actions.items) }
-    ensures after { OnOk result (auction.new ≡ after_acts auction.old (acts_of auction.old.round actions.items)) }
+    ensures outcomes { IfOk result (λ taken. taken.outcomes.items
+        ≡ outcomes auction.old (acts_of auction.old.round actions.items)) }
+    ensures later { IfOk result (λ taken. taken.later.items
+        ≡ other_acts auction.old.round actions.items) }
+    ensures after { OnOk result (auction.new ≡ after_acts auction.old (acts_of auction.old.round
+        actions.items)) }
 {
     let round = auction.round();
     let mut outcomes = Vec::new(alloc);

@@ -22,11 +22,11 @@ pub fn close_of(
     late: &[TimedAct],
 ) -> Result<Vec<u8>, NoMemory>
     requires { ArePlanned auction.now bids.now }
-    ensures { IfOk result (λ text. text.items ≡ records_text (close_records (record {
-      round = auction.now.round;
-      late = map (λ a. a.row) late.now;
-      awards = awards_of auction.now.standing;
-    }))) }
+    ensures { IfOk result (λ text. text.items
+        ≡ records_text
+        (close_records
+        (record
+        { round = auction.now.round; late = map (λ a. a.row) late.now; awards = awards_of auction.now.standing }))) }
 {
     let late = rows_of(alloc, late)?;
     let mut awards = Vec::new(alloc);

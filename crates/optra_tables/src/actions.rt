@@ -214,7 +214,8 @@ fn read_table(
     bytes: &[u8],
 ) -> Result<(), ReadError>
     requires { length actions.old ≤ 100000 }
-    ensures { Gives (λ _. actions.new) result (table_read action_row Table.Actions actions_header actions.old bytes.now) }
+    ensures { Gives (λ _. actions.new) result (table_read action_row Table.Actions actions_header
+        actions.old bytes.now) }
 {
     read_rows::<ActionRows>(
         alloc,

@@ -74,8 +74,10 @@ impl BidList {
     /// Adds a stop to the bid at a place.
     pub fn add_stop(&mut self, place: usize, raw: &RawStop) -> Result<(), BidFault>
         requires { place < length self.old }
-        ensures rule { IfSome (slice_get self.old place) (λ bid. FollowsBidRule (stop_refusal bid.path raw.now) result) }
-        ensures ok { OnOk result (IfSome (slice_get self.old place) (λ bid. self.new ≡ slice_set self.old place (with_stop bid (stop_of raw.now)))) }
+        ensures rule { IfSome (slice_get self.old place)
+            (λ bid. FollowsBidRule (stop_refusal bid.path raw.now) result) }
+        ensures ok { OnOk result (IfSome (slice_get self.old place) (λ bid. self.new
+            ≡ slice_set self.old place (with_stop bid (stop_of raw.now)))) }
     {
         let bid = &mut self.bids[place];
         bid.add_stop(raw)

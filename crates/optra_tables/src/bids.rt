@@ -102,7 +102,8 @@ pub fn name_from(alloc: Global, text: &str) -> Result<Name, NoMemory>
 fn made(alloc: Global, row: u32, told: &ToldBid<'_>, raw: &RawBid) -> Result<Bid, ReadError>
     requires name { IsTrue (is_name told.now.name.now) }
     requires bidder { IsTrue (is_name told.now.bidder.now) }
-    ensures { Gives parts_of result (bid_outcome Bids row (bid_refusal raw.now) (made_of (told_of told.now) raw.now)) }
+    ensures { Gives parts_of result (bid_outcome Bids row (bid_refusal raw.now)
+        (made_of (told_of told.now) raw.now)) }
 {
     let name = name_from(alloc, told.name)?;
     let bidder = name_from(alloc, told.bidder)?;
@@ -197,7 +198,8 @@ pub fn read_named(
     bytes: &[u8],
 ) -> Result<(), ReadError>
     requires { length bids.old ≤ 1000 }
-    ensures gives { Gives (λ _. bids.new) result (table_read (bid_row net.now) Bids bids_header bids.old bytes.now) }
+    ensures gives { Gives (λ _. bids.new) result (table_read (bid_row net.now) Bids bids_header
+        bids.old bytes.now) }
     ensures few { OnOk result (length bids.new ≤ 1000) }
 {
     read_rows::<BidRows>(alloc, net, bids, Table::Bids, &BIDS_HEADER, cells, bytes)

@@ -26,8 +26,8 @@ fn add(
     second: &str,
     minutes: u64,
 ) -> Result<(), ReadError>
-    ensures { Gives (λ _. net.new) result
-        (crossing_outcome net.old row first_track.now second_track.now first.now second.now minutes) }
+    ensures { Gives (λ _. net.new) result (crossing_outcome net.old row first_track.now
+        second_track.now first.now second.now minutes) }
 {
     let answer = net.crossing(first_track, second_track, first, second, minutes);
     net_answer(Table::Crossings, row, answer)?;
@@ -86,8 +86,8 @@ pub fn read_crossings(
     bytes: &[u8],
 ) -> Result<(), ReadError>
     requires { IsWhole net.old }
-    ensures gives { Gives (λ _. net.new) result
-        (table_read crossing_row Crossings crossings_header net.old bytes.now) }
+    ensures gives { Gives (λ _. net.new) result (table_read crossing_row Crossings crossings_header
+        net.old bytes.now) }
     ensures whole { OnOk result (IsWhole net.new) }
 {
     read_rows::<CrossingRows>(

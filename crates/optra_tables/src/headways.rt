@@ -26,7 +26,9 @@ fn add(
     second: &str,
     minutes: u64,
 ) -> Result<(), ReadError>
-    ensures { Gives (λ _. net.new) result (net_outcome Headways row (headway_refusal net.old track.now first.now second.now minutes) (unwrap_or (after_headway net.old track.now first.now second.now minutes) net.old)) }
+    ensures { Gives (λ _. net.new) result (net_outcome Headways row
+        (headway_refusal net.old track.now first.now second.now minutes)
+        (unwrap_or (after_headway net.old track.now first.now second.now minutes) net.old)) }
 {
     let answer = net.headway(track, first, second, minutes);
     net_answer(Table::Headways, row, answer)?;
@@ -84,7 +86,8 @@ pub fn read_headways(
     bytes: &[u8],
 ) -> Result<(), ReadError>
     requires { HasFew net.old }
-    ensures gives { Gives (λ _. net.new) result (table_read headway_row Headways headways_header net.old bytes.now) }
+    ensures gives { Gives (λ _. net.new) result (table_read headway_row Headways headways_header
+        net.old bytes.now) }
     ensures few { OnOk result (HasFew net.new) }
 {
     read_rows::<HeadwayRows>(

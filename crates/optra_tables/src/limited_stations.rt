@@ -76,8 +76,8 @@ pub fn read_limited_stations(
     bytes: &[u8],
 ) -> Result<(), ReadError>
     requires { HasFew net.old }
-    ensures gives { Gives (λ _. net.new) result
-        (table_read limited_station_row Stations limited_stations_header net.old bytes.now) }
+    ensures gives { Gives (λ _. net.new) result (table_read limited_station_row Stations
+        limited_stations_header net.old bytes.now) }
     ensures few { OnOk result (HasFew net.new) }
 {
     read_rows::<LimitedStationRows>(

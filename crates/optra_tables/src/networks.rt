@@ -44,7 +44,8 @@ fn read_after_stations(
     files: &NetFiles<'_>,
 ) -> Result<(), ReadError>
     requires { HasFew net.old }
-    ensures ok { OnOk result (after_stations net.old (files_of files.now) ≡ headways_outcome net.new) }
+    ensures ok { OnOk result (after_stations net.old (files_of files.now)
+        ≡ headways_outcome net.new) }
     ensures few { OnOk result (HasFew net.new) }
     ensures alone { OnOk result (HasHeadwaysAlone net.old → HasHeadwaysAlone net.new) }
     ensures err { IfErr result (λ e. Fails e (after_stations net.old (files_of files.now))) }
@@ -91,11 +92,11 @@ fn read_second(
     crossings: &[u8],
 ) -> Result<(), ReadError>
     requires { net.old ≡ empty_net }
-    ensures ok { OnOk result
-        (second_network_of (files_of files.now) crossings.now ≡ crossings_outcome net.new) }
+    ensures ok { OnOk result (second_network_of (files_of files.now) crossings.now
+        ≡ crossings_outcome net.new) }
     ensures whole { OnOk result (IsWhole net.new) }
-    ensures err { IfErr result
-        (λ e. Fails e (second_network_of (files_of files.now) crossings.now)) }
+    ensures err { IfErr result (λ e. Fails e (second_network_of (files_of files.now)
+        crossings.now)) }
 {
     let mut cells = ByteRecord::new(alloc);
     read_limited_stations(alloc, net, &mut cells, files.stations)?;

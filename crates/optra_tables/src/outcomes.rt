@@ -46,7 +46,8 @@ pub fn bid_answer<T>(table: Table, row: u32, answer: Result<T, BidFault>) -> Res
 
 /// What is named is there, or the row is at fault.
 pub fn known<T>(table: Table, row: u32, found: Option<T>) -> Result<T, ReadError>
-    ensures { Gives (λ value. value) result (or_fault (fault table row (Kind.Bid BidRefusal.UnknownName)) found) }
+    ensures { Gives (λ value. value) result
+        (or_fault (fault table row (Kind.Bid BidRefusal.UnknownName)) found) }
 {
     match found {
         Some(value) => Ok(value),

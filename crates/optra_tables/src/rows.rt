@@ -23,7 +23,8 @@ pub fn read_rows<T: TableRows<Fault = TableFault>>(
 ) -> Result<(), ReadError>
     requires kept { T.is_kept known.old }
     requires room { T.room known.old < 2 ^ 31 }
-    ensures gives { Gives (λ _. known.new) result (table_read (T.step context.now) table (map (λ name. name.now) header.now) known.old bytes.now) }
+    ensures gives { Gives (λ _. known.new) result (table_read (T.step context.now) table
+        (map (λ name. name.now) header.now) known.old bytes.now) }
     ensures kept { OnOk result (T.is_kept known.new) }
 {
     let missing = fault(table, 1, Kind::Header);

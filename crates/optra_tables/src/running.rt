@@ -25,7 +25,9 @@ fn add(
     kind: &str,
     times: [u64; 4],
 ) -> Result<(), ReadError>
-    ensures { Gives (λ _. net.new) result (net_outcome Running row (running_refusal net.old track.now kind.now times) (unwrap_or (after_running net.old track.now kind.now times) net.old)) }
+    ensures { Gives (λ _. net.new) result
+        (net_outcome Running row (running_refusal net.old track.now kind.now times)
+        (unwrap_or (after_running net.old track.now kind.now times) net.old)) }
 {
     let answer = net.running(track, kind, times);
     net_answer(Table::Running, row, answer)?;
@@ -82,7 +84,8 @@ pub fn read_running(
     bytes: &[u8],
 ) -> Result<(), ReadError>
     requires { HasFew net.old }
-    ensures gives { Gives (λ _. net.new) result (table_read running_row Running running_header net.old bytes.now) }
+    ensures gives { Gives (λ _. net.new) result (table_read running_row Running running_header
+        net.old bytes.now) }
     ensures few { OnOk result (HasFew net.new) }
 {
     read_rows::<RunningRows>(

@@ -21,7 +21,9 @@ use std::alloc::Global;
 /// Adds what a record says, or tells why the network refuses it.
 fn add(net: &mut Builder, row: u32, name: &str) -> Result<(), ReadError>
     requires { IsTrue (is_name name.now) }
-    ensures { Gives (λ _. net.new) result (net_outcome Stations row (station_refusal net.old name.now) (record net.old { stations = net.old.stations ++ name.now ∷ [] })) }
+    ensures { Gives (λ _. net.new) result (net_outcome Stations row
+        (station_refusal net.old name.now)
+        (record net.old { stations = net.old.stations ++ name.now ∷ [] })) }
 {
     let answer = net.station(name);
     net_answer(Table::Stations, row, answer)?;
@@ -76,7 +78,8 @@ pub fn read_stations(
     bytes: &[u8],
 ) -> Result<(), ReadError>
     requires { HasFew net.old }
-    ensures gives { Gives (λ _. net.new) result (table_read station_row Stations stations_header net.old bytes.now) }
+    ensures gives { Gives (λ _. net.new) result (table_read station_row Stations stations_header
+        net.old bytes.now) }
     ensures few { OnOk result (HasFew net.new) }
 {
     read_rows::<StationRows>(alloc, &(), net, Table::Stations, &["station"], cells, bytes)

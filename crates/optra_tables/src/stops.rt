@@ -25,7 +25,8 @@ use std::alloc::Global;
 /// Adds a stop to the bid at a place, or tells why the bid refuses it.
 fn add(bids: &mut BidList, row: u32, place: usize, raw: &RawStop) -> Result<(), ReadError>
     requires { place < length bids.old }
-    ensures { IfSome (slice_get bids.old place) (λ bid. Gives (λ _. bids.new) result (stop_outcome row bids.old place bid raw.now)) }
+    ensures { IfSome (slice_get bids.old place) (λ bid. Gives (λ _. bids.new) result
+        (stop_outcome row bids.old place bid raw.now)) }
 {
     let answer = bids.add_stop(place, raw);
     bid_answer(Table::Stops, row, answer)
@@ -39,7 +40,8 @@ fn found(
     name: &str,
     station: &str,
 ) -> Result<(usize, StationId), ReadError>
-    ensures gives { Gives (λ found. (found.0, found.1)) result (found_at net.now bids.now row name.now station.now) }
+    ensures gives { Gives (λ found. (found.0, found.1)) result (found_at net.now bids.now row
+        name.now station.now) }
     ensures within { IfOk result (λ found. found.0 < length bids.now) }
 {
     let Some(place) = bids.place(name) else {
@@ -125,7 +127,8 @@ fn read_stops(
     bytes: &[u8],
 ) -> Result<(), ReadError>
     requires { length bids.old ≤ 1000 }
-    ensures { Gives (λ _. bids.new) result (table_read (stop_row net.now) Stops stops_header bids.old bytes.now) }
+    ensures { Gives (λ _. bids.new) result (table_read (stop_row net.now) Stops stops_header
+        bids.old bytes.now) }
 {
     read_rows::<StopRows>(alloc, net, bids, Table::Stops, &STOPS_HEADER, cells, bytes)
 }
@@ -148,7 +151,8 @@ pub fn read_bids(
     bids: &[u8],
     stops: &[u8],
 ) -> Result<Vec<Bid>, ReadError>
-    ensures gives { Gives (λ bids. map parts_of bids.items) result (bids_of net.now bids.now stops.now) }
+    ensures gives { Gives (λ bids. map parts_of bids.items) result (bids_of net.now bids.now
+        stops.now) }
     ensures instance { IfOk result (λ bids. IsInstance net.now bids.items) }
     ensures names { IfOk result (λ bids. AllDiffer (map (λ bid. bid.name) bids.items)) }
 {

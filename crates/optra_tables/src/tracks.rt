@@ -21,7 +21,8 @@ use std::alloc::Global;
 /// Adds what a record says, or tells why the network refuses it.
 fn add(net: &mut Builder, row: u32, name: &str, from: &str, to: &str) -> Result<(), ReadError>
     requires { IsTrue (is_name name.now) }
-    ensures { Gives (λ _. net.new) result (net_outcome Tracks row (track_refusal net.old name.now from.now to.now) (unwrap_or (after_track net.old name.now from.now to.now) net.old)) }
+    ensures { Gives (λ _. net.new) result (net_outcome Tracks row (track_refusal net.old name.now
+        from.now to.now) (unwrap_or (after_track net.old name.now from.now to.now) net.old)) }
 {
     let answer = net.track(name, from, to);
     net_answer(Table::Tracks, row, answer)?;
@@ -78,7 +79,8 @@ pub fn read_tracks(
     bytes: &[u8],
 ) -> Result<(), ReadError>
     requires { HasFew net.old }
-    ensures gives { Gives (λ _. net.new) result (table_read track_row Tracks tracks_header net.old bytes.now) }
+    ensures gives { Gives (λ _. net.new) result (table_read track_row Tracks tracks_header net.old
+        bytes.now) }
     ensures few { OnOk result (HasFew net.new) }
 {
     read_rows::<TrackRows>(

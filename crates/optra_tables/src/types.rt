@@ -21,7 +21,8 @@ use std::alloc::Global;
 /// Adds what a record says, or tells why the network refuses it.
 fn add(net: &mut Builder, row: u32, name: &str) -> Result<(), ReadError>
     requires { IsTrue (is_name name.now) }
-    ensures { Gives (λ _. net.new) result (net_outcome Types row (type_refusal net.old name.now) (record net.old { types = net.old.types ++ name.now ∷ [] })) }
+    ensures { Gives (λ _. net.new) result (net_outcome Types row (type_refusal net.old name.now)
+        (record net.old { types = net.old.types ++ name.now ∷ [] })) }
 {
     let answer = net.train_type(name);
     net_answer(Table::Types, row, answer)?;
@@ -76,7 +77,8 @@ pub fn read_types(
     bytes: &[u8],
 ) -> Result<(), ReadError>
     requires { HasFew net.old }
-    ensures gives { Gives (λ _. net.new) result (table_read type_row Types types_header net.old bytes.now) }
+    ensures gives { Gives (λ _. net.new) result (table_read type_row Types types_header net.old
+        bytes.now) }
     ensures few { OnOk result (HasFew net.new) }
 {
     read_rows::<TypeRows>(alloc, &(), net, Table::Types, &["type"], cells, bytes)

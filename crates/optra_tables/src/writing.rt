@@ -25,9 +25,10 @@ pub fn bids_text(alloc: Global, net: &Network, bids: &[Bid]) -> Result<Vec<u8>, 
     requires instance { IsInstance net.now bids.now }
     requires differ { AllDiffer (map (λ bid. bid.name) bids.now) }
     ensures text { IfOk result (λ text. text.items ≡ bids_table net.now (parts bids.now)) }
-    ensures again { IfOk result (λ text. Mean net.now text.items (stops_table net.now (parts bids.now)) (parts bids.now)) }
+    ensures again { IfOk result (λ text. Mean net.now text.items
+        (stops_table net.now (parts bids.now)) (parts bids.now)) }
 {
-    let _proper = net.track_count();
+    net.laws();
     let mut printer = Printer::new(alloc);
     let mut fields = Fields::new(alloc);
     print_bids_header(&mut printer, &mut fields)?;
@@ -41,9 +42,10 @@ pub fn stops_text(alloc: Global, net: &Network, bids: &[Bid]) -> Result<Vec<u8>,
     requires instance { IsInstance net.now bids.now }
     requires differ { AllDiffer (map (λ bid. bid.name) bids.now) }
     ensures text { IfOk result (λ text. text.items ≡ stops_table net.now (parts bids.now)) }
-    ensures again { IfOk result (λ text. Mean net.now (bids_table net.now (parts bids.now)) text.items (parts bids.now)) }
+    ensures again { IfOk result (λ text. Mean net.now (bids_table net.now (parts bids.now))
+        text.items (parts bids.now)) }
 {
-    let _proper = net.track_count();
+    net.laws();
     let mut printer = Printer::new(alloc);
     let mut fields = Fields::new(alloc);
     print_stops_header(&mut printer, &mut fields)?;
@@ -99,7 +101,8 @@ fn put_window(fields: &mut Fields, window: Window) -> Result<(), NoMemory>
 
 /// Adds two amounts.
 fn put_pair(fields: &mut Fields, first: Cents, second: Cents) -> Result<(), NoMemory>
-    ensures { OnOk result (fields.new ≡ fields.old ++ signed_decimal first ∷ signed_decimal second ∷ []) }
+    ensures { OnOk result (fields.new ≡ fields.old ++ signed_decimal first ∷ signed_decimal second
+        ∷ []) }
 {
     fields.signed(first)?;
     fields.signed(second)
@@ -138,7 +141,8 @@ fn print_bid(
     bid: &Bid,
 ) -> Result<(), NoMemory>
     requires { IsPathOn net.now bid.now.path }
-    ensures text { OnOk result (printer.new ≡ printer.old ++ record_text (bid_record net.now (parts_of bid.now))) }
+    ensures text { OnOk result (printer.new ≡ printer.old
+        ++ record_text (bid_record net.now (parts_of bid.now))) }
     ensures sound { IsSound (parts_of bid.now) }
 {
     let _sound = name(bid);
@@ -154,7 +158,8 @@ fn print_bids(
     bids: &[Bid],
 ) -> Result<(), NoMemory>
     requires { All (λ bid. IsPathOn net.now bid.path) bids.now }
-    ensures text { OnOk result (printer.new ≡ printer.old ++ records_text (map (bid_record net.now) (parts bids.now))) }
+    ensures text { OnOk result (printer.new ≡ printer.old
+        ++ records_text (map (bid_record net.now) (parts bids.now))) }
     ensures sound { OnOk result (All (λ bid. IsSound (parts_of bid)) bids.now) }
 {
     'bids: for bid in bids {
@@ -188,7 +193,8 @@ fn print_stops_of(
     stops: &[Stop],
 ) -> Result<(), NoMemory>
     requires { All (λ stop. IsStation net.now stop.station) stops.now }
-    ensures { OnOk result (printer.new ≡ printer.old ++ records_text (map (stop_record net.now name.now) stops.now)) }
+    ensures { OnOk result (printer.new ≡ printer.old
+        ++ records_text (map (stop_record net.now name.now) stops.now)) }
 {
     'stops: for stop in stops {
         put_stop(fields, net, name, stop)?;
@@ -205,7 +211,8 @@ fn print_stops(
     bids: &[Bid],
 ) -> Result<(), NoMemory>
     requires { All (λ bid. IsPathOn net.now bid.path) bids.now }
-    ensures text { OnOk result (printer.new ≡ printer.old ++ records_text (all_stop_records net.now (parts bids.now))) }
+    ensures text { OnOk result (printer.new ≡ printer.old
+        ++ records_text (all_stop_records net.now (parts bids.now))) }
     ensures sound { OnOk result (All (λ bid. IsSound (parts_of bid)) bids.now) }
 {
     'bids: for bid in bids {

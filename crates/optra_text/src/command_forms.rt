@@ -75,7 +75,8 @@ fn with_option<'a>(
     name: &'a str,
     is_required: bool,
 ) -> Result<Command<'a>, AllocError>
-    ensures { IfOk result (λ more. app_of more ≡ with_rule (app_of command.entry) (option_rule name.entry.now is_required)) }
+    ensures { IfOk result (λ more. app_of more ≡ with_rule (app_of command.entry) (option_rule
+        name.entry.now is_required)) }
 {
     command.arg(option(alloc, name, is_required))
 }
@@ -97,7 +98,8 @@ fn with_value<'a>(
     command: Command<'a>,
     name: &'a str,
 ) -> Result<Command<'a>, AllocError>
-    ensures { IfOk result (λ more. app_of more ≡ with_rule (app_of command.entry) (value_rule name.entry.now)) }
+    ensures { IfOk result (λ more. app_of more ≡ with_rule (app_of command.entry) (value_rule
+        name.entry.now)) }
 {
     command.arg(value(alloc, name))
 }

@@ -22,7 +22,8 @@ pub fn demo_text(
     verdict: VerdictView,
 ) -> Result<Vec<u8>, NoMemory>
     ensures { IfOk result (λ text. text.items ≡ demo_text_of seed size plan.entry.inst.net.now
-        (length plan.entry.inst.bids.now) plan.entry.revenue plan.entry.bound plan.entry.nodes verdict) }
+        (length plan.entry.inst.bids.now) plan.entry.revenue plan.entry.bound plan.entry.nodes
+        verdict) }
 {
     let mut printer = Printer::new(alloc);
     print_records(alloc, &mut printer, seed, size, plan, verdict)?;
@@ -38,8 +39,10 @@ fn print_records(
     plan: PlanView<'_>,
     verdict: VerdictView,
 ) -> Result<(), NoMemory>
-    ensures { OnOk result (printer.new ≡ printer.old ++ records_text (demo_records seed size plan.entry.inst.net.now
-        (length plan.entry.inst.bids.now) plan.entry.revenue plan.entry.bound plan.entry.nodes verdict)) }
+    ensures { OnOk result (printer.new ≡ printer.old
+        ++ records_text (demo_records seed size plan.entry.inst.net.now
+        (length plan.entry.inst.bids.now) plan.entry.revenue plan.entry.bound plan.entry.nodes
+        verdict)) }
 {
     let mut fields = Fields::new(alloc);
     print_demo(printer, &mut fields, seed, size)?;
@@ -71,7 +74,8 @@ fn print_counts(
     fields: &mut Fields,
     inst: Instance<'_>,
 ) -> Result<(), NoMemory>
-    ensures { OnOk result (printer.new ≡ printer.old ++ records_text (count_records inst.entry.net.now (length inst.entry.bids.now))) }
+    ensures { OnOk result (printer.new ≡ printer.old
+        ++ records_text (count_records inst.entry.net.now (length inst.entry.bids.now))) }
 {
     print_count(
         printer,
@@ -90,7 +94,8 @@ fn print_plan_head(
     fields: &mut Fields,
     plan: PlanView<'_>,
 ) -> Result<(), NoMemory>
-    ensures { OnOk result (printer.new ≡ printer.old ++ records_text (head_records plan.entry.revenue plan.entry.bound plan.entry.nodes)) }
+    ensures { OnOk result (printer.new ≡ printer.old
+        ++ records_text (head_records plan.entry.revenue plan.entry.bound plan.entry.nodes)) }
 {
     print_head(printer, fields, plan.revenue, plan.bound, plan.nodes)
 }

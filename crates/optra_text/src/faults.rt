@@ -69,7 +69,8 @@ fn write_refusal<P: Pen>(pen: &mut P, fault: TableFault) -> Result<(), PenFailed
 
 /// Writes texts one after another.
 fn write_pieces<P: Pen>(pen: &mut P, pieces: &[&str]) -> Result<(), PenFailed>
-    ensures { Writes (P.state pen.old) (P.state pen.new) (flat_map (λ piece. piece.now) pieces.now) result }
+    ensures { Writes (P.state pen.old) (P.state pen.new) (flat_map (λ piece. piece.now) pieces.now)
+        result }
 {
     'pieces: for piece in pieces {
         pen.write(piece.as_bytes())?;

@@ -37,8 +37,9 @@ pub struct PlanView<'a> {
 #[tactic(auto, unfolding(crate::specs::PlanTexts::plan_text_of))]
 pub fn plan_text(alloc: Global, view: PlanView<'_>) -> Result<Vec<u8>, NoMemory>
     requires { IsChoice view.inst.net.now view.inst.bids.now view.choice.now }
-    ensures { IfOk result (λ text. text.items ≡
-        plan_text_of view.entry.inst.net.now view.entry.inst.bids.now view.entry.choice.now view.entry.revenue view.entry.bound view.entry.nodes) }
+    ensures { IfOk result (λ text. text.items
+        ≡ plan_text_of view.entry.inst.net.now view.entry.inst.bids.now view.entry.choice.now
+        view.entry.revenue view.entry.bound view.entry.nodes) }
 {
     let choice = view.choice;
     let mut printer = Printer::new(alloc);
@@ -64,7 +65,6 @@ pub fn plan_text(alloc: Global, view: PlanView<'_>) -> Result<Vec<u8>, NoMemory>
 pub fn text_tells_plan(inst: Instance<'_>)
     ensures { TextTellsPlan inst.entry.net.now inst.entry.bids.now }
 {
-    let _proper = inst.net.track_count();
     let _few = count(inst.bids);
 }
 
@@ -83,7 +83,8 @@ pub(crate) fn print_head(
     bound: Cents,
     nodes: u64,
 ) -> Result<(), NoMemory>
-    ensures { OnOk result (printer.new ≡ printer.old ++ records_text (head_records revenue bound nodes)) }
+    ensures { OnOk result (printer.new ≡ printer.old
+        ++ records_text (head_records revenue bound nodes)) }
 {
     print_status(printer, fields, revenue, bound)?;
     print_amount(printer, fields, "revenue", revenue)?;
@@ -98,7 +99,8 @@ fn print_status(
     revenue: Cents,
     bound: Cents,
 ) -> Result<(), NoMemory>
-    ensures { OnOk result (printer.new ≡ printer.old ++ record_text (codes "status" ∷ status_word revenue bound ∷ [])) }
+    ensures { OnOk result (printer.new ≡ printer.old ++ record_text (codes "status"
+        ∷ status_word revenue bound ∷ [])) }
 {
     fields.clear();
     fields.text("status")?;
@@ -113,7 +115,8 @@ fn print_amount(
     word: &str,
     amount: Cents,
 ) -> Result<(), NoMemory>
-    ensures { OnOk result (printer.new ≡ printer.old ++ record_text (word.now ∷ signed_decimal amount ∷ [])) }
+    ensures { OnOk result (printer.new ≡ printer.old
+        ++ record_text (word.now ∷ signed_decimal amount ∷ [])) }
 {
     fields.clear();
     fields.text(word)?;
@@ -128,7 +131,8 @@ pub(crate) fn print_count(
     word: &str,
     count: u64,
 ) -> Result<(), NoMemory>
-    ensures { OnOk result (printer.new ≡ printer.old ++ record_text (word.now ∷ decimal count ∷ [])) }
+    ensures { OnOk result (printer.new ≡ printer.old ++ record_text (word.now ∷ decimal count
+        ∷ [])) }
 {
     fields.clear();
     fields.text(word)?;
@@ -145,7 +149,8 @@ pub(crate) fn print_trains(
     walks: &[Option<Walk>],
 ) -> Result<(), NoMemory>
     requires { IsChoice net.now bids.now walks.now }
-    ensures { OnOk result (printer.new ≡ printer.old ++ records_text (train_records net.now 1 bids.now walks.now)) }
+    ensures { OnOk result (printer.new ≡ printer.old
+        ++ records_text (train_records net.now 1 bids.now walks.now)) }
 {
     'bids: for (i, bid) in bids.iter().enumerate() {
         print_entry(printer, fields, net, i as u64 + 1, bid, &walks[i])?;
@@ -163,12 +168,13 @@ fn print_entry(
     walk: &Option<Walk>,
 ) -> Result<(), NoMemory>
     requires { IfSome walk.now (IsWalk net.now bid.now.path) }
-    ensures { OnOk result (printer.new ≡ printer.old ++ records_text (entry_records net.now number bid.now walk.now)) }
+    ensures { OnOk result (printer.new ≡ printer.old ++ records_text (entry_records net.now number
+        bid.now walk.now)) }
 {
     let Some(walk) = walk else {
         return Ok(());
     };
-    let _proper = net.track_count();
+    net.laws();
     print_train(printer, fields, net, number, bid, &walk.legs)?;
     print_legs(printer, fields, net, bid.path.kind, &walk.legs)
 }
@@ -183,7 +189,8 @@ fn print_train(
     legs: &[Leg],
 ) -> Result<(), NoMemory>
     requires { IsWalk net.now bid.now.path legs.now }
-    ensures { OnOk result (printer.new ≡ printer.old ++ record_text (train_record net.now number bid.now legs.now)) }
+    ensures { OnOk result (printer.new ≡ printer.old
+        ++ record_text (train_record net.now number bid.now legs.now)) }
 {
     fields.clear();
     fields.text("train")?;
@@ -203,7 +210,8 @@ fn print_legs(
     legs: &[Leg],
 ) -> Result<(), NoMemory>
     requires { All (λ leg. IsTrack net.now leg.track) legs.now }
-    ensures { OnOk result (printer.new ≡ printer.old ++ records_text (map (leg_record net.now kind) legs.now)) }
+    ensures { OnOk result (printer.new ≡ printer.old ++ records_text (map (leg_record net.now kind)
+        legs.now)) }
 {
     'legs: for leg in legs {
         print_leg(printer, fields, net, kind, *leg)?;
@@ -239,7 +247,7 @@ fn track_name(net: &Network, track: TrackId) -> &str
     requires { IsTrack net.now track }
     ensures { result.now ≡ track_text net.now track }
 {
-    let _proper = net.track_count();
+    net.laws();
     net.track_name(track)
 }
 
@@ -248,7 +256,7 @@ fn tail_name(net: &Network, leg: Leg) -> &str
     requires { IsTrack net.now leg.track }
     ensures { result.now ≡ station_text net.now (tail_of net.now leg) }
 {
-    let _proper = net.track_count();
+    net.laws();
     net.station_name(net.tail(leg.track))
 }
 
@@ -257,7 +265,7 @@ fn head_name(net: &Network, leg: Leg) -> &str
     requires { IsTrack net.now leg.track }
     ensures { result.now ≡ station_text net.now (head_of net.now leg) }
 {
-    let _proper = net.track_count();
+    net.laws();
     net.station_name(net.head(leg.track))
 }
 

@@ -105,7 +105,8 @@ fn print_outcomes(
     fields: &mut Fields,
     outcomes: &[(u32, Option<Refusal>)],
 ) -> Result<(), NoMemory>
-    ensures { OnOk result (printer.new ≡ printer.old ++ records_text (map outcome_record outcomes.now)) }
+    ensures { OnOk result (printer.new ≡ printer.old
+        ++ records_text (map outcome_record outcomes.now)) }
 {
     'outcomes: for outcome in outcomes {
         print_outcome(printer, fields, *outcome)?;
@@ -139,7 +140,8 @@ fn print_standing(
 ) -> Result<(), NoMemory>
     requires specs { length specs.now ≡ length bids.now }
     requires walks { length walks.now ≡ length bids.now }
-    ensures { OnOk result (printer.new ≡ printer.old ++ records_text (standing_records specs.now bids.now walks.now)) }
+    ensures { OnOk result (printer.new ≡ printer.old
+        ++ records_text (standing_records specs.now bids.now walks.now)) }
 {
     'bids: for (i, bid) in bids.iter().enumerate() {
         print_standing_bid(printer, fields, &specs[i], bid, &walks[i])?;
@@ -155,7 +157,8 @@ fn print_standing_bid(
     bid: &Bid,
     walk: &Option<Walk>,
 ) -> Result<(), NoMemory>
-    ensures { OnOk result (printer.new ≡ printer.old ++ record_text (standing_record spec.now bid.now walk.now)) }
+    ensures { OnOk result (printer.new ≡ printer.old
+        ++ record_text (standing_record spec.now bid.now walk.now)) }
 {
     fields.clear();
     fields.text("bid")?;
@@ -183,7 +186,8 @@ fn print_awards(
     fields: &mut Fields,
     awards: &[Award<'_>],
 ) -> Result<(), NoMemory>
-    ensures { OnOk result (printer.new ≡ printer.old ++ records_text (map award_record (map award_of awards.now))) }
+    ensures { OnOk result (printer.new ≡ printer.old
+        ++ records_text (map award_record (map award_of awards.now))) }
 {
     'awards: for award in awards {
         print_award(printer, fields, *award)?;
@@ -193,7 +197,8 @@ fn print_awards(
 
 /// Prints a winner.
 fn print_award(printer: &mut Printer, fields: &mut Fields, award: Award<'_>) -> Result<(), NoMemory>
-    ensures { OnOk result (printer.new ≡ printer.old ++ record_text (award_record (award_of award.entry))) }
+    ensures { OnOk result (printer.new ≡ printer.old
+        ++ record_text (award_record (award_of award.entry))) }
 {
     fields.clear();
     fields.text("award")?;

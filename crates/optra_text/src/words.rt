@@ -214,7 +214,8 @@ fn tables_given(alloc: Global, matches: &ArgMatches<'_>) -> Result<TablePaths, W
 /// What `clap` finds in the words of a command.
 fn matches_of<'a>(command: Command<'a>, words: &'a [String]) -> Result<ArgMatches<'a>, WordsError>
     requires { IsSimple (app_of command) }
-    ensures { Reads (λ m. rows_of (found_of m)) result (rows_given (app_of command.entry) (map string_bytes words.entry.now)) }
+    ensures { Reads (λ m. rows_of (found_of m)) result (rows_given (app_of command.entry)
+        (map string_bytes words.entry.now)) }
 {
     match command.try_get_matches_from(words) {
         Ok(matches) => Ok(matches),
@@ -234,14 +235,16 @@ fn refusal(kind: ErrorKind) -> WordsError
 
 /// The value of an option.
 fn given<'a>(matches: &ArgMatches<'a>, name: &str) -> Option<&'a str>
-    ensures { option_map (λ text. text.now) result ≡ first_of name.now (rows_of (found_of matches.now)) }
+    ensures { option_map (λ text. text.now) result
+        ≡ first_of name.now (rows_of (found_of matches.now)) }
 {
     matches.get_str(name)
 }
 
 /// The path of an option that is required.
 fn path_of(alloc: Global, given: Option<&str>) -> Result<PathText, WordsError>
-    ensures { Reads (λ path. path) result (needed_path (option_map (λ text. text.now) given.entry)) }
+    ensures { Reads (λ path. path) result
+        (needed_path (option_map (λ text. text.now) given.entry)) }
 {
     match given {
         Some(text) if is_path(text) => Ok(PathText::new(alloc, text)?),
@@ -251,7 +254,8 @@ fn path_of(alloc: Global, given: Option<&str>) -> Result<PathText, WordsError>
 
 /// The path of an option that may be absent.
 fn path_or_none(alloc: Global, given: Option<&str>) -> Result<Option<PathText>, WordsError>
-    ensures { Reads (λ path. path) result (optional_path (option_map (λ text. text.now) given.entry)) }
+    ensures { Reads (λ path. path) result
+        (optional_path (option_map (λ text. text.now) given.entry)) }
 {
     match given {
         None => Ok(None),
@@ -271,7 +275,8 @@ fn is_path(text: &str) -> bool
 fn number_or(default: u64, least: u64, most: u64, given: Option<&str>) -> Result<u64, WordsError>
     requires low { least ≤ default }
     requires high { default ≤ most }
-    ensures read { Reads (λ n. n) result (number_or default least most (option_map (λ text. text.now) given.entry)) }
+    ensures read { Reads (λ n. n) result (number_or default least most
+        (option_map (λ text. text.now) given.entry)) }
     ensures least { IfOk result (λ n. least ≤ n) }
     ensures most { IfOk result (λ n. n ≤ most) }
 {
@@ -283,7 +288,8 @@ fn number_or(default: u64, least: u64, most: u64, given: Option<&str>) -> Result
 
 /// The number of a value that is required.
 fn number_of(least: u64, most: u64, given: Option<&str>) -> Result<u64, WordsError>
-    ensures read { Reads (λ n. n) result (needed_number least most (option_map (λ text. text.now) given.entry)) }
+    ensures read { Reads (λ n. n) result (needed_number least most (option_map (λ text. text.now)
+        given.entry)) }
     ensures least { IfOk result (λ n. least ≤ n) }
     ensures most { IfOk result (λ n. n ≤ most) }
 {

@@ -29,10 +29,10 @@ returns-clause-ok g c =
     let bids = length c.args.inst.bids.now in
     let cmp = g.F.Row.Ord.cmp in
     let bytes = c.args.bytes.now in
-    let few : bids < 10 ^ 18 = omega (arith, c.requires.few) in
+    let few : bids < 10 ^ 18 = omega (arith, c.args.inst.few) in
     let known : texts.version < 10 ^ 18 = omega (arith, c.version-most.ensures.version, c.version-most.type_inv) in
     from_ok c.read_text.result (read_text cmp texts net bids bytes) (IsTextOf cmp texts net bids bytes) c.read_text.ensures
-    (read_ok cmp (g.met.F.Row.Ord.total).trans texts c.requires.apart (g.met.F.RowText.are_texts family c.requires.apart) net c.track_count-proper.ensures.proper.built bids few known bytes)
+    (read_ok cmp (g.met.F.Row.Ord.total).trans texts c.requires.apart (g.met.F.RowText.are_texts family c.requires.apart) net c.args.inst.proper.built bids few known bytes)
 
 pub returns-clause-err : goal.returns-clause-err
 returns-clause-err g c =
@@ -42,7 +42,7 @@ returns-clause-err g c =
     let bids = length c.args.inst.bids.now in
     let cmp = g.F.Row.Ord.cmp in
     let bytes = c.args.bytes.now in
-    let few : bids < 10 ^ 18 = omega (arith, c.requires.few) in
+    let few : bids < 10 ^ 18 = omega (arith, c.args.inst.few) in
     let known : texts.version < 10 ^ 18 = omega (arith, c.version-most.ensures.version, c.version-most.type_inv) in
     from_err c.read_text.result (read_text cmp texts net bids bytes) (IsAnswer cmp texts net bids bytes) c.read_text.ensures tt
-    (read_err cmp texts c.requires.apart (g.met.F.RowText.are_texts family c.requires.apart) net c.track_count-proper.ensures.proper.built bids few known bytes)
+    (read_err cmp texts c.requires.apart (g.met.F.RowText.are_texts family c.requires.apart) net c.args.inst.proper.built bids few known bytes)

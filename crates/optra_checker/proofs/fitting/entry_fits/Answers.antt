@@ -16,7 +16,7 @@ legs_fit-requires-clause-usable g c =
     let bid = c.args.bid.now in
     let is = subst (λ o. IfSome o (IsWalk net bid.path)) c.in-Some.is c.requires.walk in
     subst (λ (kind : TypeId). All (IsUsable net kind) c.legs_of.result.now) (sym c.kind_of.ensures)
-    (subst (All (IsUsable net bid.path.kind)) (sym c.legs_of.ensures) (walk_usable net c.track_count.ensures.proper bid c.in-Some.walk is))
+    (subst (All (IsUsable net bid.path.kind)) (sym c.legs_of.ensures) (walk_usable net c.laws.ensures bid c.in-Some.walk is))
 
 pub returns-in-Some-clause-added : goal.returns-in-Some-clause-added
 returns-in-Some-clause-added g c =

@@ -12,7 +12,7 @@ returns-then-has_yes-clause-best g c b at =
     let node = c.args.node.now in
     let rows = g.F.RowFamily.rows_of node.family node.net in
     let used = g.F.RowFamily.rows_used node.family node.net in
-    let proper : IsProper node.net = subst IsProper c.inst-inst.ensures.net c.track_count.ensures.proper in
+    let proper : IsProper node.net = c.laws.ensures in
     best_yes g.F.Row.Ord.cmp node.net proper rows used (λ kind leg usable. g.met.F.RowFamily.lists_rows node.family node.net kind leg proper usable) node.bids node.node c.args.prices.now c.args.bid b at c.in_ok-best.best (c.in_ok-best.ensures.best b at)
     (sym c.has_yes.ensures ∙ c.if-has_yes.true)
 
@@ -21,7 +21,7 @@ returns-else-has_yes-clause-best g c b at =
     let node = c.args.node.now in
     let rows = g.F.RowFamily.rows_of node.family node.net in
     let used = g.F.RowFamily.rows_used node.family node.net in
-    let proper : IsProper node.net = subst IsProper c.inst-inst.ensures.net c.track_count.ensures.proper in
+    let proper : IsProper node.net = c.laws.ensures in
     let fits : FitsSigned w128 c.or_zero.result = search rules in
     subst (IsGreatest (IsOffer node.net rows node.bids node.node c.args.prices.now c.args.bid b)) (sym (to_z-of_z w128 c.or_zero.result fits))
     (best_no g.F.Row.Ord.cmp node.net proper rows used (λ kind leg usable. g.met.F.RowFamily.lists_rows node.family node.net kind leg proper usable) node.bids node.node c.args.prices.now c.args.bid b at c.in_ok-best.best (c.in_ok-best.ensures.best b at)

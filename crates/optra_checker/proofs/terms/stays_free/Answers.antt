@@ -21,7 +21,7 @@ returns-then-is_missing g c t =
 pub legs_stay_free-requires-clause-usable : goal.legs_stay_free-requires-clause-usable
 legs_stay_free-requires-clause-usable g c =
     let node = c.args.node.now in
-    let proper : IsProper node.net = subst IsProper c.inst.ensures.net c.track_count.ensures.proper in
+    let proper : IsProper node.net = c.laws.ensures in
     let e = c.legs_of-legs.ensures in
     let some : 0 < length c.args.free.now.legs.items = subst (λ (ls : List Leg). 0 < length ls) e (c.start_stays_free.ensures.some c.if-not-start_stays_free.false) in
     subst (λ (ls : List Leg). All (IsUsable node.net (kind_at node.bids c.args.bid)) ls) (sym e) (free_usable node.net node.bids c.args.bid c.args.free.now c.requires.free proper some)

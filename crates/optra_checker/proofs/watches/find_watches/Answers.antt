@@ -21,7 +21,7 @@ watch_legs-requires g c =
     let count = c.requires.count in
     let l = c.bids-test.true in
     let m : c.bids.i < length c.args.frees.now = omega (arith, count, l) in
-    let usable = kept_usable c.args.inst.net.now c.args.inst.bids.now c.args.frees.now c.bids.i c.bid-item.result c.index-frees-i.result c.track_count.ensures.proper c.requires l m c.bid-item.is c.index-frees-i.is in
+    let usable = kept_usable c.args.inst.net.now c.args.inst.bids.now c.args.frees.now c.bids.i c.bid-item.result c.index-frees-i.result c.args.inst.proper c.requires l m c.bid-item.is c.index-frees-i.is in
     subst (λ (kind : TypeId). All (IsUsable c.args.inst.net.now kind) c.legs_of-legs.result.now) (sym c.kind_of.ensures)
     (subst (λ (ls : List Leg). All (IsUsable c.args.inst.net.now c.bid-item.result.path.kind) ls) (sym c.legs_of-legs.ensures) usable)
 

@@ -20,5 +20,5 @@ returns-clause-text c =
 pub returns-clause-again : goal.returns-clause-again
 returns-clause-again c =
     if_there _ _ c.finish.result
-    (λ text e. stops_mean c.args.net.now c.args.bids.now text.items c.track_count-proper.ensures.proper c.requires.instance c.requires.differ c.in_ok-print_stops.ensures.sound e)
+    (λ text e. stops_mean c.args.net.now c.args.bids.now text.items c.laws.ensures c.requires.instance c.requires.differ c.in_ok-print_stops.ensures.sound e)
     (returns-clause-text c)

@@ -8,4 +8,4 @@ returns c =
     let is = c.count-few.ensures in
     let fits = c.count-few.type_inv in
     let few : length c.args.inst.bids.now < 2 ^ 64 = omega arith in
-    text_tells c.args.inst.net.now c.args.inst.bids.now c.track_count-proper.ensures.proper few
+    text_tells c.args.inst.net.now c.args.inst.bids.now c.args.inst.proper few

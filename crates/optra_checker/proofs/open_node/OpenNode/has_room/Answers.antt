@@ -8,5 +8,5 @@ use Rattle.optra_checker.proofs.open_node.OpenNode.has_room.Goals as goal
 pub blocked-requires-clause-leg : goal.blocked-requires-clause-leg
 blocked-requires-clause-leg g c =
     let self = c.args.self.now in
-    let proper = subst (λ (v : Summed g.row.F.Denot). IsProper v.net) c.self.view_is c.track_count.ensures.proper in
+    let proper = c.requires.usable.proper in
     usable_is_formed self.net (kind_at self.bids c.args.bid) c.args.leg proper c.requires.usable

@@ -19,10 +19,10 @@ invariant_of-before g c =
     let is : node ≡ before ++ d ∷ [] = c.in-Some.ensures.items in
     let lists = map (λ (v : Vec Decision Global). v.items) inside.own.items in
     let earlier = map (λ (v : Vec Decision Global). v.items) c.drop_own.new.lists.items in
-    let proper = c.track_count.ensures.proper in
+    let proper = inside.inst.proper in
     let formed = (behind net (length bids) before d (subst (IsNode net (length bids)) is c.self.invariant.is_node)).is_node.formed in
     let few =
-    totals_few g.F.Row.Ord.cmp net rows (g.F.RowFamily.rows_used f net) (λ kind leg usable. g.met.F.RowFamily.lists_rows f net kind leg proper usable)
+    totals_few g.F.Row.Ord.cmp net proper rows (g.F.RowFamily.rows_used f net) (λ kind leg usable. g.met.F.RowFamily.lists_rows f net kind leg proper usable)
     (λ kind leg row not. g.met.F.RowFamily.unusable_uses_none f net kind leg row not) bids before formed in
     open_pop g.F.Row.Ord.cmp net rows bids d node before inside.totals c.take_decision.new.totals lists earlier inside.index c.take_off.new.self is c.self.invariant few c.take_decision.ensures
     (c.drop_own.ensures (length bids) before (subst (λ n. AreByBid (length bids) n lists) is c.self.invariant.by_bid))

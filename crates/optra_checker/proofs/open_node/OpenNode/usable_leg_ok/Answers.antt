@@ -11,7 +11,7 @@ use Rattle.optra_checker.proofs.open_node.OpenNode.usable_leg_ok.Goals as goal
 pub leg_ok-requires-clause-leg : goal.leg_ok-requires-clause-leg
 leg_ok-requires-clause-leg g c =
     let self = c.args.self.now in
-    let proper = subst (λ (v : Summed g.row.F.Denot). IsProper v.net) c.self.view_is c.track_count.ensures.proper in
+    let proper = c.requires.usable.proper in
     usable_is_formed self.net (kind_at self.bids c.args.bid) c.args.leg proper c.requires.usable
 
 pub returns : goal.returns
@@ -20,7 +20,7 @@ returns g c =
     let kind = kind_at self.bids c.args.bid in
     let rows = g.F.RowFamily.rows_of self.family self.net in
     let used = g.F.RowFamily.rows_used self.family self.net in
-    let proper = subst (λ (v : Summed g.row.F.Denot). IsProper v.net) c.self.view_is c.track_count.ensures.proper in
+    let proper = c.requires.usable.proper in
     let lists = g.met.F.RowFamily.lists_rows self.family self.net kind c.args.leg proper c.requires.usable in
     same_from_decides c.leg_ok.result (may_have_leg self.net rows used self.bids self.node c.args.bid kind c.args.leg) c.leg_ok.ensures
     (leg_tested self.net kind g.F.Row.Ord.cmp rows used self.bids self.node c.args.bid c.args.leg lists)
