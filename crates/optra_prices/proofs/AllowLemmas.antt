@@ -1,10 +1,8 @@
 -- Tables of arcs that are brought to a node, arc by arc and bid by bid.
-use Rattle.std.proofs.Common.{◌≡◌, ◌≢◌, ℕ, ◌+◌, ◌≤◌, ◌<◌, Bool, true, false, cond, List, [], ◌∷◌, ◌++◌, length, take, drop, set, get_or, Option, Some, slice_get, refl, sym, ap, ◌∙◌, subst, arith, inl, inr, ℤ}
+use Rattle.std.proofs.Common.{◌≡◌, ◌≢◌, ℕ, ◌+◌, ◌≤◌, ◌<◌, Bool, true, false, List, [], length, set, get_or, Some, slice_get, refl, sym, ap, ◌∙◌, subst, arith, inl, inr, ℤ}
 use Rattle.std.specs.Prelude.{◌↔◌, ◌||◌, All, neg_ℤ}
-use Rattle.std.specs.Option.{option_map_or}
 use Rattle.std.specs.declared.cmp.Ordering.{Ordering}
 use Rattle.std.proofs.lemmas.Bool.{cases_eq}
-use Rattle.std.proofs.lemmas.List.{drop_all}
 use Rattle.std.proofs.lemmas.List.Elements.{All-nil, All-weaker}
 use Rattle.std.proofs.lemmas.Option.{same_Some, slice_get_within, slice_get-get_or}
 use Rattle.optra_network.specs.Net.{Net, IsProper}
@@ -15,18 +13,21 @@ use Rattle.optra_walk.specs.declared.Leg.{Leg}
 use Rattle.optra_walk.specs.Families.{Rows, IsUsable, ListsRows}
 use Rattle.optra_graph.specs.Timed.{Timed, IsGraphOf, leg_of}
 use Rattle.optra_node.specs.declared.Decision.{Decision}
-use Rattle.optra_node.specs.Nodes.{IsBlocked, kind_at, uses_at, yes_uses, yes_load, others_load}
+use Rattle.optra_node.specs.Nodes.{IsBlocked, kind_at, yes_load, others_load}
 use Rattle.optra_node.specs.Spans.{Lets, IsLetBy, IsLegOk}
 use Rattle.optra_node.specs.Summaries.{decisions_for}
 use Rattle.optra_node.proofs.SummaryLemmas.{all_for, load_split}
 use Rattle.optra_prices.specs.Allowing.{IsToldAnew, AreToldAnew, IsTableAnew, IsTableFor, RoomTells, IsLetMark}
 use Rattle.optra_prices.specs.Arcs.{IsArcValue}
+use Rattle.optra_prices.specs.Claims.{AreClaims, placed_uses, AreAt}
 use Rattle.optra_prices.specs.Keepings.{IsBrought, AreBrought}
 use Rattle.optra_prices.specs.Marks.{IsMark}
 use Rattle.optra_prices.specs.Rooms.{IsTold, IsRoom, HasRoomFor, HasRoomForAll}
 use Rattle.optra_prices.specs.Tables.{Extends, AreTouches, group_at}
 use Rattle.optra_prices.specs.Terms.{Setting, setting, AreTerms, AreMarked}
 use Rattle.optra_prices.specs.Standings.{Covers, IsArcTable, HoldArcs, IsBidTable, AreTables}
+use Rattle.optra_prices.specs.Uses.{AddsUses, TakesUses}
+use Rattle.optra_prices.specs.declared.claims.Claim.{Claim}
 use Rattle.optra_prices.specs.declared.rooms.Told.{Told}
 use Rattle.optra_prices.specs.declared.numbering.ArcTerm.{ArcTerm}
 use Rattle.optra_prices.specs.declared.numbering.BidTable.{BidTable}
@@ -34,56 +35,31 @@ use Rattle.optra_prices.specs.declared.numbering.Groups.{Groups}
 use Rattle.optra_prices.specs.declared.numbering.Touch.{Touch}
 use Rattle.optra_prices.specs.declared.rooms.Room.{Room}
 use Rattle.optra_prices.proofs.ListLemmas.{some_at, all_at}
-use Rattle.optra_prices.proofs.RoomLemmas.{same_room, room_free}
+use Rattle.optra_prices.proofs.ClaimLemmas.{placed_load}
+use Rattle.optra_prices.proofs.RoomLemmas.{same_room, room_free, room_adds, room_takes}
 use Rattle.optra_prices.proofs.StandLemmas.{set_same, set_other, set_length}
 use Rattle.optra_prices.proofs.TableLemmas.{table_kept}
 use Rattle.optra_prices.proofs.TermLemmas.{arc_usable, kind_is, no_start}
 
--- ---- what decided legs use
-module _ {R : Type 0} (rows : Rows R) (bids : List Bid) (numbered : List R) where
-  uses_kind : (row : R) (bid : ℕ) (leg : Leg) → bid < length bids → uses_at rows bids row bid leg ≡ rows.uses (kind_at bids bid) leg row
-  uses_kind row bid leg l =
-      let b = some_at bids bid l in
-      ap (λ (o : Option Bid). option_map_or (λ (x : Bid). rows.uses x.path.kind leg row) o 0) b.1 ∙ ap (λ (kind : TypeId). rows.uses kind leg row) (sym (kind_is bids bid b.0 b.1))
-
-  all_uses : (row : R) (d : Decision) → d.bid < length bids → d.yes ≡ true → yes_uses rows bids row d ≡ rows.uses (kind_at bids d.bid) d.leg row
-  all_uses row d l is = ap (λ (b : Bool). cond b (uses_at rows bids row d.bid d.leg) 0) is ∙ uses_kind row d.bid d.leg l
-
-  -- a yes leg uses what it uses for the type of its bid
-  pub take_yes : (total : R → ℕ) (room : Room) (d : Decision) (kind : TypeId) → d.bid < length bids → kind ≡ kind_at bids d.bid → d.yes ≡ true
-      → IsRoom rows numbered (λ row. total row + yes_uses rows bids row d) room → IsRoom rows numbered (λ row. total row + rows.uses kind d.leg row) room
-  take_yes total room d kind l e positive is =
-      same_room rows numbered (λ row. total row + yes_uses rows bids row d) (λ row. total row + rows.uses kind d.leg row) room
-      (λ row. ap (λ (n : ℕ). total row + n) (all_uses row d l positive ∙ ap (λ (x : TypeId). rows.uses x d.leg row) (sym e))) is
-
-  module _ (decisions : List Decision) (total : R → ℕ) where
-    -- with the yes legs among the first decisions
-    abbrev pub with_first : ℕ → R → ℕ
-    with_first k row = total row + yes_load rows bids (take k decisions) row
-
-    -- with the yes legs among the decisions from k on
-    abbrev pub with_rest : ℕ → R → ℕ
-    with_rest k row = total row + yes_load rows bids (drop k decisions) row
-
-    pub rest_none : (k : ℕ) (room : Room) → length decisions ≤ k → IsRoom rows numbered (with_rest k) room → IsRoom rows numbered total room
-    rest_none k room past is = same_room rows numbered (with_rest k) total room
-        (λ row. let none = ap (λ (ds : List Decision). yes_load rows bids ds row) (drop_all k decisions past) in omega (arith, none)) is
-
+-- ---- the room without and with what a bid's own decisions use
+module _ {R : Type 0} (rows : Rows R) (bids : List Bid) (numbered : List R) (node : List Decision) (claims : List Claim) (are : AreClaims rows bids numbered node claims)
+    (number : ℕ) (places : List ℕ) (own : AreAt node places (decisions_for node number)) where
   -- what all yes legs use is what those of the others and the bid's own use
-  pub split_room : (node : List Decision) (number : ℕ) (own : List Decision) (room : Room) → own ≡ decisions_for node number → IsRoom rows numbered (yes_load rows bids node) room
-      → IsRoom rows numbered (λ row. others_load rows bids node number row + yes_load rows bids own row) room
-  split_room node number own room e is = same_room rows numbered (yes_load rows bids node) (λ row. others_load rows bids node number row + yes_load rows bids own row) room
-      (λ row. load_split rows bids number row node ∙ ap (λ (ds : List Decision). others_load rows bids node number row + yes_load rows bids ds row) (sym e)) is
+  abbrev both : R → ℕ
+  both row = others_load rows bids node number row + yes_load rows bids (decisions_for node number) row
 
-  pub whole_room : (node : List Decision) (number : ℕ) (own : List Decision) (room : Room) → own ≡ decisions_for node number → IsRoom rows numbered (λ row. others_load rows bids node number row + yes_load rows bids own row) room
-      → IsRoom rows numbered (yes_load rows bids node) room
-  whole_room node number own room e is = same_room rows numbered (λ row. others_load rows bids node number row + yes_load rows bids own row) (yes_load rows bids node) room
-      (λ row. ap (λ (ds : List Decision). others_load rows bids node number row + yes_load rows bids ds row) e ∙ sym (load_split rows bids number row node)) is
+  own_load : (n : ℕ) (row : R) → slice_get numbered n ≡ Some row → placed_uses claims places n ≡ yes_load rows bids (decisions_for node number) row
+  own_load n row at = placed_load rows bids numbered n row at node claims are places (decisions_for node number) own
 
-  -- the room beside all yes legs of a node
-  pub node_room : (decisions node : List Decision) (room : Room) → decisions ≡ node → IsRoom rows numbered (λ row. 0 + yes_load rows bids decisions row) room → IsRoom rows numbered (yes_load rows bids node) room
-  node_room decisions node room e is =
-      same_room rows numbered (λ row. 0 + yes_load rows bids decisions row) (yes_load rows bids node) room (λ row. let same = ap (λ (ds : List Decision). yes_load rows bids ds row) e in omega (arith, same)) is
+  pub room_without : (old new : Room) → IsRoom rows numbered (yes_load rows bids node) old → TakesUses (placed_uses claims places) old.uses.items new.uses.items → new.capacities ≡ old.capacities → IsRoom rows numbered (others_load rows bids node number) new
+  room_without old new is =
+      room_takes rows numbered (placed_uses claims places) (others_load rows bids node number) (yes_load rows bids (decisions_for node number)) own_load old new
+      (same_room rows numbered (yes_load rows bids node) both old (λ row. load_split rows bids number row node) is)
+
+  pub room_with : (old new : Room) → IsRoom rows numbered (others_load rows bids node number) old → AddsUses (placed_uses claims places) old.uses.items new.uses.items → new.capacities ≡ old.capacities → IsRoom rows numbered (yes_load rows bids node) new
+  room_with old new is adds kept =
+      same_room rows numbered both (yes_load rows bids node) new (λ row. sym (load_split rows bids number row node))
+      (room_adds rows numbered (placed_uses claims places) (others_load rows bids node number) (yes_load rows bids (decisions_for node number)) own_load old new is adds kept)
 
 -- ---- what the room tells of a table's arcs
 module _ {R : Type 0} (cmp : R → R → Ordering) (net : Net) (proper : IsProper net) (rows : Rows R) (used : TypeId → Leg → List R)

@@ -4,22 +4,20 @@ use Rattle.std.specs.Prelude.{All, Contains, ℤ, pos, ◌*ℤ◌, ◌≤ℤ◌,
 use Rattle.std.proofs.lemmas.Bool.{cases_eq, cases_lt}
 use Rattle.std.specs.Int.{int_max}
 use Rattle.std.proofs.lemmas.Int.{ints, clamps}
-use Rattle.std.proofs.lemmas.List.{get_or-set_same, get_or-set_other, get_or_past, take_more}
+use Rattle.std.proofs.lemmas.List.{get_or-set_same, get_or-set_other, get_or_default, get_or_past, length-set, take_more}
 use Rattle.std.proofs.lemmas.List.Elements.{All-contains, All-set, All-weaker, Contains-push_cases}
 use Rattle.std.proofs.Math.IntN.{zero-*ℤ}
-use Rattle.optra_prices.specs.Columns.{IsColumns, IsDue, MarksMore, MarksRow, MarkTells, PricesAllButDue, Reprices, mark_at, price_at}
-use Rattle.optra_prices.specs.Tables.{IsGroupPrice, group_at, group_price}
-use Rattle.optra_prices.specs.Chains.{IsOnChain, ChainHas, link_at}
-use Rattle.optra_prices.specs.Users.{IsTouched}
+use Rattle.optra_prices.specs.Columns.{IsColumns, AreListed, IsDue, KeepsMarks, MarksGroups, MarksMore, MarksRow, MarkTells, PricesAllButDue, Reprices, mark_at, price_at}
+use Rattle.optra_prices.specs.Tables.{AreGroups, IsGroupPrice, group_at, group_price}
+use Rattle.optra_prices.specs.Indexes.{IsIndex}
+use Rattle.optra_prices.specs.Users.{IsTouched, FindsUsers}
 use Rattle.optra_prices.specs.declared.columns.Columns.{Columns}
 use Rattle.optra_prices.specs.declared.columns.Mark.{Mark}
 use Rattle.optra_prices.specs.declared.columns.Mark.TheVariants.{Still, Due, Rose, Fell}
 use Rattle.optra_prices.specs.declared.numbering.Groups.{Groups}
 use Rattle.optra_prices.specs.declared.numbering.Touch.{Touch}
-use Rattle.optra_prices.specs.declared.chains.Link.{Link}
 use Rattle.optra_node.proofs.LoadLemmas.{contains_head, contains_later}
 use Rattle.optra_node.proofs.SumLemmas.{sum_of-cons}
-use Rattle.optra_prices.proofs.ChainLemmas.{chain_end, chain_next, link_back}
 use Rattle.optra_prices.proofs.ValueOfLemmas.{set_elsewhere}
 use Rattle.optra_prices.specs.Levels.{IsLeft}
 use Rattle.optra_prices.proofs.LevelLemmas.{all_left, left_next, none_left}
@@ -38,8 +36,8 @@ pub mark_apart : (marks : List Mark) (k j : ℕ) (mark : Mark) → j ≢ k → m
 mark_apart marks k j mark apart = get_or-set_other marks k j mark Still apart
 
 -- one group is marked, and it is listed
-pub listed_more : (marks : List Mark) (due more : List ℕ) (g : ℕ) (mark : Mark) → ((h : ℕ) → (mark_at marks h ≡ Still → ⊥) → Contains due h) → (mark_at marks g ≡ Still → Contains more g) → All (Contains more) due
-    → (h : ℕ) → (mark_at (set marks g mark) h ≡ Still → ⊥) → Contains more h
+pub listed_more : (marks : List Mark) (due more : List ℕ) (g : ℕ) (mark : Mark) → AreListed marks due → (mark_at marks g ≡ Still → Contains more g) → All (Contains more) due
+    → AreListed (set marks g mark) more
 listed_more marks due more g mark listed here kept h marked = elim (cases_eq h g) as (λ _. Contains more h) [
   | inl same ↦ subst (Contains more) (sym same) (elim (cases_still (mark_at marks g)) as (λ _. Contains more g) [
     | inl still ↦ here still
@@ -112,44 +110,73 @@ stays_due old new g more due = elim (more.marks g) as (λ _. IsDue new g) [
   | inr is ↦ is
 ]
 
--- ---- a row whose groups are made due
--- the groups of the row are due, or stand on the chain from the place on
-pub record IsMarkingRow (row : ℕ) (old now : Columns) (place : ℕ) : Type 0 where
-  pub columns : IsColumns old.groups now
-  pub more : MarksMore old now
-  pub within : place ≤ length old.users.links.items
-  pub left : (g : ℕ) → g < length old.marks.items → ChainHas old.users row g → IsDue now g ⊎ IsOnChain old.users.links.items place g
+-- ---- groups that are made due, one after the other
+pub keeps_set : (marks : List Mark) (g : ℕ) → g < length marks → KeepsMarks marks (set marks g Due)
+keeps_set marks g l = record {
+  count = length-set marks g Due;
+  marks = λ h. elim (cases_eq h g) as (λ _. (mark_at (set marks g Due) h ≡ mark_at marks h) ⊎ (mark_at (set marks g Due) h ≡ Due)) [
+    | inl same ↦ inr (mark_set marks g h Due l same)
+    | inr apart ↦ inl (mark_apart marks g h Due apart)
+  ];
+}
 
--- groups keep their number
-marks_count : (old now : Columns) → IsColumns old.groups old → IsColumns old.groups now → length now.marks.items ≡ length old.marks.items
-marks_count old now was is =
-    let a = is.mark_count in
-    let b = is.count in
-    let c = ap (λ (gs : Groups). length gs.starts.items) is.groups_are in
-    let d = was.mark_count in
-    let e = was.count in
-    omega arith
+-- as many marks, of which those of the first groups are due
+pub record MarksBelow (n : ℕ) (groups : List ℕ) (old now : List Mark) : Type 0 where
+  pub keeps : KeepsMarks old now
+  pub here : (k : ℕ) → k < n → slice_index groups k < length old → mark_at now (slice_index groups k) ≡ Due
 
-pub marking_next : (row : ℕ) (old now new : Columns) (place : ℕ) (link : Link) → IsColumns old.groups old → IsMarkingRow row old now place → 0 < place → link ≡ link_at old.users.links.items place
-    → IsColumns now.groups new → MarksMore now new → (link.item < length now.marks.items → IsDue new link.item) → IsMarkingRow row old new link.next
-marking_next row old now new place link was so_far some read columns more here = record {
-  columns = subst (λ (gs : Groups). IsColumns gs new) so_far.columns.groups_are columns;
-  more = marks_on old now new so_far.more more;
-  within = let b = link_back old.users place was.users_are some so_far.within in let e = ap (λ (l : Link). l.next) read in let w = so_far.within in omega arith;
-  left = λ g l uses. by g l (so_far.left g l uses);
+pub below_none : (groups : List ℕ) (marks : List Mark) → MarksBelow 0 groups marks marks
+below_none groups marks = record { keeps = record { count = refl; marks = λ g. inl refl }; here = λ k l. absurd (omega arith) }
+
+pub below_more : (n : ℕ) (groups : List ℕ) (old mid new : List Mark) → MarksBelow n groups old mid → KeepsMarks mid new → (slice_index groups n < length mid → mark_at new (slice_index groups n) ≡ Due) → MarksBelow (n + 1) groups old new
+below_more n groups old mid new below keeps here = record {
+  keeps = record {
+    count = keeps.count ∙ below.keeps.count;
+    marks = λ g. on g (below.keeps.marks g) (keeps.marks g);
+  };
+  here = λ k l w. elim (cases_eq k n) as (λ _. mark_at new (slice_index groups k) ≡ Due) [
+    | inl e ↦
+        let same = ap (slice_index groups) e in
+        let count = below.keeps.count in
+        ap (mark_at new) same ∙ here (omega arith)
+    | inr apart ↦ stays (slice_index groups k) (below.here k (omega arith) w)
+  ];
 }
   where
-    count : length now.marks.items ≡ length old.marks.items
-    count = marks_count old now was so_far.columns
+    on : (g : ℕ) → (mark_at mid g ≡ mark_at old g) ⊎ (mark_at mid g ≡ Due) → (mark_at new g ≡ mark_at mid g) ⊎ (mark_at new g ≡ Due) → (mark_at new g ≡ mark_at old g) ⊎ (mark_at new g ≡ Due)
+    on g first (inr due) = inr due
+    on g (inl was) (inl is) = inl (is ∙ was)
+    on g (inr due) (inl is) = inr (is ∙ due)
 
-    by : (g : ℕ) → g < length old.marks.items → IsDue now g ⊎ IsOnChain old.users.links.items place g → IsDue new g ⊎ IsOnChain old.users.links.items link.next g
-    by g l (inl due) = inl (stays_due now new g more due)
-    by g l (inr user) = elim (chain_next old.users.links.items place g user) as (λ _. IsDue new g ⊎ IsOnChain old.users.links.items link.next g) [
-      | inl first ↦
-          let same : link.item ≡ g = ap (λ (x : Link). x.item) read ∙ first in
-          inl (subst (IsDue new) same (here (let n = count in omega arith)))
-      | inr later ↦ inr (subst (λ (k : ℕ). IsOnChain old.users.links.items k g) (sym (ap (λ (x : Link). x.next) read)) later)
+    stays : (g : ℕ) → mark_at mid g ≡ Due → mark_at new g ≡ Due
+    stays g due = elim (keeps.marks g) as (λ _. mark_at new g ≡ Due) [
+      | inl same ↦ same ∙ due
+      | inr is ↦ is
     ]
+
+pub below_all : (n : ℕ) (groups : List ℕ) (old now : List Mark) → length groups ≤ n → MarksBelow n groups old now → MarksGroups groups old now
+below_all n groups old now past below = record {
+  keeps = below.keeps;
+  due = λ g l has.
+      let same : slice_index groups has.0 ≡ g = get_or_default groups has.0 0 g has.1 ∙ has.2 in
+      subst (λ (h : ℕ). mark_at now h ≡ Due) same (below.here has.0 (omega (arith, has.1)) (omega arith));
+}
+
+-- the groups of a row are due
+pub marked_columns : (old new : Columns) (groups : List ℕ) → IsColumns old.groups old → new.groups ≡ old.groups → new.users ≡ old.users → new.grouped ≡ old.grouped → new.highest ≡ old.highest → AreListed new.marks.items new.due.items
+    → MarksGroups groups old.marks.items new.marks.items → IsColumns old.groups new
+marked_columns old new groups is same users grouped highest listed marks = record {
+  groups_are = same;
+  are = subst (λ (gs : Groups). AreGroups gs.starts.items gs.touches.items) (sym same) is.are;
+  users_are = subst IsIndex (sym users) is.users_are;
+  found = subst (FindsUsers new.groups) (sym users) (subst (λ (gs : Groups). FindsUsers gs old.users) (sym same) is.found);
+  count = ap (λ v. length v.items + 1) grouped ∙ is.count ∙ ap (λ (gs : Groups). length gs.starts.items) (sym same);
+  mark_count = marks.keeps.count ∙ is.mark_count ∙ ap (λ v. length v.items) (sym grouped);
+  range = subst (λ v. All IsGroupPrice v.items) (sym grouped) is.range;
+  high = subst IsGroupPrice (sym highest) is.high;
+  most = subst (λ (z : ℤ). All (λ price. price ≤ℤ z) new.grouped.items) (sym highest) (subst (λ v. All (λ price. price ≤ℤ old.highest) v.items) (sym grouped) is.most);
+  listed = listed;
+}
 
 -- ---- groups that are priced anew, one after the other
 still_tells : (price : ℤ) (mark : Mark) → mark ≡ Still → MarkTells price price mark
@@ -210,28 +237,6 @@ high_max highest price h p =
     let d = p.0 in
     let e = p.1 in
     (omega (arith, ints, clamps), omega (arith, ints, clamps))
-
-pub marking_first : (row : ℕ) (old : Columns) (place : ℕ) → IsColumns old.groups old → place ≡ slice_index old.users.first.items row → IsMarkingRow row old old place
-marking_first row old place is read = record {
-  columns = is;
-  more = record { users = refl; prices = refl; marks = λ g. inl refl };
-  within = subst (λ (k : ℕ). k ≤ length old.users.links.items) (sym read) (first_within old.users.first.items row is.users_are.within);
-  left = λ g l uses. inr (subst (λ (k : ℕ). IsOnChain old.users.links.items k g) (sym read) uses);
-}
-  where
-    first_within : (first : List ℕ) (r : ℕ) → All (λ (k : ℕ). k ≤ length old.users.links.items) first → slice_index first r ≤ length old.users.links.items
-    first_within [] r all = omega arith
-    first_within (k ∷ first) zero all = all 0 0 (omega arith)
-    first_within (k ∷ first) (suc r) all = first_within first r (λ j d l. all (suc j) d (omega arith))
-
-pub marked_row : (row : ℕ) (old now : Columns) (place : ℕ) → IsMarkingRow row old now place → place ≡ 0 → MarksRow row old now
-marked_row row old now place is done = record {
-  more = is.more;
-  users_due = λ g l uses. elim (is.left g l uses) as (λ _. IsDue now g) [
-    | inl due ↦ due
-    | inr user ↦ absurd (chain_end old.users.links.items place g done user)
-  ];
-}
 
 -- when all that are listed are priced, each group has its price, and its mark tells how it has moved
 pub told_all : (prices : List ℤ) (old now : Columns) (k g : ℕ) → length old.due.items ≤ k → IsTold prices old k now g

@@ -17,7 +17,7 @@ pub mod NarrowLemmas
 pub mod ChoiceLemmas
 pub mod TermLemmas
 pub mod MakingLemmas
-pub mod ChainLemmas
+pub mod IndexLemmas
 pub mod UserLemmas
 pub mod HolderLemmas
 pub mod SettledLemmas
@@ -35,11 +35,13 @@ pub mod PathLemmas
 pub mod UseLemmas
 pub mod CourseLemmas
 pub mod StepCourseLemmas
+pub mod OverfullLemmas
 pub mod AdmitLemmas
 pub mod ListingLemmas
 pub mod LoadingLemmas
 pub mod AllowLemmas
 pub mod RoomLemmas
+pub mod ClaimLemmas
 pub mod FillLemmas
 pub mod PutLemmas
 pub mod PartLemmas

@@ -1,5 +1,5 @@
 -- Lists by their elements.
-use Rattle.std.proofs.Common.{◌≡◌, ℕ, zero, suc, ◌<◌, List, [], ◌∷◌, map, length, Some, slice_get, refl, ap, subst, arith}
+use Rattle.std.proofs.Common.{◌≡◌, ℕ, zero, suc, ◌<◌, List, [], ◌∷◌, ◌++◌, map, length, take, drop, Some, slice_get, refl, ap, subst, arith}
 use Rattle.std.specs.Prelude.{All}
 use Rattle.std.specs.List.{AllZip}
 use Rattle.std.proofs.lemmas.Option.{none-some, same_Some}
@@ -41,3 +41,38 @@ zip_each P [] [] l h = tt
 zip_each P [] (y ∷ ys) l h = absurd (omega arith)
 zip_each P (x ∷ xs) [] l h = absurd (omega arith)
 zip_each P (x ∷ xs) (y ∷ ys) l h = (h zero x y refl refl, zip_each P xs ys (omega arith) (λ k. h (suc k)))
+
+-- related lists have related elements at each place
+pub zip_at : {A B : Type 0} (P : A → B → Type 0) (xs : List A) (ys : List B) → AllZip P xs ys → (k : ℕ) (x : A) → slice_get xs k ≡ Some x → (y : B) × (slice_get ys k ≡ Some y) × P x y
+zip_at P [] [] h k x e = absurd (none-some x e)
+zip_at P [] (y ∷ ys) h k x e = absurd h
+zip_at P (w ∷ xs) [] h k x e = absurd h
+zip_at {A} {B} P (w ∷ xs) (y ∷ ys) h zero x e = (y, refl, subst (λ (a : A). P a y) (same_Some w x e) h.0)
+zip_at P (w ∷ xs) (y ∷ ys) h (suc k) x e = zip_at P xs ys h.1 k x e
+
+pub zip_take : {A B : Type 0} (P : A → B → Type 0) (k : ℕ) (xs : List A) (ys : List B) → AllZip P xs ys → AllZip P (take k xs) (take k ys)
+zip_take P zero xs ys h = tt
+zip_take P (suc k) [] [] h = tt
+zip_take P (suc k) [] (y ∷ ys) h = absurd h
+zip_take P (suc k) (x ∷ xs) [] h = absurd h
+zip_take P (suc k) (x ∷ xs) (y ∷ ys) h = (h.0, zip_take P k xs ys h.1)
+
+pub zip_drop : {A B : Type 0} (P : A → B → Type 0) (k : ℕ) (xs : List A) (ys : List B) → AllZip P xs ys → AllZip P (drop k xs) (drop k ys)
+zip_drop P zero xs ys h = h
+zip_drop P (suc k) [] [] h = tt
+zip_drop P (suc k) [] (y ∷ ys) h = absurd h
+zip_drop P (suc k) (x ∷ xs) [] h = absurd h
+zip_drop P (suc k) (x ∷ xs) (y ∷ ys) h = zip_drop P k xs ys h.1
+
+pub zip_append : {A B : Type 0} (P : A → B → Type 0) (us xs : List A) (vs ys : List B) → AllZip P us vs → AllZip P xs ys → AllZip P (us ++ xs) (vs ++ ys)
+zip_append P [] xs [] ys h i = i
+zip_append P [] xs (v ∷ vs) ys h i = absurd h
+zip_append P (u ∷ us) xs [] ys h i = absurd h
+zip_append P (u ∷ us) xs (v ∷ vs) ys h i = (h.0, zip_append P us xs vs ys h.1 i)
+
+-- lists that are one have one first element, and one rest
+pub same_first : {X : Type 0} (x y : X) (xs ys : List X) → x ∷ xs ≡ y ∷ ys → x ≡ y
+same_first x y xs ys e = same_Some x y (ap (λ zs. slice_get zs 0) e)
+
+pub same_rest : {X : Type 0} (x y : X) (xs ys : List X) → x ∷ xs ≡ y ∷ ys → xs ≡ ys
+same_rest x y xs ys e = ap (drop 1) e

@@ -81,13 +81,6 @@ pub parts_range : {R : Type 0} (net : Net) (rows : Rows R) (bids : List Bid) (no
     → All (λ (part : ArcPart). IsArcValue part.value) parts
 parts_range net rows bids node total number bid t n parts are = All-from_get_or (λ (part : ArcPart). IsArcValue part.value) parts no_part (λ k l. let c = are.count in (are.each k (omega arith)).range)
 
--- a room of equal uses
-pub room_moves : {R : Type 0} (rows : Rows R) (numbered : List R) (before after : R → ℕ) (room : Room) → ((row : R) → after row ≡ before row) → IsRoom rows numbered before room → IsRoom rows numbered after room
-room_moves rows numbered before after room same is = record {
-  uses_are = λ n row at. is.uses_are n row at ∙ ap Some (sym (same row));
-  capacities_are = is.capacities_are;
-}
-
 -- the part of an arc, by whether there is room for what it touches
 pub part_told : (room : Room) (touches : List Touch) (arc : ArcTerm) (part : ArcPart) (fits : Bool) → part.value ≡ arc.value → part.allowed ≡ (arc.allowed && fits) → IsTrue fits ↔ HasRoomForAll room touches → IsPartOf room touches arc part
 part_told room touches arc part fits value allowed tells = record {

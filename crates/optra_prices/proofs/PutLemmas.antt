@@ -1,17 +1,16 @@
 -- Room after a path was put into it, and what it tells of the path's walk.
-use Rattle.std.proofs.Common.{◌≡◌, ℕ, ◌+◌, ◌-◌, ◌≤◌, ◌<◌, Bool, true, false, cond, List, [], ◌∷◌, length, map, get_or, sum_by, Option, Some, None, slice_get, refl, sym, ap, ◌∙◌, subst, arith, inl, inr}
+use Rattle.std.proofs.Common.{◌≡◌, ℕ, ◌+◌, ◌-◌, ◌≤◌, ◌<◌, Bool, true, false, cond, List, [], ◌∷◌, length, map, get_or, Option, Some, None, slice_get, refl, sym, ◌∙◌, subst, arith, inl, inr}
 use Rattle.std.specs.Prelude.{◌↔◌, All, nat_eq}
 use Rattle.std.specs.Cmp.{IsTotalOrder}
 use Rattle.std.specs.declared.cmp.Ordering.{Ordering}
 use Rattle.std.proofs.lemmas.Bool.{cases_lt}
-use Rattle.std.proofs.lemmas.Bool.Decides.{eqb_tells}
 use Rattle.std.proofs.lemmas.List.Elements.{All-nil, All-cons, All-head, All-tail}
-use Rattle.std.proofs.lemmas.Option.{none-some, slice_get-get_or, slice_get_within, get_or_from_slice_get}
+use Rattle.std.proofs.lemmas.Option.{none-some, get_or_from_slice_get}
 use Rattle.optra_network.specs.Net.{IsProper}
 use Rattle.optra_network.specs.declared.TypeId.{TypeId}
 use Rattle.optra_bid.specs.declared.bids.Bid.{Bid}
 use Rattle.optra_walk.specs.declared.Leg.{Leg}
-use Rattle.optra_walk.specs.Families.{Rows, IsUsable, ListsRows, TellsApart, load_of}
+use Rattle.optra_walk.specs.Families.{IsUsable, ListsRows, TellsApart, load_of}
 use Rattle.optra_graph.specs.Timed.{IsRoute, IsLegArc, leg_at, walk_of}
 use Rattle.optra_prices.specs.Arcs.{path_reply}
 use Rattle.optra_prices.specs.Holdings.{entries_one}
@@ -24,11 +23,11 @@ use Rattle.optra_prices.specs.declared.numbering.BidTable.{BidTable}
 use Rattle.optra_prices.specs.declared.numbering.Groups.{Groups}
 use Rattle.optra_prices.specs.declared.numbering.Touch.{Touch}
 use Rattle.optra_prices.specs.declared.rooms.Room.{Room}
-use Rattle.optra_prices.proofs.FillLemmas.{some_part}
+use Rattle.optra_prices.proofs.FillLemmas.{some_part, touch_within}
 use Rattle.optra_prices.proofs.ArcLemmas.{leg_there, leads_within}
 use Rattle.optra_prices.proofs.ListLemmas.{all_at}
 use Rattle.optra_prices.proofs.LoadingLemmas.{numbered_load, unnumbered_load, arc_there, leg_touches, usable}
-use Rattle.optra_prices.proofs.RoomLemmas.{zip_all, room_tells}
+use Rattle.optra_prices.proofs.RoomLemmas.{zip_all, room_tells, room_adds, room_takes}
 use Rattle.optra_prices.proofs.PartLemmas.{room_for_none}
 
 -- a change of one use is what its touch adds
@@ -51,16 +50,6 @@ touch_takes touch old new changes = record {
     by : (b : Bool) (u : ℕ) → cond b (u - touch.uses) u ≡ u - cond b touch.uses 0
     by true u = refl
     by false u = omega arith
-
--- where touches use a row, and no more is used of each touched row than there is, that is so of the row
-touch_within : (Q : ℕ → Type 0) (touches : List Touch) (n : ℕ) → All (λ touch. Q touch.row) touches → 0 < touch_uses touches n → Q n
-touch_within Q touches n all some = some_part (λ touch. touch_use touch n) (Q n) touches (λ k d l used. by (get_or touches k d) (all k d l) used) some
-  where
-    by : (touch : Touch) → Q touch.row → 0 < touch_use touch n → Q n
-    by touch q used = elim (eqb_tells touch.row n) as (λ _. Q n) [
-      | inl (test, same) ↦ subst Q same q
-      | inr (test, other) ↦ let z = ap (λ (b : Bool). cond b touch.uses 0) test in absurd (omega (arith, used, z))
-    ]
 
 path_within_at : (Q : ℕ → Type 0) (groups : Groups) (table : BidTable) (path : List ℕ) (n : ℕ) → All (λ k. All (λ touch. Q touch.row) (arc_touches groups table k)) path → 0 < path_uses groups table path n → Q n
 path_within_at Q groups table path n all some =
@@ -96,35 +85,11 @@ module _ {R : Type 0} (cmp : R → R → Ordering) (order : IsTotalOrder cmp) (a
 
   -- the path was added
   pub adds_path : (old new : Room) → IsRoom s.rows numbered total old → AddsUses (path_uses groups table path) old.uses.items new.uses.items → new.capacities ≡ old.capacities → IsRoom s.rows numbered (λ row. total row + spent row) new
-  adds_path old new is adds same = record {
-    uses_are = λ n row at.
-        let before = is.uses_are n row at in
-        let l : n < length old.uses.items = slice_get_within old.uses.items n (total row) before in
-        let e : get_or old.uses.items n 0 ≡ total row = get_or_from_slice_get old.uses.items n (total row) 0 before in
-        let a = adds.each n l in
-        let u = uses_at n row at in
-        let c = adds.count in
-        let m : n < length new.uses.items = omega (arith, c, l) in
-        let v : get_or new.uses.items n 0 ≡ total row + spent row = omega (arith, a, e, u) in
-        slice_get-get_or new.uses.items n 0 m ∙ ap Some v;
-    capacities_are = λ n row at. ap (λ c. slice_get c.items n) same ∙ is.capacities_are n row at;
-  }
+  adds_path old new = room_adds s.rows numbered (path_uses groups table path) total spent uses_at old new
 
   -- and taken away again
   pub takes_path : (old new : Room) → IsRoom s.rows numbered (λ row. total row + spent row) old → TakesUses (path_uses groups table path) old.uses.items new.uses.items → new.capacities ≡ old.capacities → IsRoom s.rows numbered total new
-  takes_path old new is takes same = record {
-    uses_are = λ n row at.
-        let before = is.uses_are n row at in
-        let l : n < length old.uses.items = slice_get_within old.uses.items n (total row + spent row) before in
-        let e : get_or old.uses.items n 0 ≡ total row + spent row = get_or_from_slice_get old.uses.items n (total row + spent row) 0 before in
-        let a = takes.each n l in
-        let u = uses_at n row at in
-        let c = takes.count in
-        let m : n < length new.uses.items = omega (arith, c, l) in
-        let v : get_or new.uses.items n 0 ≡ total row = omega (arith, a, e, u) in
-        slice_get-get_or new.uses.items n 0 m ∙ ap Some v;
-    capacities_are = λ n row at. ap (λ c. slice_get c.items n) same ∙ is.capacities_are n row at;
-  }
+  takes_path old new = room_takes s.rows numbered (path_uses groups table path) total spent uses_at old new
 
   module _ (new : Room) (is : IsRoom s.rows numbered (λ row. total row + spent row) new) where
     -- with the path in it, no more is used of a numbered row than there is exactly where its legs have room together

@@ -76,7 +76,7 @@ module _ {R : Type 0} (named numbered : List R) (numbers : List ℕ) (are_number
     }
 
 -- tables serve when their rows get numbers
-pub tables_renumbered : {R : Type 0} (net : Net) (rows : Rows R) (used : TypeId → Leg → List R) (bids : List Bid) (count : ℕ) (named numbered : List R) (before after : Groups) (tables : List BidTable) → after.starts ≡ before.starts
+pub tables_renumbered : {R : Type 0} (net : Net) (rows : Rows R) (used : TypeId → Leg → List R) (bids : List Bid) (count : ℕ) (named numbered : List R) (before after : Groups) (tables : List BidTable) → after.starts.items ≡ before.starts.items
     → Renumbers named numbered before.touches.items after.touches.items → HoldArcs net rows used bids count named before tables → HoldArcs net rows used bids count numbered after tables
 tables_renumbered net rows used bids count named numbered before after tables same renumbers hold = record {
   count_is = hold.count_is;
@@ -85,7 +85,7 @@ tables_renumbered net rows used bids count named numbered before after tables sa
       let touches = map (renumbered renumbers.numbers) before.touches.items in
       let starts = before.starts.items in
       record {
-        arcs_are = subst (λ v. AreArcs net rows used bid table.graph.now numbered table.arcs.items v.items after.touches.items) (sym same)
+        arcs_are = subst (λ (vs : List ℕ). AreArcs net rows used bid table.graph.now numbered table.arcs.items vs after.touches.items) (sym same)
             (subst (λ (ts : List Touch). AreArcs net rows used bid table.graph.now numbered table.arcs.items starts ts) (sym renumbers.touches_are)
             (record {
               graph = is.arcs_are.graph;
@@ -98,7 +98,7 @@ tables_renumbered net rows used bids count named numbered before after tables sa
 }
 
 -- so do groups
-pub all_renumbered : {R : Type 0} (named numbered : List R) (before after : Groups) → after.starts ≡ before.starts → Renumbers named numbered before.touches.items after.touches.items
+pub all_renumbered : {R : Type 0} (named numbered : List R) (before after : Groups) → after.starts.items ≡ before.starts.items → Renumbers named numbered before.touches.items after.touches.items
     → AreGroups before.starts.items before.touches.items → AreGroups after.starts.items after.touches.items
 all_renumbered named numbered before after same renumbers are =
-    subst (λ v. AreGroups v.items after.touches.items) (sym same) (subst (AreGroups before.starts.items) (sym renumbers.touches_are) (groups_renumbered renumbers.numbers before.starts.items before.touches.items are))
+    subst (λ (starts : List ℕ). AreGroups starts after.touches.items) (sym same) (subst (AreGroups before.starts.items) (sym renumbers.touches_are) (groups_renumbered renumbers.numbers before.starts.items before.touches.items are))

@@ -1,29 +1,23 @@
 -- Room by the numbers of rows: how it changes, and what it tells of legs.
-use Rattle.std.proofs.Common.{◌≡◌, ℕ, suc, ◌+◌, ◌-◌, ◌≤◌, ◌<◌, Bool, true, false, cond, List, [], ◌∷◌, length, take, drop, get_or, Some, slice_get, refl, sym, ap, ◌∙◌, subst, arith, inl, inr}
+use Rattle.std.proofs.Common.{◌≡◌, ℕ, ◌+◌, ◌≤◌, ◌<◌, List, [], ◌∷◌, length, get_or, Some, slice_get, refl, ap, ◌∙◌, subst, arith, inl, inr}
 use Rattle.std.specs.Prelude.{◌↔◌, All, Contains}
 use Rattle.std.specs.List.{AllZip}
-use Rattle.std.specs.Cmp.{IsTotalOrder}
 use Rattle.std.specs.declared.cmp.Ordering.{Ordering}
-use Rattle.std.specs.Ordering.{eq_by_cmp}
 use Rattle.std.proofs.lemmas.Bool.{cases_lt}
 use Rattle.std.proofs.lemmas.List.Elements.{All-nil, All-cons}
-use Rattle.std.proofs.lemmas.List.{take_all, drop_all}
-use Rattle.std.proofs.lemmas.List.Sums.{sum_by-cons}
-use Rattle.std.proofs.lemmas.Option.{slice_get_within, get_or_from_slice_get}
-use Rattle.std.proofs.Math.Seq.{drop-cons}
+use Rattle.std.proofs.lemmas.Option.{slice_get_within, slice_get-get_or, get_or_from_slice_get}
 use Rattle.optra_network.specs.declared.TypeId.{TypeId}
 use Rattle.optra_bid.specs.declared.bids.Bid.{Bid}
 use Rattle.optra_walk.specs.declared.Leg.{Leg}
-use Rattle.optra_walk.specs.Families.{Rows, ListsRows, TellsApart}
+use Rattle.optra_walk.specs.Families.{Rows, ListsRows}
 use Rattle.optra_node.specs.declared.Decision.{Decision}
 use Rattle.optra_node.specs.Nodes.{IsBlocked, others_load}
 use Rattle.optra_node.proofs.LoadLemmas.{contains_cases, contains_head, contains_later}
-use Rattle.optra_prices.specs.Holdings.{part_of}
-use Rattle.optra_prices.specs.Rooms.{IsRoom, HasRoomFor, HasRoomForAll, ChangesRow}
+use Rattle.optra_prices.specs.Rooms.{IsRoom, HasRoomFor, HasRoomForAll}
 use Rattle.optra_prices.specs.Tables.{IsTouch, AreTouches}
+use Rattle.optra_prices.specs.Uses.{AddsUses, TakesUses}
 use Rattle.optra_prices.specs.declared.numbering.Touch.{Touch}
 use Rattle.optra_prices.specs.declared.rooms.Room.{Room}
-use Rattle.optra_prices.proofs.HoldLemmas.{part_push, part_all}
 
 pub zip_all : {A B : Type 0} (P : A → B → Type 0) (Q : A → Type 0) (xs : List A) (ys : List B) → AllZip P xs ys → ((x : A) (y : B) → Contains ys y → P x y → Q x) → All Q xs
 zip_all P Q [] ys h f = All-nil Q
@@ -86,65 +80,35 @@ same_room rows numbered before after room same is = record {
   capacities_are = is.capacities_are;
 }
 
-module _ {R : Type 0} (cmp : R → R → Ordering) (rows : Rows R) (numbered : List R) where
-  -- room after a change of one row
-  row_changes : (before after : R → ℕ) (row : R) (change : ℕ → ℕ) (old new : Room) → IsRoom rows numbered before old → ChangesRow cmp numbered row change old new
-      → ((other : R) → cond (eq_by_cmp cmp row other) (change (before other)) (before other) ≡ after other) → IsRoom rows numbered after new
-  row_changes before after row change old new is changes same = record {
-    uses_are = λ n other at. changes.each n (before other) other at (is.uses_are n other at) ∙ ap Some (same other);
-    capacities_are = λ n other at. ap (λ c. slice_get c.items n) changes.capacities_are ∙ is.capacities_are n other at;
+module _ {R : Type 0} (rows : Rows R) (numbered : List R) (extra : ℕ → ℕ) (total more : R → ℕ) (same : (n : ℕ) (row : R) → slice_get numbered n ≡ Some row → extra n ≡ more row) (old new : Room) where
+  -- more is used
+  pub room_adds : IsRoom rows numbered total old → AddsUses extra old.uses.items new.uses.items → new.capacities ≡ old.capacities → IsRoom rows numbered (λ row. total row + more row) new
+  room_adds is adds kept = record {
+    uses_are = λ n row at.
+        let before = is.uses_are n row at in
+        let l : n < length old.uses.items = slice_get_within old.uses.items n (total row) before in
+        let e : get_or old.uses.items n 0 ≡ total row = get_or_from_slice_get old.uses.items n (total row) 0 before in
+        let a = adds.each n l in
+        let u = same n row at in
+        let c = adds.count in
+        let m : n < length new.uses.items = omega (arith, c, l) in
+        let v : get_or new.uses.items n 0 ≡ total row + more row = omega (arith, a, e, u) in
+        slice_get-get_or new.uses.items n 0 m ∙ ap Some v;
+    capacities_are = λ n row at. ap (λ c. slice_get c.items n) kept ∙ is.capacities_are n row at;
   }
 
-  more : (b : Bool) (t p u q : ℕ) → p + cond b u 0 ≡ q → cond b (t + p + u) (t + p) ≡ t + q
-  more true t p u q e = omega arith
-  more false t p u q e = omega arith
-
-  less : (b : Bool) (t p u q : ℕ) → p ≡ cond b u 0 + q → cond b (t + p - u) (t + p) ≡ t + q
-  less true t p u q e = omega arith
-  less false t p u q e = omega arith
-
-  module _ (uses : R → ℕ) (used : List R) (total : R → ℕ) where
-    -- the first k of the rows are used too
-    abbrev pub added : ℕ → R → ℕ
-    added k row = total row + part_of cmp uses (take k used) row
-
-    -- and the rows from k on
-    abbrev pub left : ℕ → R → ℕ
-    left k row = total row + part_of cmp uses (drop k used) row
-
-    pub add_first : (room : Room) → IsRoom rows numbered total room → IsRoom rows numbered (added 0) room
-    add_first room is = same_room rows numbered total (added 0) room (λ row. omega arith) is
-
-    module _ (order : IsTotalOrder cmp) (apart : TellsApart cmp) where
-      pub add_more : (k : ℕ) (row : R) (old new : Room) → slice_get used k ≡ Some row → ChangesRow cmp numbered row (λ u. u + uses row) old new → IsRoom rows numbered (added k) old → IsRoom rows numbered (added (k + 1)) new
-      add_more k row old new at changes is =
-          row_changes (added k) (added (k + 1)) row (λ u. u + uses row) old new is changes
-          (λ other. more (eq_by_cmp cmp row other) (total other) (part_of cmp uses (take k used) other) (uses row) (part_of cmp uses (take (k + 1) used) other) (part_push cmp order apart rows.is_row uses used k row other at))
-
-      pub add_all : ListsRows cmp rows.is_row uses used → (k : ℕ) (room : Room) → length used ≤ k → IsRoom rows numbered (added k) room → IsRoom rows numbered (λ row. total row + uses row) room
-      add_all lists k room past is =
-          same_room rows numbered (added k) (λ row. total row + uses row) room
-          (λ row. ap (λ (n : ℕ). total row + n) (ap (λ (xs : List R). part_of cmp uses xs row) (take_all k used past) ∙ part_all cmp order apart rows.is_row uses used lists.ascending lists.used row)) is
-
-      pub take_first : ListsRows cmp rows.is_row uses used → (room : Room) → IsRoom rows numbered (λ row. total row + uses row) room → IsRoom rows numbered (left 0) room
-      take_first lists room is =
-          same_room rows numbered (λ row. total row + uses row) (left 0) room (λ row. ap (λ (n : ℕ). total row + n) (sym (part_all cmp order apart rows.is_row uses used lists.ascending lists.used row))) is
-
-      pub take_more : (k : ℕ) (row : R) (old new : Room) → slice_get used k ≡ Some row → ChangesRow cmp numbered row (λ u. u - uses row) old new → IsRoom rows numbered (left k) old → IsRoom rows numbered (left (k + 1)) new
-      take_more k row old new at changes is =
-          row_changes (left k) (left (k + 1)) row (λ u. u - uses row) old new is changes
-          (λ other. less (eq_by_cmp cmp row other) (total other) (part_of cmp uses (drop k used) other) (uses row) (part_of cmp uses (drop (k + 1) used) other) (gone other))
-        where
-          one : k + 1 ≡ suc k
-          one = omega arith
-
-          rest : drop k used ≡ row ∷ drop (k + 1) used
-          rest =
-              drop-cons used k row (slice_get_within used k row at) ∙ ap (λ (r : R). r ∷ drop (suc k) used) (get_or_from_slice_get used k row row at) ∙ ap (λ (j : ℕ). row ∷ drop j used) (sym one)
-
-          gone : (other : R) → part_of cmp uses (drop k used) other ≡ cond (eq_by_cmp cmp row other) (uses row) 0 + part_of cmp uses (drop (k + 1) used) other
-          gone other = ap (λ (xs : List R). part_of cmp uses xs other) rest ∙ sum_by-cons (λ (r : R). cond (eq_by_cmp cmp r other) (uses r) 0) row (drop (k + 1) used)
-
-      pub take_last : (k : ℕ) (room : Room) → length used ≤ k → IsRoom rows numbered (left k) room → IsRoom rows numbered total room
-      take_last k room past is =
-          same_room rows numbered (left k) total room (λ row. let none = ap (λ (xs : List R). part_of cmp uses xs row) (drop_all k used past) in omega arith) is
+  -- less is used
+  pub room_takes : IsRoom rows numbered (λ row. total row + more row) old → TakesUses extra old.uses.items new.uses.items → new.capacities ≡ old.capacities → IsRoom rows numbered total new
+  room_takes is takes kept = record {
+    uses_are = λ n row at.
+        let before = is.uses_are n row at in
+        let l : n < length old.uses.items = slice_get_within old.uses.items n (total row + more row) before in
+        let e : get_or old.uses.items n 0 ≡ total row + more row = get_or_from_slice_get old.uses.items n (total row + more row) 0 before in
+        let a = takes.each n l in
+        let u = same n row at in
+        let c = takes.count in
+        let m : n < length new.uses.items = omega (arith, c, l) in
+        let v : get_or new.uses.items n 0 ≡ total row = omega (arith, a, e, u) in
+        slice_get-get_or new.uses.items n 0 m ∙ ap Some v;
+    capacities_are = λ n row at. ap (λ c. slice_get c.items n) kept ∙ is.capacities_are n row at;
+  }

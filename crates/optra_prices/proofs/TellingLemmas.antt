@@ -1,28 +1,33 @@
 -- Which bids the way from one node to another may change.
-use Rattle.std.proofs.Common.{◌≡◌, ◌≢◌, ℕ, ◌+◌, ◌-◌, ◌<◌, ◌≤◌, Bool, true, false, List, length, take, drop, set, get_or, Some, None, slice_get, refl, sym, ap, ◌∙◌, subst, arith, inl, inr}
+use Rattle.std.proofs.Common.{◌≡◌, ◌≢◌, ℕ, ◌+◌, ◌-◌, ◌<◌, ◌≤◌, Bool, true, false, cond, List, length, take, drop, set, get_or, Some, slice_get, refl, sym, ap, ◌∙◌, subst, arith, inl, inr}
 use Rattle.std.specs.Prelude.{Contains}
-use Rattle.std.specs.declared.cmp.Ordering.{Ordering}
 use Rattle.std.proofs.lemmas.Bool.{cases_eq}
+use Rattle.std.proofs.lemmas.Bool.Decides.{eqb_tells}
 use Rattle.std.proofs.lemmas.List.{get_or-set_same, get_or_default, take_all, length-map, length-drop}
 use Rattle.std.proofs.lemmas.List.Elements.{All-more}
-use Rattle.std.proofs.lemmas.Option.{same_Some, none-some, slice_get_within, slice_get-get_or}
+use Rattle.std.proofs.lemmas.Option.{same_Some, slice_get_within, slice_get-get_or}
 use Rattle.optra_node.specs.declared.Decision.{Decision}
 use Rattle.optra_node.specs.Nodes.{yes_load}
-use Rattle.optra_prices.specs.Chains.{ChainHas}
+use Rattle.optra_prices.specs.Indexes.{IndexHas}
 use Rattle.optra_prices.specs.Columns.{IsColumns, IsDue, MarksMore, MarksRow, mark_at}
 use Rattle.optra_prices.specs.Holders.{groups_of, AreHolders, is_told, KeepsTold, TellsHolders}
-use Rattle.optra_prices.specs.Tables.{IsNumbering, group_at, number_in}
+use Rattle.optra_prices.specs.Claims.{AreClaims, claim_uses}
+use Rattle.optra_prices.specs.Tables.{group_at}
 use Rattle.optra_prices.specs.Standings.{AreTables}
-use Rattle.optra_prices.specs.Tellings.{AreUsersDue, MarksNamed, MarksRows, TellsDue, TellsOwn, TellsMoved}
+use Rattle.optra_prices.specs.Tellings.{AreUsersDue, MarksUsed, TellsDue, TellsOwn, TellsMoved}
 use Rattle.optra_prices.specs.Terms.{Setting}
 use Rattle.optra_prices.specs.Users.{IsTouched}
+use Rattle.optra_prices.specs.Uses.{touch_use}
 use Rattle.optra_prices.specs.declared.arc_tables.ArcTables.{ArcTables}
-use Rattle.optra_prices.specs.declared.chains.Chains.{Chains}
+use Rattle.optra_prices.specs.declared.claims.Claim.{Claim}
+use Rattle.optra_prices.specs.declared.index.Index.{Index}
 use Rattle.optra_prices.specs.declared.columns.Columns.{Columns}
 use Rattle.optra_prices.specs.declared.columns.Mark.TheVariants.{Still, Due}
 use Rattle.optra_prices.specs.declared.numbering.ArcTerm.{ArcTerm}
 use Rattle.optra_prices.specs.declared.numbering.BidTable.{BidTable}
 use Rattle.optra_prices.specs.declared.numbering.Groups.{Groups}
+use Rattle.optra_prices.specs.declared.numbering.Touch.{Touch}
+use Rattle.optra_prices.proofs.ClaimLemmas.{claims_load}
 use Rattle.optra_prices.proofs.ColumnLemmas.{cases_still, marks_on, stays_due}
 use Rattle.optra_prices.proofs.HolderLemmas.{keeps_same, keeps_on, keeps_set}
 use Rattle.optra_prices.proofs.ListLemmas.{some_at, all_at, map_at}
@@ -33,75 +38,41 @@ marks_same c = record { users = refl; prices = refl; marks = λ g. inl refl }
 
 -- groups that are due stay so
 users_on : (n : ℕ) (old new : Columns) → MarksMore old new → AreUsersDue n old → AreUsersDue n new
-users_on n old new more due g l has = stays_due old new g more (due g (subst (λ gs. g < length gs.items) more.prices l) (subst (λ us. ChainHas us n g) more.users has))
+users_on n old new more due g l has = stays_due old new g more (due g (subst (λ gs. g < length gs.items) more.prices l) (subst (λ us. IndexHas us n g) more.users has))
 
-module _ {R : Type 0} (numbered : List R) where
-  -- a row without a number leads to no group
-  pub named_none : (cmp : R → R → Ordering) (numbers : List (R × ℕ)) (row : R) (c : Columns) → IsNumbering cmp numbers numbered → number_in cmp numbers row ≡ None → MarksNamed numbered row c c
-  named_none cmp numbers row c is none = record { more = marks_same c; due = λ n at g l has. absurd (none-some n (sym none ∙ is.known n row at)) }
-
-  -- the groups of the row with the number are due
-  pub named_some : (cmp : R → R → Ordering) (numbers : List (R × ℕ)) (row : R) (m : ℕ) (old new : Columns) → IsNumbering cmp numbers numbered → IsColumns old.groups old → number_in cmp numbers row ≡ Some m → MarksRow m old new → MarksNamed numbered row old new
-  named_some cmp numbers row m old new is columns here marks = record {
-    more = marks.more;
-    due = λ n at g l has.
-        let same : n ≡ m = same_Some n m (sym (is.known n row at) ∙ here) in
+-- the groups of a touched row are due
+pub touch_marks : (touch : Touch) (groups : Groups) (old new : Columns) → IsColumns groups old → MarksRow touch.row old new → MarksUsed (touch_use touch) old new
+touch_marks touch groups old new columns marks = record {
+  more = marks.more;
+  due = λ n some g l has. elim (eqb_tells touch.row n) as (λ _. IsDue new g) [
+    | inl (test, same) ↦
         let count = columns.mark_count in
         let prices = ap (λ gs. length gs.items) marks.more.prices in
-        marks.users_due g (omega arith) (subst (λ us. ChainHas us m g) marks.more.users (subst (λ (k : ℕ). ChainHas new.users k g) same has));
-  }
+        marks.users_due g (omega arith) (subst (λ us. IndexHas us touch.row g) marks.more.users (subst (λ (k : ℕ). IndexHas new.users k g) (sym same) has))
+    | inr (test, other) ↦ let z = ap (λ (b : Bool). cond b touch.uses 0) test in absurd (omega (arith, some, z))
+  ];
+}
 
-  -- nothing is used
-  pub rows_none : (used : R → ℕ) (c : Columns) → ((row : R) → used row ≡ 0) → MarksRows numbered used c c
-  rows_none used c none = record { more = marks_same c; due = λ n row at some g l has. absurd (let z = none row in omega arith) }
+-- nothing is used
+pub used_none : (uses : ℕ → ℕ) (c : Columns) → ((n : ℕ) → uses n ≡ 0) → MarksUsed uses c c
+used_none uses c none = record { more = marks_same c; due = λ n some g l has. absurd (let z = none n in omega arith) }
 
-  -- so much may be said of less use
-  pub rows_less : (used less : R → ℕ) (old new : Columns) → ((row : R) → less row ≡ used row) → MarksRows numbered used old new → MarksRows numbered less old new
-  rows_less used less old new same marks = record { more = marks.more; due = λ n row at some. marks.due n row at (let e = same row in omega arith) }
+-- more groups are made due
+pub used_kept : (uses : ℕ → ℕ) (old mid new : Columns) → MarksUsed uses old mid → MarksMore mid new → MarksUsed uses old new
+used_kept uses old mid new marks more = record {
+  more = marks_on old mid new marks.more more;
+  due = λ n some. users_on n mid new more (marks.due n some);
+}
 
-  -- more groups are made due
-  pub rows_kept : (used : R → ℕ) (old mid new : Columns) → MarksRows numbered used old mid → MarksMore mid new → MarksRows numbered used old new
-  rows_kept used old mid new marks more = record {
-    more = marks_on old mid new marks.more more;
-    due = λ n row at some. users_on n mid new more (marks.due n row at some);
-  }
-
-  -- one use after the other
-  pub rows_on : (first second whole : R → ℕ) (old mid new : Columns) → MarksRows numbered first old mid → MarksRows numbered second mid new → ((row : R) → whole row ≡ first row + second row) → MarksRows numbered whole old new
-  rows_on first second whole old mid new a b sum = record {
-    more = marks_on old mid new a.more b.more;
-    due = λ n row at some. elim (cases_eq (first row) 0) as (λ _. AreUsersDue n new) [
-      | inl none ↦ b.due n row at (let e = sum row in omega arith)
-      | inr has ↦ users_on n mid new b.more (a.due n row at (omega arith))
-    ];
-  }
-
-  -- the groups of the first k listed rows are due
-  pub record MarksFirst (used : List R) (k : ℕ) (old new : Columns) : Type 0 where
-    pub more : MarksMore old new
-    pub due : (j n : ℕ) (row : R) → j < k → slice_get used j ≡ Some row → slice_get numbered n ≡ Some row → AreUsersDue n new
-
-  pub first_none : (used : List R) (c : Columns) → MarksFirst used 0 c c
-  first_none used c = record { more = marks_same c; due = λ j n row l. absurd (omega arith) }
-
-  pub first_more : (used : List R) (k : ℕ) (row : R) (old mid new : Columns) → slice_get used k ≡ Some row → MarksFirst used k old mid → MarksNamed numbered row mid new → MarksFirst used (k + 1) old new
-  first_more used k row old mid new at so_far marks = record {
-    more = marks_on old mid new so_far.more marks.more;
-    due = λ j n other l other_at here. elim (cases_eq j k) as (λ _. AreUsersDue n new) [
-      | inl e ↦
-          let same : other ≡ row = same_Some other row (sym other_at ∙ ap (slice_get used) e ∙ at) in
-          marks.due n (here ∙ ap Some same)
-      | inr apart ↦ users_on n mid new marks.more (so_far.due j n other (omega arith) other_at here)
-    ];
-  }
-
-  pub first_all : (uses : R → ℕ) (used : List R) (k : ℕ) (old new : Columns) → ((row : R) → 0 < uses row → Contains used row) → length used ≤ k → MarksFirst used k old new → MarksRows numbered uses old new
-  first_all uses used k old new lists past so_far = record {
-    more = so_far.more;
-    due = λ n row at some.
-        let has = lists row some in
-        so_far.due has.0 n row (let l = has.1 in omega arith) (slice_get-get_or used has.0 row has.1 ∙ ap Some has.2) at;
-  }
+-- one use after the other
+pub used_on : (first second whole : ℕ → ℕ) (old mid new : Columns) → MarksUsed first old mid → MarksUsed second mid new → ((n : ℕ) → whole n ≡ first n + second n) → MarksUsed whole old new
+used_on first second whole old mid new a b sum = record {
+  more = marks_on old mid new a.more b.more;
+  due = λ n some. elim (cases_eq (first n) 0) as (λ _. AreUsersDue n new) [
+    | inl none ↦ b.due n (let e = sum n in omega arith)
+    | inr has ↦ users_on n mid new b.more (a.due n (omega arith))
+  ];
+}
 
 -- ---- bids that are told
 -- a bid that isn't told now was not told before
@@ -116,25 +87,25 @@ untold old new number keeps is = by (is_told old number) refl
         clash q = cc
 
 -- the bids that have one of the first marked groups are told
-pub record DueBelow (n : ℕ) (due : List ℕ) (holders : Chains) (old now : List Bool) : Type 0 where
+pub record DueBelow (n : ℕ) (due : List ℕ) (holders : Index) (old now : List Bool) : Type 0 where
   pub keeps : KeepsTold old now
-  pub here : (j : ℕ) → j < n → (number : ℕ) → number < length old → ChainHas holders (get_or due j 0) number → is_told now number ≡ true
+  pub here : (j : ℕ) → j < n → (number : ℕ) → number < length old → IndexHas holders (get_or due j 0) number → is_told now number ≡ true
 
-pub due_none : (due : List ℕ) (holders : Chains) (told : List Bool) → DueBelow 0 due holders told told
+pub due_none : (due : List ℕ) (holders : Index) (told : List Bool) → DueBelow 0 due holders told told
 due_none due holders told = record { keeps = keeps_same told; here = λ j l. absurd (omega arith) }
 
-pub due_more : (n : ℕ) (due : List ℕ) (holders : Chains) (old mid new : List Bool) → DueBelow n due holders old mid → TellsHolders holders (get_or due n 0) mid new → DueBelow (n + 1) due holders old new
+pub due_more : (n : ℕ) (due : List ℕ) (holders : Index) (old mid new : List Bool) → DueBelow n due holders old mid → TellsHolders holders (get_or due n 0) mid new → DueBelow (n + 1) due holders old new
 due_more n due holders old mid new below tells = record {
   keeps = keeps_on old mid new below.keeps tells.keeps;
   here = λ j l number m has. elim (cases_eq j n) as (λ _. is_told new number ≡ true) [
     | inl e ↦
         let count = below.keeps.count in
-        tells.here number (omega arith) (subst (λ (k : ℕ). ChainHas holders (get_or due k 0) number) e has)
+        tells.here number (omega arith) (subst (λ (k : ℕ). IndexHas holders (get_or due k 0) number) e has)
     | inr apart ↦ tells.keeps.kept number (below.here j (omega arith) number m has)
   ];
 }
 
-pub due_all : (n : ℕ) (c : Columns) (tables : List BidTable) (holders : Chains) (old now : List Bool) → IsColumns c.groups c → AreHolders tables holders → length old ≡ length tables → length c.due.items ≤ n → DueBelow n c.due.items holders old now
+pub due_all : (n : ℕ) (c : Columns) (tables : List BidTable) (holders : Index) (old now : List Bool) → IsColumns c.groups c → AreHolders tables holders → length old ≡ length tables → length c.due.items ≤ n → DueBelow n c.due.items holders old now
     → TellsDue c.marks.items tables now
 due_all n c tables holders old now columns are count past below number table at is k d l = elim (cases_still (mark_at c.marks.items g)) as (λ _. mark_at c.marks.items g ≡ Still) [
   | inl still ↦ still
@@ -143,7 +114,7 @@ due_all n c tables holders old now columns are count past below number table at 
       let w = slice_get_within tables number table at in
       let place = on.1 in
       let due_is : get_or c.due.items on.0 0 ≡ g = sym (get_or_default c.due.items on.0 g 0 on.1) ∙ on.2 in
-      let told = below.here on.0 (omega arith) number (omega arith) (subst (λ (h : ℕ). ChainHas holders h number) (sym due_is) (are.held number table at k d l)) in
+      let told = below.here on.0 (omega arith) number (omega arith) (subst (λ (h : ℕ). IndexHas holders h number) (sym due_is) (are.held number table at k d l)) in
       absurd (clash (sym told ∙ is))
 ]
   where
@@ -207,8 +178,8 @@ module _ {R : Type 0} (s : Setting R) (c : ArcTables R) (marked : Columns) (told
       let same : arc.0.group ≡ g = same_Some arc.0.group g (sym (map_at (λ (x : ArcTerm). x.group) table.arcs.items k arc.0 arc.1) ∙ slice_get-get_or (groups_of table.arcs.items) k g l ∙ ap Some e) in
       subst (λ (h : ℕ). h + 1 < length c.columns.groups.starts.items) same (all_at (λ (x : ArcTerm). x.group + 1 < length c.columns.groups.starts.items) table.arcs.items k arc.0 all arc.1)
 
-  pub moved : (decisions : List Decision) (old : Columns) → MarksRows c.numbering.rows.items (yes_load s.rows s.bids decisions) old marked → TellsOwn decisions c.fallen.items → TellsMoved s.rows s.bids decisions c
-  moved decisions old marks own = record {
+  pub moved : (decisions : List Decision) (claims : List Claim) (old : Columns) → AreClaims s.rows s.bids c.numbering.rows.items decisions claims → MarksUsed (claim_uses claims) old marked → TellsOwn decisions c.fallen.items → TellsMoved s.rows s.bids decisions c
+  moved decisions claims old are marks own = record {
     count = keeps.count ∙ count;
     own = own;
     apart = λ number table at is n row row_at of. elim (cases_eq (yes_load s.rows s.bids decisions row) 0) as (λ _. yes_load s.rows s.bids decisions row ≡ 0) [
@@ -219,7 +190,8 @@ module _ {R : Type 0} (s : Setting R) (c : ArcTables R) (marked : Columns) (told
           let found = columns.found g n (subst (λ (gs : Groups). g + 1 < length gs.starts.items) (sym columns.groups_are) low) (subst (λ (gs : Groups). IsTouched (group_at gs.starts.items gs.touches.items g) n) (sym columns.groups_are) of.touched) in
           let size = columns.count in
           let same = ap (λ (gs : Groups). length gs.starts.items) columns.groups_are in
-          let is_due : IsDue marked g = marks.due n row row_at (omega arith) g (omega arith) found in
+          let used = claims_load s.rows s.bids c.numbering.rows.items n row row_at decisions claims are in
+          let is_due : IsDue marked g = marks.due n (omega arith) g (omega arith) found in
           let still = due number table at (untold told c.fallen.items number keeps is) in
           let here : mark_at marked.marks.items g ≡ Still = subst (λ (h : ℕ). mark_at marked.marks.items h ≡ Still) of.has.2 (still of.has.0 g of.has.1) in
           absurd (clash (sym is_due ∙ here))

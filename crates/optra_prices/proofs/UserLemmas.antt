@@ -1,55 +1,40 @@
--- Groups that are added to those of the rows that they touch, one after the other.
-use Rattle.std.proofs.Common.{◌≡◌, ℕ, zero, suc, ◌+◌, ◌≤◌, ◌<◌, List, [], ◌∷◌, length, Some, slice_get, refl, sym, ap, ◌∙◌, subst, arith, inl, inr}
-use Rattle.std.proofs.lemmas.Bool.{cases_eq}
-use Rattle.std.proofs.lemmas.Option.{same_Some, slice_get_within}
-use Rattle.optra_prices.specs.Chains.{ChainHas, AddsLink}
-use Rattle.optra_prices.specs.Tables.{group_at}
-use Rattle.optra_prices.specs.Users.{IsTouched, AddsUsers, FindsUsers}
-use Rattle.optra_prices.specs.declared.chains.Chains.{Chains}
+-- The groups that touch a row, by the index of the rows that they touch.
+use Rattle.std.proofs.Common.{◌≡◌, ℕ, ◌+◌, ◌-◌, ◌≤◌, ◌<◌, List, length, take, drop, sym, ap, ◌∙◌, subst, arith}
+use Rattle.std.specs.Prelude.{Contains, slice_index, slice_range}
+use Rattle.std.proofs.lemmas.List.{get_or_default, length-map, take-map, drop-map}
+use Rattle.std.proofs.lemmas.List.Edits.{length-between, get_or-between}
+use Rattle.optra_prices.specs.Indexes.{AreSpans, IndexHas, Inverts}
+use Rattle.optra_prices.specs.Tables.{AreGroups}
+use Rattle.optra_prices.specs.Users.{FindsUsers, rows_touched}
+use Rattle.optra_prices.specs.declared.index.Index.{Index}
 use Rattle.optra_prices.specs.declared.numbering.Groups.{Groups}
 use Rattle.optra_prices.specs.declared.numbering.Touch.{Touch}
 
--- the rows of the first touches have one group more
-pub record LinksBelow (n g : ℕ) (touches : List Touch) (old new : Chains) : Type 0 where
-  pub here : (k : ℕ) (touch : Touch) → k < n → slice_get touches k ≡ Some touch → ChainHas new touch.row g
-  pub kept : (r h : ℕ) → ChainHas old r h → ChainHas new r h
+-- a key of a part of a list has a place in it
+part_place : (keys : List ℕ) (from to x : ℕ) → to ≤ length keys → Contains (slice_range keys from to) x → (place : ℕ) × (from ≤ place) × (place < to) × (slice_index keys place ≡ x)
+part_place keys from to x l has =
+    let long = length-between keys from to l in
+    let inside : from + has.0 < to = omega (arith, has.1) in
+    let read = get_or-between keys from to has.0 x inside in
+    let default = get_or_default keys (from + has.0) 0 x (omega arith) in
+    (from + has.0, omega arith, inside, default ∙ sym read ∙ has.2)
 
-pub links_none : (g : ℕ) (touches : List Touch) (users : Chains) → LinksBelow 0 g touches users users
-links_none g touches users = record { here = λ k touch l at. absurd (omega arith); kept = λ r h is. is }
+rows_part : (touches : List Touch) (from to : ℕ) → rows_touched (slice_range touches from to) ≡ slice_range (rows_touched touches) from to
+rows_part touches from to =
+    let row = λ (touch : Touch). touch.row in
+    sym (ap (take (to - from)) (drop-map row from touches) ∙ take-map row (to - from) (drop from touches))
 
-pub links_more : (n g : ℕ) (touches : List Touch) (touch : Touch) (old mid new : Chains) → LinksBelow n g touches old mid → slice_get touches n ≡ Some touch → AddsLink touch.row g mid new → LinksBelow (n + 1) g touches old new
-links_more n g touches touch old mid new below at adds = record {
-  here = λ k t l t_at. elim (cases_eq k n) as (λ _. ChainHas new t.row g) [
-    | inl e ↦
-        let one : touch ≡ t = same_Some touch t (sym at ∙ ap (slice_get touches) (sym e) ∙ t_at) in
-        subst (λ (x : Touch). ChainHas new x.row g) one adds.here
-    | inr apart ↦ adds.kept t.row g (below.here k t (omega arith) t_at)
-  ];
-  kept = λ r h is. adds.kept r h (below.kept r h is);
-}
+pub row_spans : (groups : Groups) (rows : List ℕ) → AreGroups groups.starts.items groups.touches.items → rows ≡ rows_touched groups.touches.items → AreSpans groups.starts.items (length rows)
+row_spans groups rows are is =
+    let long = ap length is ∙ length-map groups.touches.items (λ (touch : Touch). touch.row) in
+    record { ordered = are.ordered; within = λ g l. let w = are.within g l in omega arith }
 
--- a row that is touched is that of a touch
-touched_at : (touches : List Touch) (row : ℕ) → IsTouched touches row → (k : ℕ) × (touch : Touch) × (slice_get touches k ≡ Some touch) × (touch.row ≡ row)
-touched_at [] row is = absurd (omega (arith, is.1))
-touched_at (touch ∷ touches) row (zero, l, e) = (0, touch, refl, e)
-touched_at (touch ∷ touches) row (suc k, l, e) =
-    let at = touched_at touches row (k, omega arith, e) in
-    (suc at.0, at.1, at.2, at.3)
-
-pub links_all : (n g : ℕ) (touches : List Touch) (old new : Chains) → length touches ≤ n → LinksBelow n g touches old new → AddsUsers g touches old new
-links_all n g touches old new l below = record {
-  here = λ row is.
-      let at = touched_at touches row is in
-      let w = slice_get_within touches at.0 at.1 at.2 in
-      subst (λ (r : ℕ). ChainHas new r g) at.3 (below.here at.0 at.1 (omega arith) at.2);
-  kept = below.kept;
-}
-
-pub finds_none : (groups : Groups) (users : Chains) → FindsUsers groups 1 users
-finds_none groups users g row l is = absurd (omega arith)
-
-pub finds_more : (groups : Groups) (n : ℕ) (old new : Chains) → FindsUsers groups (n + 1) old → AddsUsers n (group_at groups.starts.items groups.touches.items n) old new → FindsUsers groups (n + 1 + 1) new
-finds_more groups n old new finds adds g row l is = elim (cases_eq g n) as (λ _. ChainHas new row g) [
-  | inl e ↦ subst (λ (k : ℕ). ChainHas new row k) (sym e) (adds.here row (subst (λ (k : ℕ). IsTouched (group_at groups.starts.items groups.touches.items k) row) e is))
-  | inr apart ↦ adds.kept row g (finds g row (omega arith) is)
-]
+pub users_found : (groups : Groups) (rows : List ℕ) (users : Index) → AreGroups groups.starts.items groups.touches.items → rows ≡ rows_touched groups.touches.items → Inverts groups.starts.items rows users → FindsUsers groups users
+users_found groups rows users are is inverts g row l touched =
+    let start = slice_index groups.starts.items g in
+    let end = slice_index groups.starts.items (g + 1) in
+    let long = ap length is ∙ length-map groups.touches.items (λ (touch : Touch). touch.row) in
+    let within = are.within (g + 1) l in
+    let part = rows_part groups.touches.items start end ∙ ap (λ (xs : List ℕ). slice_range xs start end) (sym is) in
+    let at = part_place rows start end row (omega arith) (subst (λ (xs : List ℕ). Contains xs row) part touched) in
+    subst (λ (r : ℕ). IndexHas users r g) at.3 (inverts g at.0 l at.1 at.2)

@@ -2,7 +2,7 @@
 use Rattle.std.specs.Prelude.{◌≡◌, ◌⊎◌, ℕ, ◌+◌, ◌<◌, List, length, All, Contains, slice_index_or}
 use Rattle.std.specs.Prelude.{ℤ, pos, ◌≤ℤ◌}
 use Rattle.optra_prices.specs.Tables.{group_at, group_price, AreGroups, IsGroupPrice}
-use Rattle.optra_prices.specs.Chains.{AreChains, ChainHas}
+use Rattle.optra_prices.specs.Indexes.{IsIndex, IndexHas}
 use Rattle.optra_prices.specs.Users.{FindsUsers}
 use Rattle.optra_prices.specs.declared.columns.Columns.{Columns}
 use Rattle.optra_prices.specs.declared.columns.Mark.{Mark}
@@ -16,18 +16,22 @@ mark_at marks g = slice_index_or marks g Still
 abbrev pub price_at : List ℤ → ℕ → ℤ
 price_at grouped g = slice_index_or grouped g (pos 0)
 
+-- each group that is marked is listed
+abbrev pub AreListed : List Mark → List ℕ → Type 0
+AreListed marks due = (g : ℕ) → (mark_at marks g ≡ Still → ⊥) → Contains due g
+
 -- groups with a price and a mark each, and lists of what is marked and of what touches a row
 pub record IsColumns (groups : Groups) (c : Columns) : Type 0 where
   pub groups_are : c.groups ≡ groups
   pub are : AreGroups c.groups.starts.items c.groups.touches.items
-  pub users_are : AreChains c.users
-  pub found : FindsUsers c.groups (length c.groups.starts.items) c.users
+  pub users_are : IsIndex c.users
+  pub found : FindsUsers c.groups c.users
   pub count : length c.grouped.items + 1 ≡ length c.groups.starts.items
   pub mark_count : length c.marks.items ≡ length c.grouped.items
   pub range : All IsGroupPrice c.grouped.items
   pub high : IsGroupPrice c.highest
   pub most : All (λ price. price ≤ℤ c.highest) c.grouped.items
-  pub listed : (g : ℕ) → (mark_at c.marks.items g ≡ Still → ⊥) → Contains c.due.items g
+  pub listed : AreListed c.marks.items c.due.items
 
 abbrev pub IsDue : Columns → ℕ → Type 0
 IsDue c g = mark_at c.marks.items g ≡ Due
@@ -35,6 +39,16 @@ IsDue c g = mark_at c.marks.items g ≡ Due
 -- no group is marked
 abbrev pub AreStill : Columns → Type 0
 AreStill c = (g : ℕ) → mark_at c.marks.items g ≡ Still
+
+-- as many marks, each of which stays or becomes due
+pub record KeepsMarks (old new : List Mark) : Type 0 where
+  pub count : length new ≡ length old
+  pub marks : (g : ℕ) → (mark_at new g ≡ mark_at old g) ⊎ (mark_at new g ≡ Due)
+
+-- so do they, and these groups become due
+pub record MarksGroups (groups : List ℕ) (old new : List Mark) : Type 0 where
+  pub keeps : KeepsMarks old new
+  pub due : (g : ℕ) → g < length old → Contains groups g → mark_at new g ≡ Due
 
 -- prices stay, and marks stay or become due
 pub record MarksMore (old new : Columns) : Type 0 where
@@ -45,7 +59,7 @@ pub record MarksMore (old new : Columns) : Type 0 where
 -- so do they, and the groups that touch the row are due
 pub record MarksRow (row : ℕ) (old new : Columns) : Type 0 where
   pub more : MarksMore old new
-  pub users_due : (g : ℕ) → g < length old.marks.items → ChainHas old.users row g → IsDue new g
+  pub users_due : (g : ℕ) → g < length old.marks.items → IndexHas old.users row g → IsDue new g
 
 -- each group has its price, or is due
 abbrev pub PricesAllButDue : List ℤ → Columns → Type 0

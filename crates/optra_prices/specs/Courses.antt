@@ -1,8 +1,9 @@
 -- What a plan keeps at a node while prices go along a path, and what the prices by number mean.
-use Rattle.std.specs.Prelude.{◌≡◌, ℕ, true, cond, List, [], ◌∷◌, length, replicate, All, Contains, Some, slice_get, slice_index_or}
+use Rattle.std.specs.Prelude.{◌≡◌, ℕ, true, cond, List, [], ◌∷◌, length, replicate, All, Contains, Option, Some, slice_get, slice_index_or}
 use Rattle.std.specs.Prelude.{ℤ, pos}
 use Rattle.std.specs.Int.{is_positive}
 use Rattle.std.specs.declared.cmp.Ordering.{Ordering}
+use Rattle.optra_walk.specs.declared.Leg.{Leg}
 use Rattle.optra_walk.specs.Families.{Rows}
 use Rattle.optra_node.specs.Duals.{PriceList, capacity_price}
 use Rattle.optra_prices.specs.Columns.{IsColumns, AreStill, PricesAllButDue}
@@ -13,7 +14,7 @@ use Rattle.optra_prices.specs.Rooms.{IsDecided}
 use Rattle.optra_prices.specs.Steps.{AreProper}
 use Rattle.optra_prices.specs.Tables.{IsNumbering, AreGroupPrices}
 use Rattle.optra_prices.specs.Terms.{Setting}
-use Rattle.optra_prices.specs.Standings.{AreTables, AllStand, valuation_of}
+use Rattle.optra_prices.specs.Standings.{AreTables, AllStand, replies_of, valuation_of}
 use Rattle.optra_prices.specs.Uses.{AreCounted, paths_in}
 use Rattle.optra_prices.specs.declared.Priced.{Priced}
 use Rattle.optra_prices.specs.declared.arc_tables.ArcTables.{ArcTables}
@@ -39,7 +40,11 @@ prices_at c = listed c.numbering.order.items c.levels.prices.items
 abbrev pub valuation_at : {R : Type 0} → Rows R → ArcTables R → Valuation
 valuation_at rows c = valuation_of (capacity_price rows (prices_at c)) c.tables.items c.standings.items
 
--- the same at zero prices
+-- the replies
+abbrev pub replies_at : {R : Type 0} → ArcTables R → List (Option (List Leg))
+replies_at c = replies_of c.tables.items c.standings.items
+
+-- the dual value, the terms and the replies at zero prices
 abbrev pub zero_valuation : {R : Type 0} → ArcTables R → Valuation
 zero_valuation c = valuation_of (pos 0) c.tables.items c.zero.items
 

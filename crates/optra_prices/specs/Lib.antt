@@ -11,7 +11,7 @@ pub mod Tables
 pub mod Terms
 pub mod Makings
 pub mod Rankings
-pub mod Chains
+pub mod Indexes
 pub mod Users
 pub mod Columns
 pub mod Levels
@@ -19,7 +19,9 @@ pub mod Holders
 pub mod Standings
 pub mod Holdings
 pub mod Courses
+pub mod Overfull
 pub mod Keepings
+pub mod Claims
 pub mod Rooms
 pub mod Allowing
 pub mod Following

@@ -46,5 +46,5 @@ pub record FindsGroup {R : Type 0} (rows : Rows R) (used : TypeId → Leg → Li
 pub record IsNumbered {R : Type 0} (cmp : R → R → Ordering) (rows : Rows R) (named : List R) (groups : Groups) (numbered : Numbered R) : Type 0 where
   pub numbering : IsNumbering cmp numbered.numbering.order.items numbered.numbering.rows.items
   pub rows_are : All (λ row. rows.is_row row ≡ true) numbered.numbering.rows.items
-  pub starts_are : numbered.groups.starts ≡ groups.starts
+  pub starts_are : numbered.groups.starts.items ≡ groups.starts.items
   pub renumbers : Renumbers named numbered.numbering.rows.items groups.touches.items numbered.groups.touches.items

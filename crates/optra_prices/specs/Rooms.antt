@@ -1,13 +1,13 @@
 -- How much is used of rows by their numbers, and the room that is left.
 use Rattle.std.specs.Prelude.{◌≡◌, ◌↔◌, ℕ, ◌+◌, ◌≤◌, ◌<◌, true, cond, nat_eq, List, length, replicate, All, Some, slice_get, slice_index, slice_index_or}
-use Rattle.std.specs.declared.cmp.Ordering.{Ordering}
-use Rattle.std.specs.Ordering.{eq_by_cmp}
 use Rattle.optra_network.specs.Net.{Net}
 use Rattle.optra_bid.specs.declared.bids.Bid.{Bid}
 use Rattle.optra_walk.specs.Families.{Rows}
 use Rattle.optra_node.specs.declared.Decision.{Decision}
 use Rattle.optra_node.specs.Nodes.{IsFormedDecision, yes_load}
+use Rattle.optra_prices.specs.Claims.{AreClaims}
 use Rattle.optra_prices.specs.Tables.{group_at}
+use Rattle.optra_prices.specs.declared.claims.Claim.{Claim}
 use Rattle.optra_prices.specs.declared.decided.Decided.{Decided}
 use Rattle.optra_prices.specs.declared.numbering.Groups.{Groups}
 use Rattle.optra_prices.specs.declared.numbering.Touch.{Touch}
@@ -19,10 +19,11 @@ pub record IsRoom {R : Type 0} (rows : Rows R) (numbered : List R) (total : R �
   pub uses_are : (n : ℕ) (row : R) → slice_get numbered n ≡ Some row → slice_get room.uses.items n ≡ Some (total row)
   pub capacities_are : (n : ℕ) (row : R) → slice_get numbered n ≡ Some row → slice_get room.capacities.items n ≡ Some (rows.capacity row)
 
--- the decisions are those of the node, and so much of each row that has a number is used by its yes legs
+-- the decisions are those of the node, with what each of them uses, and so much of each row that has a number is used by its yes legs
 pub record IsDecided {R : Type 0} (net : Net) (rows : Rows R) (bids : List Bid) (numbered : List R) (node : List Decision) (decided : Decided) : Type 0 where
   pub decisions_are : decided.decisions.items ≡ node
   pub formed : All (IsFormedDecision net (length bids)) node
+  pub claims_are : AreClaims rows bids numbered node decided.claims.items
   pub room_is : IsRoom rows numbered (yes_load rows bids node) decided.room
 
 -- there is room for the touch
@@ -42,11 +43,6 @@ pub record ChangesUse (m : ℕ) (change : ℕ → ℕ) (old new : List ℕ) : Ty
   pub count : length new ≡ length old
   pub each : (n : ℕ) → n < length old → slice_index new n ≡ cond (nat_eq m n) (change (slice_index old n)) (slice_index old n)
 
--- the use of the row is changed, where the row has a number, and all else is as it was
-pub record ChangesRow {R : Type 0} (cmp : R → R → Ordering) (numbered : List R) (row : R) (change : ℕ → ℕ) (old new : Room) : Type 0 where
-  pub capacities_are : new.capacities ≡ old.capacities
-  pub each : (n uses : ℕ) (other : R) → slice_get numbered n ≡ Some other → slice_get old.uses.items n ≡ Some uses → slice_get new.uses.items n ≡ Some (cond (eq_by_cmp cmp row other) (change uses) uses)
-
 -- the copy has the same capacities, and nothing is used of it
 pub record IsFreeCopy (room copy : Room) : Type 0 where
   pub uses_are : copy.uses.items ≡ replicate (length room.uses.items) 0
@@ -56,10 +52,7 @@ pub record IsFreeCopy (room copy : Room) : Type 0 where
 abbrev pub IsNumberWithin : Room → ℕ → Type 0
 IsNumberWithin room n = slice_index_or room.uses.items n 0 ≤ slice_index_or room.capacities.items n 0
 
--- the row has a number, and no more is used of it than there is
-abbrev pub IsWithinAt : {R : Type 0} → List R → Room → R → Type 0
-IsWithinAt numbered room row = (n : ℕ) × (slice_get numbered n ≡ Some row) × IsNumberWithin room n
-
--- the same of each row that is used
-abbrev pub UsesWithin : {R : Type 0} → List R → Room → (R → ℕ) → Type 0
-UsesWithin {R} numbered room uses = (row : R) → 0 < uses row → IsWithinAt numbered room row
+-- each row that is claimed has a number, and no more is used of it than there is
+pub record IsClaimWithin (room : Room) (claim : Claim) : Type 0 where
+  pub whole : claim.whole ≡ true
+  pub within : All (λ touch. IsNumberWithin room touch.row) claim.touches.items

@@ -4,9 +4,9 @@ use Rattle.optra_bid.specs.declared.bids.Bid.{Bid}
 use Rattle.optra_walk.specs.Families.{Rows}
 use Rattle.optra_node.specs.declared.Decision.{Decision}
 use Rattle.optra_node.specs.Nodes.{yes_load}
-use Rattle.optra_prices.specs.Chains.{ChainHas}
 use Rattle.optra_prices.specs.Columns.{IsDue, MarksMore, mark_at}
 use Rattle.optra_prices.specs.Holders.{groups_of, is_told}
+use Rattle.optra_prices.specs.Indexes.{IndexHas}
 use Rattle.optra_prices.specs.Tables.{group_at}
 use Rattle.optra_prices.specs.Users.{IsTouched}
 use Rattle.optra_prices.specs.declared.arc_tables.ArcTables.{ArcTables}
@@ -19,17 +19,12 @@ use Rattle.optra_prices.specs.declared.numbering.Groups.{Groups}
 
 -- the groups that touch the row with this number are due
 abbrev pub AreUsersDue : ℕ → Columns → Type 0
-AreUsersDue n c = (g : ℕ) → g < length c.grouped.items → ChainHas c.users n g → IsDue c g
-
--- marks stay or become due, and the groups that touch the row are due
-pub record MarksNamed {R : Type 0} (numbered : List R) (row : R) (old new : Columns) : Type 0 where
-  pub more : MarksMore old new
-  pub due : (n : ℕ) → slice_get numbered n ≡ Some row → AreUsersDue n new
+AreUsersDue n c = (g : ℕ) → g < length c.grouped.items → IndexHas c.users n g → IsDue c g
 
 -- marks stay or become due, and the groups that touch a used row are due
-pub record MarksRows {R : Type 0} (numbered : List R) (used : R → ℕ) (old new : Columns) : Type 0 where
+pub record MarksUsed (uses : ℕ → ℕ) (old new : Columns) : Type 0 where
   pub more : MarksMore old new
-  pub due : (n : ℕ) (row : R) → slice_get numbered n ≡ Some row → 0 < used row → AreUsersDue n new
+  pub due : (n : ℕ) → 0 < uses n → AreUsersDue n new
 
 -- of a bid that isn't told no group is marked
 abbrev pub TellsDue : List Mark → List BidTable → List Bool → Type 0

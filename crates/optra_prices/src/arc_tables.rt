@@ -1,8 +1,8 @@
 //! What a plan keeps from node to node: rows and groups of touches with their prices, the arcs of each bid's graph, and
 //! what is known of each bid.
-use crate::chains::Chains;
 use crate::columns::Columns;
 use crate::decided::Decided;
+use crate::index::Index;
 use crate::levels::Levels;
 use crate::numbering::{BidTable, Numbering, Standing};
 use optra_dag::Buffers;
@@ -21,7 +21,7 @@ pub struct ArcTables<'g, R: Copy + Ord> {
     /// The decisions of the node at which the tables are, and the room beside its yes legs.
     pub(crate) decided: Decided,
     /// The bids that have each group on an arc.
-    pub(crate) holders: Chains,
+    pub(crate) holders: Index,
     /// What is known of each bid at zero prices.
     pub(crate) zero: Vec<Standing>,
     /// What is known of each bid at the prices.

@@ -3,12 +3,12 @@
 //! A group whose price may be old is due. It is priced anew before the bids are searched, and its mark then tells how
 //! its price has moved since they were searched last.
 ghost use Rattle.std.specs.Prelude.{◌≡◌, ◌⊎◌, ◌<◌, ℕ, [], All, Contains, IfOk, OnOk, length, slice_set};
-ghost use Rattle.optra_prices.specs.Columns.{IsColumns, IsDue, MarksMore, MarksRow, MarkTells, MarksTell, AreStill, PricesAllButDue, Reprices, mark_at};
-ghost use Rattle.optra_prices.specs.declared.columns.Mark.TheVariants.{Still};
+ghost use Rattle.optra_prices.specs.Columns.{IsColumns, AreListed, KeepsMarks, MarksGroups, MarksRow, MarkTells, MarksTell, AreStill, PricesAllButDue, Reprices, mark_at};
+ghost use Rattle.optra_prices.specs.declared.columns.Mark.TheVariants.{Still, Due};
 ghost use Rattle.optra_prices.specs.Tables.{AreGroups, AreGroupPrices, IsRowPrice};
 
-use crate::chains::{Chains, first_link};
 use crate::grouping::price_at;
+use crate::index::{Index, items_of};
 use crate::numbering::Groups;
 use crate::users::find_users;
 use optra_network::NoMemory;
@@ -31,7 +31,7 @@ pub(crate) enum Mark {
 #[derive(Drop)]
 pub(crate) struct Columns {
     pub(crate) groups: Groups,
-    pub(crate) users: Chains,
+    pub(crate) users: Index,
     /// The prices of the groups.
     pub(crate) grouped: Vec<i64>,
     /// How the prices of the groups have moved.
@@ -47,7 +47,8 @@ pub(crate) fn new_columns(alloc: Global, groups: Groups) -> Result<Columns, NoMe
     requires { AreGroups groups.starts.items groups.touches.items }
     ensures columns { IfOk result (IsColumns groups) }
     ensures still { IfOk result AreStill }
-    ensures zero { IfOk result (λ columns. AreGroupPrices [] groups.starts.items groups.touches.items columns.grouped.items) }
+    ensures zero { IfOk result (λ columns. AreGroupPrices [] groups.starts.items
+        groups.touches.items columns.grouped.items) }
 {
     let users = find_users(alloc, &groups)?;
     let count = groups.starts.len() - 1;
@@ -73,19 +74,30 @@ fn list_group(due: &mut Vec<u32>, mark: Mark, g: u32) -> Result<(), NoMemory>
 }
 
 /// Makes a group due.
-fn mark_group(columns: &mut Columns, g: u32) -> Result<(), NoMemory>
-    requires columns { IsColumns columns.old.groups columns.old }
-    ensures columns { OnOk result (IsColumns columns.old.groups columns.new) }
-    ensures more { OnOk result (MarksMore columns.old columns.new) }
-    ensures here { OnOk result (g < length columns.old.marks.items → IsDue columns.new g) }
+fn mark_group(marks: &mut Vec<Mark>, due: &mut Vec<u32>, g: u32) -> Result<(), NoMemory>
+    requires listed { AreListed marks.old.items due.old.items }
+    ensures listed { OnOk result (AreListed marks.new.items due.new.items) }
+    ensures keeps { OnOk result (KeepsMarks marks.old.items marks.new.items) }
+    ensures here { OnOk result (g < length marks.old.items → mark_at marks.new.items g ≡ Due) }
 {
     let place = g as usize;
-    if place >= columns.marks.len() {
+    if place >= marks.len() {
         return Ok(());
     }
-    let mark = columns.marks[place];
-    list_group(&mut columns.due, mark, g)?;
-    columns.marks[place] = Mark::Due;
+    list_group(due, marks[place], g)?;
+    marks[place] = Mark::Due;
+    Ok(())
+}
+
+/// Makes groups due.
+fn mark_groups(marks: &mut Vec<Mark>, due: &mut Vec<u32>, groups: &[u32]) -> Result<(), NoMemory>
+    requires listed { AreListed marks.old.items due.old.items }
+    ensures listed { OnOk result (AreListed marks.new.items due.new.items) }
+    ensures marks { OnOk result (MarksGroups groups.now marks.old.items marks.new.items) }
+{
+    for g in groups {
+        mark_group(marks, due, *g)?;
+    }
     Ok(())
 }
 
@@ -95,12 +107,11 @@ pub(crate) fn mark_row(columns: &mut Columns, row: u32) -> Result<(), NoMemory>
     ensures columns { OnOk result (IsColumns columns.old.groups columns.new) }
     ensures row { OnOk result (MarksRow row columns.old columns.new) }
 {
-    let mut place = first_link(&columns.users.first, row);
-    while place > 0 {
-        let link = columns.users.links[place as usize - 1];
-        mark_group(columns, link.item)?;
-        place = link.next;
-    }
+    mark_groups(
+        &mut columns.marks,
+        &mut columns.due,
+        items_of(&columns.users, row),
+    )?;
     Ok(())
 }
 
@@ -147,8 +158,10 @@ pub(crate) fn reprice(columns: &mut Columns, prices: &[i64])
     requires prices { All IsRowPrice prices.now }
     requires due { PricesAllButDue prices.now columns.old }
     ensures columns { IsColumns columns.old.groups columns.new }
-    ensures prices { AreGroupPrices prices.now columns.new.groups.starts.items columns.new.groups.touches.items columns.new.grouped.items }
-    ensures marks { MarksTell columns.old.grouped.items columns.new.grouped.items columns.new.marks.items }
+    ensures prices { AreGroupPrices prices.now columns.new.groups.starts.items
+        columns.new.groups.touches.items columns.new.grouped.items }
+    ensures marks { MarksTell columns.old.grouped.items columns.new.grouped.items
+        columns.new.marks.items }
 {
     for k in 0..columns.due.len() {
         let g = columns.due[k];
@@ -169,7 +182,8 @@ fn still_group(marks: &mut Vec<Mark>, g: u32)
 /// Takes the marks of groups away.
 fn still_groups(marks: &mut Vec<Mark>, groups: &[u32])
     ensures count { length marks.new.items ≡ length marks.old.items }
-    ensures still { (g : ℕ) → (mark_at marks.new.items g ≡ Still) ⊎ ((mark_at marks.new.items g ≡ mark_at marks.old.items g) × (Contains groups.now g → ⊥)) }
+    ensures still { (g : ℕ) → (mark_at marks.new.items g ≡ Still)
+        ⊎ ((mark_at marks.new.items g ≡ mark_at marks.old.items g) × (Contains groups.now g → ⊥)) }
 {
     for g in groups {
         still_group(marks, *g);

@@ -10,7 +10,7 @@ ghost use Rattle.optra_prices.specs.Terms.{setting};
 use crate::Priced;
 use crate::arc_tables::ArcTables;
 use crate::columns::{reprice, still};
-use crate::decided::room_beside;
+use crate::decided::tell_anew;
 use crate::group_prices::GroupPrices;
 use crate::holders::tell_fallen;
 use crate::levels::{move_prices, set_prices, zero_prices};
@@ -34,11 +34,13 @@ pub(crate) fn admit<F: RowFamily>(
     entries: &[(F::Row, i64)],
 ) -> Result<(), NoMemory>
     requires prices { ArePrices (F.rows_of rows.now inst.net.now) entries.now }
-    requires course { IsCourse F.Row.cmp (setting inst.net.now (F.rows_of rows.now inst.net.now) (F.rows_used rows.now inst.net.now) inst.bids.now node.now) kept.old }
-    ensures course { OnOk result (IsCourse F.Row.cmp (setting inst.entry.net.now (F.rows_of rows.now inst.entry.net.now) (F.rows_used rows.now inst.entry.net.now) inst.entry.bids.now node.now) kept.new) }
+    requires course { IsCourse F.Row.cmp (setting inst.net.now (F.rows_of rows.now inst.net.now)
+        (F.rows_used rows.now inst.net.now) inst.bids.now node.now) kept.old }
+    ensures course { OnOk result (IsCourse F.Row.cmp (setting inst.entry.net.now
+        (F.rows_of rows.now inst.entry.net.now) (F.rows_used rows.now inst.entry.net.now)
+        inst.entry.bids.now node.now) kept.new) }
     ensures numbered { OnOk result (AreNumbered kept.new entries.now) }
 {
-    let _ = inst.net.track_count();
     let _ = node;
     let before = kept.numbering.rows.len();
     number_more(inst.net, rows, &mut kept.numbering, entries)?;
@@ -47,7 +49,7 @@ pub(crate) fn admit<F: RowFamily>(
     }
     forget_paths(&mut kept.levels, &mut kept.counted);
     widen(&mut kept.levels, inst.net, rows, &kept.numbering.rows)?;
-    kept.decided.room = room_beside(alloc, inst, rows, &kept.numbering, &kept.decided.decisions)?;
+    tell_anew(alloc, &mut kept.decided, inst, rows, &kept.numbering)?;
     Ok(())
 }
 
@@ -58,13 +60,14 @@ fn arrive<F: RowFamily>(
     node: &Node,
     kept: &mut ArcTables<'_, F::Row>,
 ) -> Result<(), NoMemory>
-    requires few { length inst.bids.now ≤ 1000 }
-    requires moved { HasMoved F.Row.cmp (setting inst.net.now (F.rows_of rows.now inst.net.now) (F.rows_used rows.now inst.net.now) inst.bids.now node.now) kept.old }
-    ensures priced { OnOk result (IsPriced F.Row.cmp (setting inst.entry.net.now (F.rows_of rows.now inst.entry.net.now) (F.rows_used rows.now inst.entry.net.now) inst.entry.bids.now node.now) kept.new) }
+    requires moved { HasMoved F.Row.cmp (setting inst.net.now (F.rows_of rows.now inst.net.now)
+        (F.rows_used rows.now inst.net.now) inst.bids.now node.now) kept.old }
+    ensures priced { OnOk result (IsPriced F.Row.cmp (setting inst.entry.net.now
+        (F.rows_of rows.now inst.entry.net.now) (F.rows_used rows.now inst.entry.net.now)
+        inst.entry.bids.now node.now) kept.new) }
     ensures prices { OnOk result (prices_at kept.new ≡ prices_at kept.old) }
     ensures keeps { OnOk result (KeepsRows kept.old kept.new) }
 {
-    let _ = inst.net.track_count();
     tests_tell_allowed(inst, rows);
     prices_by_used_rows(inst, rows);
     let _ = node;
@@ -93,9 +96,13 @@ fn leave<F: RowFamily>(
     node: &Node,
     kept: &mut ArcTables<'_, F::Row>,
 ) -> Result<(), NoMemory>
-    requires course { IsCourse F.Row.cmp (setting inst.net.now (F.rows_of rows.now inst.net.now) (F.rows_used rows.now inst.net.now) inst.bids.now node.now) kept.old }
-    ensures moved { OnOk result (HasMoved F.Row.cmp (setting inst.entry.net.now (F.rows_of rows.now inst.entry.net.now) (F.rows_used rows.now inst.entry.net.now) inst.entry.bids.now node.now) kept.new) }
-    ensures zero { OnOk result (kept.new.levels.prices.items ≡ prices_by (length kept.old.numbering.rows.items) []) }
+    requires course { IsCourse F.Row.cmp (setting inst.net.now (F.rows_of rows.now inst.net.now)
+        (F.rows_used rows.now inst.net.now) inst.bids.now node.now) kept.old }
+    ensures moved { OnOk result (HasMoved F.Row.cmp (setting inst.entry.net.now
+        (F.rows_of rows.now inst.entry.net.now) (F.rows_used rows.now inst.entry.net.now)
+        inst.entry.bids.now node.now) kept.new) }
+    ensures zero { OnOk result (kept.new.levels.prices.items
+        ≡ prices_by (length kept.old.numbering.rows.items) []) }
     ensures keeps { OnOk result (KeepsRows kept.old kept.new) }
 {
     let _ = inst.net;
@@ -113,11 +120,13 @@ pub(crate) fn go_to<F: RowFamily>(
     kept: &mut ArcTables<'_, F::Row>,
     start: &Prices<F::Row>,
 ) -> Result<(), NoMemory>
-    requires few { length inst.bids.now ≤ 1000 }
     requires start { AreProper F.Row.cmp (F.rows_of rows.now inst.net.now) start.now }
     requires numbered { AreNumbered kept.old start.now }
-    requires course { IsCourse F.Row.cmp (setting inst.net.now (F.rows_of rows.now inst.net.now) (F.rows_used rows.now inst.net.now) inst.bids.now node.now) kept.old }
-    ensures priced { OnOk result (IsPriced F.Row.cmp (setting inst.entry.net.now (F.rows_of rows.now inst.entry.net.now) (F.rows_used rows.now inst.entry.net.now) inst.entry.bids.now node.now) kept.new) }
+    requires course { IsCourse F.Row.cmp (setting inst.net.now (F.rows_of rows.now inst.net.now)
+        (F.rows_used rows.now inst.net.now) inst.bids.now node.now) kept.old }
+    ensures priced { OnOk result (IsPriced F.Row.cmp (setting inst.entry.net.now
+        (F.rows_of rows.now inst.entry.net.now) (F.rows_used rows.now inst.entry.net.now)
+        inst.entry.bids.now node.now) kept.new) }
     ensures prices { OnOk result (prices_at kept.new ≡ start.now) }
     ensures keeps { OnOk result (KeepsRows kept.old kept.new) }
 {
@@ -139,12 +148,16 @@ fn step_prices<F: RowFamily>(
     kept: &mut ArcTables<'_, F::Row>,
     k: u32,
 ) -> Result<(), NoMemory>
-    requires course { IsCourse F.Row.cmp (setting inst.net.now (F.rows_of rows.now inst.net.now) (F.rows_used rows.now inst.net.now) inst.bids.now node.now) kept.old }
-    ensures moved { OnOk result (HasMoved F.Row.cmp (setting inst.entry.net.now (F.rows_of rows.now inst.entry.net.now) (F.rows_used rows.now inst.entry.net.now) inst.entry.bids.now node.now) kept.new) }
-    ensures step { OnOk result (IsStep F.Row.cmp (F.rows_of rows.now inst.entry.net.now) inst.entry.bids.now (valuation_at (F.rows_of rows.now inst.entry.net.now) kept.old).replies k (prices_at kept.old) (prices_at kept.new)) }
+    requires course { IsCourse F.Row.cmp (setting inst.net.now (F.rows_of rows.now inst.net.now)
+        (F.rows_used rows.now inst.net.now) inst.bids.now node.now) kept.old }
+    ensures moved { OnOk result (HasMoved F.Row.cmp (setting inst.entry.net.now
+        (F.rows_of rows.now inst.entry.net.now) (F.rows_used rows.now inst.entry.net.now)
+        inst.entry.bids.now node.now) kept.new) }
+    ensures step { OnOk result (IsStep F.Row.cmp (F.rows_of rows.now inst.entry.net.now)
+        inst.entry.bids.now (valuation_at (F.rows_of rows.now inst.entry.net.now) kept.old).replies
+        k (prices_at kept.old) (prices_at kept.new)) }
     ensures keeps { OnOk result (KeepsRows kept.old kept.new) }
 {
-    let _ = inst.net.track_count();
     let _ = node;
     count_uses(
         &mut kept.levels,
@@ -166,10 +179,14 @@ pub(crate) fn go_on<F: RowFamily>(
     kept: &mut ArcTables<'_, F::Row>,
     k: u32,
 ) -> Result<(), NoMemory>
-    requires few { length inst.bids.now ≤ 1000 }
-    requires priced { IsPriced F.Row.cmp (setting inst.net.now (F.rows_of rows.now inst.net.now) (F.rows_used rows.now inst.net.now) inst.bids.now node.now) kept.old }
-    ensures priced { OnOk result (IsPriced F.Row.cmp (setting inst.entry.net.now (F.rows_of rows.now inst.entry.net.now) (F.rows_used rows.now inst.entry.net.now) inst.entry.bids.now node.now) kept.new) }
-    ensures step { OnOk result (IsStep F.Row.cmp (F.rows_of rows.now inst.entry.net.now) inst.entry.bids.now (valuation_at (F.rows_of rows.now inst.entry.net.now) kept.old).replies k (prices_at kept.old) (prices_at kept.new)) }
+    requires priced { IsPriced F.Row.cmp (setting inst.net.now (F.rows_of rows.now inst.net.now)
+        (F.rows_used rows.now inst.net.now) inst.bids.now node.now) kept.old }
+    ensures priced { OnOk result (IsPriced F.Row.cmp (setting inst.entry.net.now
+        (F.rows_of rows.now inst.entry.net.now) (F.rows_used rows.now inst.entry.net.now)
+        inst.entry.bids.now node.now) kept.new) }
+    ensures step { OnOk result (IsStep F.Row.cmp (F.rows_of rows.now inst.entry.net.now)
+        inst.entry.bids.now (valuation_at (F.rows_of rows.now inst.entry.net.now) kept.old).replies
+        k (prices_at kept.old) (prices_at kept.new)) }
     ensures keeps { OnOk result (KeepsRows kept.old kept.new) }
 {
     step_prices(inst, rows, node, kept, k)?;
@@ -184,10 +201,12 @@ pub(crate) fn go_back<F: RowFamily>(
     kept: &mut ArcTables<'_, F::Row>,
     prices: &[(u32, i64)],
 ) -> Result<(), NoMemory>
-    requires few { length inst.bids.now ≤ 1000 }
     requires prices { All (IsMove (length kept.old.numbering.rows.items)) prices.now }
-    requires course { IsCourse F.Row.cmp (setting inst.net.now (F.rows_of rows.now inst.net.now) (F.rows_used rows.now inst.net.now) inst.bids.now node.now) kept.old }
-    ensures priced { OnOk result (IsPriced F.Row.cmp (setting inst.entry.net.now (F.rows_of rows.now inst.entry.net.now) (F.rows_used rows.now inst.entry.net.now) inst.entry.bids.now node.now) kept.new) }
+    requires course { IsCourse F.Row.cmp (setting inst.net.now (F.rows_of rows.now inst.net.now)
+        (F.rows_used rows.now inst.net.now) inst.bids.now node.now) kept.old }
+    ensures priced { OnOk result (IsPriced F.Row.cmp (setting inst.entry.net.now
+        (F.rows_of rows.now inst.entry.net.now) (F.rows_used rows.now inst.entry.net.now)
+        inst.entry.bids.now node.now) kept.new) }
     ensures prices { OnOk result (prices_at kept.new ≡ listed_by kept.old prices.now) }
     ensures keeps { OnOk result (KeepsRows kept.old kept.new) }
 {
@@ -204,12 +223,12 @@ pub(crate) fn priced_at<F: RowFamily>(
     node: &Node,
     kept: &ArcTables<'_, F::Row>,
 ) -> Result<Priced<F::Row>, NoMemory>
-    requires few { length inst.bids.now ≤ 1000 }
-    requires priced { IsPriced F.Row.cmp (setting inst.net.now (F.rows_of rows.now inst.net.now) (F.rows_used rows.now inst.net.now) inst.bids.now node.now) kept.now }
+    requires priced { IsPriced F.Row.cmp (setting inst.net.now (F.rows_of rows.now inst.net.now)
+        (F.rows_used rows.now inst.net.now) inst.bids.now node.now) kept.now }
     ensures prices { IfOk result (λ priced. priced.prices ≡ prices_at kept.now) }
-    ensures dual { IfOk result (λ priced. priced.dual ≡ valuation_at (F.rows_of rows.now inst.entry.net.now) kept.now) }
+    ensures dual { IfOk result (λ priced. priced.dual
+        ≡ valuation_at (F.rows_of rows.now inst.entry.net.now) kept.now) }
 {
-    let _ = inst.net.track_count();
     let _ = node;
     let _ = rows;
     let entries = list_prices(alloc, &kept.numbering.order, &kept.levels.prices)?;
@@ -227,12 +246,12 @@ pub(crate) fn zero_value<F: RowFamily>(
     node: &Node,
     kept: &ArcTables<'_, F::Row>,
 ) -> i128
-    requires few { length inst.bids.now ≤ 1000 }
-    requires course { IsCourse F.Row.cmp (setting inst.net.now (F.rows_of rows.now inst.net.now) (F.rows_used rows.now inst.net.now) inst.bids.now node.now) kept.now }
+    requires course { IsCourse F.Row.cmp (setting inst.net.now (F.rows_of rows.now inst.net.now)
+        (F.rows_used rows.now inst.net.now) inst.bids.now node.now) kept.now }
     ensures value { result ≡ (zero_valuation kept.now).value }
-    ensures valuation { IsValuation inst.entry.net.now (F.rows_of rows.now inst.entry.net.now) inst.entry.bids.now node.now [] (zero_valuation kept.now) }
+    ensures valuation { IsValuation inst.entry.net.now (F.rows_of rows.now inst.entry.net.now)
+        inst.entry.bids.now node.now [] (zero_valuation kept.now) }
 {
-    let _ = inst.net.track_count();
     tests_tell_allowed(inst, rows);
     prices_by_used_rows(inst, rows);
     let _ = node;

@@ -25,11 +25,11 @@ pub fn dead<F: RowFamily, G: Graphs>(
     rows: &F,
     node: &Node,
 ) -> Result<Option<Dead<F::Row>>, NoMemory>
-    requires few { length inst.bids.now ≤ 1000 }
     requires node { IsNode inst.net.now (length inst.bids.now) node.now }
     requires network { G.network graphs.now ≡ inst.net.now }
     requires held { All (λ bid. Contains (G.held graphs.now) bid.path) inst.bids.now }
-    ensures { IfOk result (λ reason. IsDeadAs F.Row.cmp inst.entry.net.now (F.rows_of rows.now inst.entry.net.now) inst.entry.bids.now node.now reason) }
+    ensures { IfOk result (λ reason. IsDeadAs F.Row.cmp inst.entry.net.now
+        (F.rows_of rows.now inst.entry.net.now) inst.entry.bids.now node.now reason) }
 {
     let mut kept = keep_arcs(alloc, inst, graphs, rows)?;
     bring_to(alloc, inst, rows, node, &mut kept)?;

@@ -31,12 +31,12 @@ pub fn dual<F: RowFamily, G: Graphs>(
     node: &Node,
     prices: &Prices<F::Row>,
 ) -> Result<Dual, NoMemory>
-    requires few { length inst.bids.now ≤ 1000 }
     requires node { IsNode inst.net.now (length inst.bids.now) node.now }
     requires network { G.network graphs.now ≡ inst.net.now }
     requires held { All (λ bid. Contains (G.held graphs.now) bid.path) inst.bids.now }
     requires prices { AreProper F.Row.cmp (F.rows_of rows.now inst.net.now) prices.now }
-    ensures { IfOk result (λ dual. IsValuation inst.entry.net.now (F.rows_of rows.now inst.entry.net.now) inst.entry.bids.now node.now prices.now dual) }
+    ensures { IfOk result (λ dual. IsValuation inst.entry.net.now
+        (F.rows_of rows.now inst.entry.net.now) inst.entry.bids.now node.now prices.now dual) }
 {
     let mut kept = keep_arcs(alloc, inst, graphs, rows)?;
     bring_to(alloc, inst, rows, node, &mut kept)?;

@@ -1,7 +1,7 @@
 //! The moves along a price path, and the best candidate so far.
 ghost use Rattle.std.specs.Prelude.{◌≡◌, ◌≤◌, ◌↔◌, ◌∷◌, [], IsTrue, ◌≤ℤ◌, IfOk, OnOk, length};
 ghost use Rattle.optra_node.specs.Duals.{whole_cents};
-ghost use Rattle.optra_prices.specs.Courses.{candidate_at, zero_candidate, IsCourse, AreNumbered};
+ghost use Rattle.optra_prices.specs.Courses.{candidate_at, zero_candidate, replies_at, IsCourse, AreNumbered};
 ghost use Rattle.optra_prices.specs.Following.{KeepsLess, IsFollowing, IsFollowed};
 ghost use Rattle.optra_prices.specs.Levels.{IsLevels};
 ghost use Rattle.optra_prices.specs.Paths.{IsPathResult};
@@ -54,9 +54,14 @@ fn go_steps<F: RowFamily>(
     steps: u32,
     incumbent: Cents,
 ) -> Result<(), NoMemory>
-    requires few { length inst.bids.now ≤ 1000 }
-    requires following { IsFollowing F.Row.cmp (setting inst.net.now (F.rows_of rows.now inst.net.now) (F.rows_used rows.now inst.net.now) inst.bids.now node.now) start.now steps incumbent kept.old best.old (zero_candidate kept.old ∷ candidate_at (F.rows_of rows.now inst.net.now) kept.old ∷ []) }
-    ensures { OnOk result (IsFollowed F.Row.cmp (setting inst.entry.net.now (F.rows_of rows.now inst.entry.net.now) (F.rows_used rows.now inst.entry.net.now) inst.entry.bids.now node.now) start.now steps incumbent kept.new best.new) }
+    requires following { IsFollowing F.Row.cmp
+        (setting inst.net.now (F.rows_of rows.now inst.net.now) (F.rows_used rows.now inst.net.now)
+        inst.bids.now node.now) start.now steps incumbent kept.old best.old (zero_candidate kept.old
+        ∷ candidate_at (F.rows_of rows.now inst.net.now) kept.old ∷ []) }
+    ensures { OnOk result
+        (IsFollowed F.Row.cmp (setting inst.entry.net.now (F.rows_of rows.now inst.entry.net.now)
+        (F.rows_used rows.now inst.entry.net.now) inst.entry.bids.now node.now) start.now steps
+        incumbent kept.new best.new) }
 {
     let _ = start;
     'steps: for k in 0..steps {
@@ -80,11 +85,14 @@ fn follow<F: RowFamily>(
     steps: u32,
     incumbent: Cents,
 ) -> Result<Best, NoMemory>
-    requires few { length inst.bids.now ≤ 1000 }
     requires start { AreProper F.Row.cmp (F.rows_of rows.now inst.net.now) start.now }
     requires numbered { AreNumbered kept.old start.now }
-    requires course { IsCourse F.Row.cmp (setting inst.net.now (F.rows_of rows.now inst.net.now) (F.rows_used rows.now inst.net.now) inst.bids.now node.now) kept.old }
-    ensures { IfOk result (IsFollowed F.Row.cmp (setting inst.entry.net.now (F.rows_of rows.now inst.entry.net.now) (F.rows_used rows.now inst.entry.net.now) inst.entry.bids.now node.now) start.now steps incumbent kept.new) }
+    requires course { IsCourse F.Row.cmp (setting inst.net.now (F.rows_of rows.now inst.net.now)
+        (F.rows_used rows.now inst.net.now) inst.bids.now node.now) kept.old }
+    ensures { IfOk result
+        (IsFollowed F.Row.cmp (setting inst.entry.net.now (F.rows_of rows.now inst.entry.net.now)
+        (F.rows_used rows.now inst.entry.net.now) inst.entry.bids.now node.now) start.now steps
+        incumbent kept.new) }
 {
     let mut best = Best {
         prices: Vec::new(alloc),
@@ -110,12 +118,17 @@ pub(crate) fn go_along<F: RowFamily>(
     steps: u32,
     incumbent: Cents,
 ) -> Result<Priced<F::Row>, NoMemory>
-    requires few { length inst.bids.now ≤ 1000 }
     requires start { AreProper F.Row.cmp (F.rows_of rows.now inst.net.now) start.now }
     requires numbered { AreNumbered kept.old start.now }
-    requires course { IsCourse F.Row.cmp (setting inst.net.now (F.rows_of rows.now inst.net.now) (F.rows_used rows.now inst.net.now) inst.bids.now node.now) kept.old }
-    ensures course { OnOk result (IsCourse F.Row.cmp (setting inst.entry.net.now (F.rows_of rows.now inst.entry.net.now) (F.rows_used rows.now inst.entry.net.now) inst.entry.bids.now node.now) kept.new) }
-    ensures path { IfOk result (λ priced. IsPathResult F.Row.cmp inst.entry.net.now (F.rows_of rows.now inst.entry.net.now) inst.entry.bids.now node.now start.now steps incumbent priced) }
+    requires course { IsCourse F.Row.cmp (setting inst.net.now (F.rows_of rows.now inst.net.now)
+        (F.rows_used rows.now inst.net.now) inst.bids.now node.now) kept.old }
+    ensures course { OnOk result (IsCourse F.Row.cmp (setting inst.entry.net.now
+        (F.rows_of rows.now inst.entry.net.now) (F.rows_used rows.now inst.entry.net.now)
+        inst.entry.bids.now node.now) kept.new) }
+    ensures path { IfOk result (λ priced. IsPathResult F.Row.cmp inst.entry.net.now
+        (F.rows_of rows.now inst.entry.net.now) inst.entry.bids.now node.now start.now steps
+        incumbent priced) }
+    ensures replies { IfOk result (λ priced. priced.dual.replies ≡ replies_at kept.new) }
 {
     let best = follow(alloc, inst, rows, node, kept, start, steps, incumbent)?;
     go_back(inst, rows, node, kept, &best.prices)?;

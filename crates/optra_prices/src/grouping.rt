@@ -83,7 +83,8 @@ pub(crate) fn price_at(prices: &[i64], groups: &Groups, g: usize) -> i64
     requires prices { All IsRowPrice prices.now }
     requires groups { AreGroups groups.now.starts.items groups.now.touches.items }
     requires within { g + 1 < length groups.now.starts.items }
-    ensures value { result ≡ group_price prices.now (group_at groups.now.starts.items groups.now.touches.items g) }
+    ensures value { result ≡ group_price prices.now (group_at groups.now.starts.items
+        groups.now.touches.items g) }
     ensures range { IsGroupPrice result }
 {
     group_price(prices, group(groups, g))

@@ -1,62 +1,75 @@
 //! Which bids have a group on an arc, so that a price that falls tells at once which bids have to be searched again.
-ghost use Rattle.std.specs.Prelude.{◌≡◌, ◌≤◌, true, false, IfOk, OnOk, length, replicate, slice_set};
-ghost use Rattle.optra_prices.specs.Chains.{AreChains, AddsLink, ChainHas, KeepsChains};
+ghost use Rattle.std.specs.Prelude.{◌≡◌, ◌<◌, ◌≤◌, ℕ, true, false, IfOk, OnOk, length, replicate, slice_index, slice_set};
 ghost use Rattle.optra_prices.specs.Columns.{IsColumns, mark_at};
-ghost use Rattle.optra_prices.specs.Holders.{Holds, AreHolders, TellsHolders, TellsGroup, TellsFallen};
+ghost use Rattle.optra_prices.specs.Holders.{AreHolders, HoldsGroup, HoldsArcs, TellsHolders, TellsGroup, TellsFallen};
+ghost use Rattle.optra_prices.specs.Indexes.{IsIndex};
 
-use crate::chains::{Chains, add_link, first_link, no_chains};
 use crate::columns::{Columns, Mark, mark_at};
+use crate::index::{Index, inverted, items_of};
 use crate::numbering::{ArcTerm, BidTable};
 use optra_network::NoMemory;
 use std::alloc::Global;
 
-/// Whether the bid was added last to those that have the group.
-fn is_last(holders: &Chains, group: u32, bid: u32) -> bool
-    requires { AreChains holders.now }
-    ensures { result ≡ true → ChainHas holders.now group bid }
-{
-    let place = first_link(&holders.first, group);
-    if place == 0 {
-        return false;
-    }
-    holders.links[place as usize - 1].item == bid
+/// The groups of bids, one bid after the other, and for each group the number of the last bid that has it, from 1.
+#[derive(Drop)]
+pub(crate) struct Held {
+    pub(crate) groups: Vec<u32>,
+    pub(crate) last: Vec<u32>,
 }
 
-/// Adds a bid to those that have a group. Bids come one after the other, so that none is added twice.
-fn hold_group(holders: &mut Chains, group: u32, bid: u32) -> Result<(), NoMemory>
-    requires { AreChains holders.old }
-    ensures chains { OnOk result (AreChains holders.new) }
-    ensures adds { OnOk result (AddsLink group bid holders.old holders.new) }
+/// Makes room for the group with this number.
+fn make_room(last: &mut Vec<u32>, group: u32) -> Result<(), NoMemory>
+    ensures within { OnOk result (group < length last.new.items) }
+    ensures same { OnOk result ((g : ℕ) → slice_index last.new.items g
+        ≡ slice_index last.old.items g) }
 {
-    if is_last(holders, group, bid) {
+    let count = group as usize + 1;
+    if count <= last.len() {
         return Ok(());
     }
-    add_link(holders, group, bid)
+    last.resize(count, 0)
 }
 
-/// Adds a bid to those that have the groups of its arcs.
-fn hold_arcs(holders: &mut Chains, bid: u32, arcs: &[ArcTerm]) -> Result<(), NoMemory>
-    requires { AreChains holders.old }
-    ensures chains { OnOk result (AreChains holders.new) }
-    ensures holds { OnOk result (Holds holders.new bid arcs.now) }
-    ensures kept { OnOk result (KeepsChains holders.old holders.new) }
+/// Adds a group to those of the bid with this number, from 1. None is added twice.
+fn hold_group(held: &mut Held, group: u32, bid: u32) -> Result<(), NoMemory>
+    ensures { OnOk result (HoldsGroup bid group held.old held.new) }
+{
+    make_room(&mut held.last, group)?;
+    let place = group as usize;
+    if held.last[place] == bid {
+        return Ok(());
+    }
+    held.groups.push(group)?;
+    held.last[place] = bid;
+    Ok(())
+}
+
+/// Adds the groups of arcs to those of the bid with this number, from 1.
+fn hold_arcs(held: &mut Held, bid: u32, arcs: &[ArcTerm]) -> Result<(), NoMemory>
+    ensures { OnOk result (HoldsArcs bid arcs.now held.old held.new) }
 {
     for arc in arcs {
-        hold_group(holders, arc.group, bid)?;
+        hold_group(held, arc.group, bid)?;
     }
     Ok(())
 }
 
 /// The bids that have each group on an arc.
-pub(crate) fn find_holders(alloc: Global, tables: &[BidTable<'_>]) -> Result<Chains, NoMemory>
+pub(crate) fn find_holders(alloc: Global, tables: &[BidTable<'_>]) -> Result<Index, NoMemory>
     requires few { length tables.now ≤ 1000 }
     ensures { IfOk result (AreHolders tables.now) }
 {
-    let mut holders = no_chains(alloc);
+    let mut held = Held {
+        groups: Vec::new(alloc),
+        last: Vec::new(alloc),
+    };
+    let mut starts = Vec::with_capacity(alloc, tables.len() + 1)?;
+    starts.push(0)?;
     for number in 0..tables.len() {
-        hold_arcs(&mut holders, number as u32, &tables[number].arcs)?;
+        hold_arcs(&mut held, number as u32 + 1, &tables[number].arcs)?;
+        starts.push(held.groups.len())?;
     }
-    Ok(holders)
+    inverted(alloc, &starts, &held.groups)
 }
 
 /// Tells a bid.
@@ -70,21 +83,18 @@ pub(crate) fn tell_bid(fallen: &mut Vec<bool>, bid: u32)
 }
 
 /// Tells the bids that have the group.
-pub(crate) fn tell_holders(holders: &Chains, g: u32, fallen: &mut Vec<bool>)
-    requires { AreChains holders.now }
+pub(crate) fn tell_holders(holders: &Index, g: u32, fallen: &mut Vec<bool>)
+    requires { IsIndex holders.now }
     ensures { TellsHolders holders.now g fallen.old.items fallen.new.items }
 {
-    let mut place = first_link(&holders.first, g);
-    while place > 0 {
-        let link = holders.links[place as usize - 1];
-        tell_bid(fallen, link.item);
-        place = link.next;
+    for bid in items_of(holders, g) {
+        tell_bid(fallen, *bid);
     }
 }
 
 /// Tells the bids that have the group, where its price fell.
-fn tell_group(marks: &[Mark], holders: &Chains, g: u32, fallen: &mut Vec<bool>)
-    requires { AreChains holders.now }
+fn tell_group(marks: &[Mark], holders: &Index, g: u32, fallen: &mut Vec<bool>)
+    requires { IsIndex holders.now }
     ensures { TellsGroup marks.now holders.now g fallen.old.items fallen.new.items }
 {
     if mark_at(marks, g) == Mark::Fell {
@@ -105,7 +115,7 @@ pub(crate) fn tell_none(fallen: &mut Vec<bool>, count: usize) -> Result<(), NoMe
 pub(crate) fn tell_fallen(
     columns: &Columns,
     tables: &[BidTable<'_>],
-    holders: &Chains,
+    holders: &Index,
     fallen: &mut Vec<bool>,
 ) -> Result<(), NoMemory>
     requires columns { IsColumns columns.now.groups columns.now }

@@ -2,17 +2,19 @@
 //! so is what is known of a bid of which a node changes nothing.
 ghost use Rattle.std.specs.Prelude.{◌≡◌, ◌≤◌, All, Contains, IfOk, OnOk, length};
 ghost use Rattle.optra_node.specs.Nodes.{IsNode};
+ghost use Rattle.optra_prices.specs.Courses.{replies_at};
 ghost use Rattle.optra_prices.specs.Deads.{IsDeadAs};
 ghost use Rattle.optra_prices.specs.Replies.{IsValuation};
 ghost use Rattle.optra_prices.specs.Steps.{AreProper};
 ghost use Rattle.optra_prices.specs.Paths.{IsPathResult};
 ghost use Rattle.optra_prices.specs.Keepings.{AreKept, AreKeptAt, IsFirstStuckIn};
 
-use crate::allowing::{Grouping, allow_told, decisions_of};
+use crate::allowing::{Grouping, allow_told};
 use crate::arc_tables::ArcTables;
+use crate::claims::claims_of;
 use crate::columns::new_columns;
 use crate::courses::{admit, go_to, priced_at};
-use crate::decided::{Decided, move_room, shared_count};
+use crate::decided::{Decided, decisions_of, move_room, shared_count};
 use crate::filling::overfull_row;
 use crate::following::go_along;
 use crate::group_prices::GroupPrices;
@@ -42,12 +44,12 @@ pub fn keep_arcs<'g, F: RowFamily, G: Graphs>(
     graphs: &'g G,
     rows: &F,
 ) -> Result<ArcTables<'g, F::Row>, NoMemory>
-    requires few { length inst.bids.now ≤ 1000 }
     requires network { G.network graphs.now ≡ inst.net.now }
     requires held { All (λ bid. Contains (G.held graphs.now) bid.path) inst.bids.now }
-    ensures { IfOk result (AreKept F.Row.cmp inst.entry.net.now (F.rows_of rows.now inst.entry.net.now) (F.rows_used rows.now inst.entry.net.now) inst.entry.bids.now) }
+    ensures { IfOk result (AreKept F.Row.cmp inst.entry.net.now
+        (F.rows_of rows.now inst.entry.net.now) (F.rows_used rows.now inst.entry.net.now)
+        inst.entry.bids.now) }
 {
-    let _ = inst.net.track_count();
     let node = Node::root(alloc);
     let made = made_tables(alloc, inst, graphs, rows)?;
     let Made {
@@ -55,8 +57,11 @@ pub fn keep_arcs<'g, F: RowFamily, G: Graphs>(
         groups,
         mut tables,
     } = made;
-    let decisions = Vec::new(alloc);
-    let mut room = empty_room(alloc, inst.net, rows, &numbering)?;
+    let mut decided = Decided {
+        decisions: Vec::new(alloc),
+        claims: Vec::new(alloc),
+        room: empty_room(alloc, inst.net, rows, &numbering)?,
+    };
     let mut told = vec![in alloc; true; inst.bids.len()]?;
     let summary = Owned::new(alloc, inst, rows, &node)?;
     let grouping = Grouping {
@@ -68,7 +73,7 @@ pub fn keep_arcs<'g, F: RowFamily, G: Graphs>(
         rows,
         &summary,
         &grouping,
-        &mut room,
+        &mut decided,
         &mut told,
         &mut tables,
     )?;
@@ -93,7 +98,7 @@ pub fn keep_arcs<'g, F: RowFamily, G: Graphs>(
         zero,
         standings,
         counted,
-        decided: Decided { decisions, room },
+        decided,
         value: 0,
         buffers,
         fallen: told,
@@ -110,15 +115,26 @@ pub fn bring_to<F: RowFamily>(
     node: &Node,
     kept: &mut ArcTables<'_, F::Row>,
 ) -> Result<(), NoMemory>
-    requires few { length inst.bids.now ≤ 1000 }
     requires node { IsNode inst.net.now (length inst.bids.now) node.now }
-    requires kept { AreKept F.Row.cmp inst.net.now (F.rows_of rows.now inst.net.now) (F.rows_used rows.now inst.net.now) inst.bids.now kept.old }
-    ensures { OnOk result (AreKeptAt F.Row.cmp inst.entry.net.now (F.rows_of rows.now inst.entry.net.now) (F.rows_used rows.now inst.entry.net.now) inst.entry.bids.now node.now kept.new) }
+    requires kept { AreKept F.Row.cmp inst.net.now (F.rows_of rows.now inst.net.now)
+        (F.rows_used rows.now inst.net.now) inst.bids.now kept.old }
+    ensures { OnOk result (AreKeptAt F.Row.cmp inst.entry.net.now
+        (F.rows_of rows.now inst.entry.net.now) (F.rows_used rows.now inst.entry.net.now)
+        inst.entry.bids.now node.now kept.new) }
 {
-    let _ = inst.net.track_count();
     let count = shared_count(&kept.decided.decisions, decisions_of(node));
-    tell_moved(inst, rows, node, kept, count)?;
-    move_room(&mut kept.decided, inst, rows, &kept.numbering, node, count)?;
+    let entered = &decisions_of(node)[count..];
+    let claims = claims_of(alloc, inst, rows, &kept.numbering, entered)?;
+    tell_moved(inst, rows, node, kept, count, &claims)?;
+    move_room(
+        &mut kept.decided,
+        inst,
+        rows,
+        &kept.numbering,
+        node,
+        count,
+        claims,
+    )?;
     let summary = Owned::new(alloc, inst, rows, node)?;
     let grouping = Grouping {
         numbering: &kept.numbering,
@@ -129,7 +145,7 @@ pub fn bring_to<F: RowFamily>(
         rows,
         &summary,
         &grouping,
-        &mut kept.decided.room,
+        &mut kept.decided,
         &mut kept.fallen,
         &mut kept.tables,
     )?;
@@ -175,12 +191,12 @@ pub fn dead_over<F: RowFamily>(
     node: &Node,
     kept: &ArcTables<'_, F::Row>,
 ) -> Option<Dead<F::Row>>
-    requires few { length inst.bids.now ≤ 1000 }
     requires node { IsNode inst.net.now (length inst.bids.now) node.now }
-    requires kept { AreKeptAt F.Row.cmp inst.net.now (F.rows_of rows.now inst.net.now) (F.rows_used rows.now inst.net.now) inst.bids.now node.now kept.now }
-    ensures { IsDeadAs F.Row.cmp inst.entry.net.now (F.rows_of rows.now inst.entry.net.now) inst.entry.bids.now node.now result }
+    requires kept { AreKeptAt F.Row.cmp inst.net.now (F.rows_of rows.now inst.net.now)
+        (F.rows_used rows.now inst.net.now) inst.bids.now node.now kept.now }
+    ensures { IsDeadAs F.Row.cmp inst.entry.net.now (F.rows_of rows.now inst.entry.net.now)
+        inst.entry.bids.now node.now result }
 {
-    let _ = inst.net.track_count();
     tests_tell_allowed(inst, rows);
     prices_by_used_rows(inst, rows);
     if let Some(row) = overfull_row(inst, rows, node, kept) {
@@ -190,7 +206,7 @@ pub fn dead_over<F: RowFamily>(
     Some(Dead::NoWalk { bid })
 }
 
-/// As [`crate::price_path`], over tables that are at the node; the tables are handed back.
+/// As [`crate::price_path`], over tables that are at the node; the tables are handed back, at the prices of the result.
 pub fn price_path_over<'g, F: RowFamily>(
     alloc: Global,
     inst: Instance<'_>,
@@ -201,12 +217,17 @@ pub fn price_path_over<'g, F: RowFamily>(
     steps: u32,
     incumbent: Cents,
 ) -> Result<(ArcTables<'g, F::Row>, Priced<F::Row>), NoMemory>
-    requires few { length inst.bids.now ≤ 1000 }
     requires node { IsNode inst.net.now (length inst.bids.now) node.now }
-    requires kept { AreKeptAt F.Row.cmp inst.net.now (F.rows_of rows.now inst.net.now) (F.rows_used rows.now inst.net.now) inst.bids.now node.now kept }
+    requires kept { AreKeptAt F.Row.cmp inst.net.now (F.rows_of rows.now inst.net.now)
+        (F.rows_used rows.now inst.net.now) inst.bids.now node.now kept }
     requires start { AreProper F.Row.cmp (F.rows_of rows.now inst.net.now) start.now }
-    ensures kept { IfOk result (λ both. AreKeptAt F.Row.cmp inst.entry.net.now (F.rows_of rows.now inst.entry.net.now) (F.rows_used rows.now inst.entry.net.now) inst.entry.bids.now node.now both.0) }
-    ensures path { IfOk result (λ both. IsPathResult F.Row.cmp inst.entry.net.now (F.rows_of rows.now inst.entry.net.now) inst.entry.bids.now node.now start.now steps incumbent both.1) }
+    ensures kept { IfOk result (λ both. AreKeptAt F.Row.cmp inst.entry.net.now
+        (F.rows_of rows.now inst.entry.net.now) (F.rows_used rows.now inst.entry.net.now)
+        inst.entry.bids.now node.now both.0) }
+    ensures path { IfOk result (λ both. IsPathResult F.Row.cmp inst.entry.net.now
+        (F.rows_of rows.now inst.entry.net.now) inst.entry.bids.now node.now start.now steps
+        incumbent both.1) }
+    ensures replies { IfOk result (λ both. both.1.dual.replies ≡ replies_at both.0) }
 {
     let mut kept = kept;
     admit(alloc, inst, rows, node, &mut kept, entries(start))?;
@@ -223,12 +244,15 @@ pub fn dual_over<'g, F: RowFamily>(
     kept: ArcTables<'g, F::Row>,
     prices: &Prices<F::Row>,
 ) -> Result<(ArcTables<'g, F::Row>, Dual), NoMemory>
-    requires few { length inst.bids.now ≤ 1000 }
     requires node { IsNode inst.net.now (length inst.bids.now) node.now }
-    requires kept { AreKeptAt F.Row.cmp inst.net.now (F.rows_of rows.now inst.net.now) (F.rows_used rows.now inst.net.now) inst.bids.now node.now kept }
+    requires kept { AreKeptAt F.Row.cmp inst.net.now (F.rows_of rows.now inst.net.now)
+        (F.rows_used rows.now inst.net.now) inst.bids.now node.now kept }
     requires prices { AreProper F.Row.cmp (F.rows_of rows.now inst.net.now) prices.now }
-    ensures kept { IfOk result (λ both. AreKeptAt F.Row.cmp inst.entry.net.now (F.rows_of rows.now inst.entry.net.now) (F.rows_used rows.now inst.entry.net.now) inst.entry.bids.now node.now both.0) }
-    ensures dual { IfOk result (λ both. IsValuation inst.entry.net.now (F.rows_of rows.now inst.entry.net.now) inst.entry.bids.now node.now prices.now both.1) }
+    ensures kept { IfOk result (λ both. AreKeptAt F.Row.cmp inst.entry.net.now
+        (F.rows_of rows.now inst.entry.net.now) (F.rows_used rows.now inst.entry.net.now)
+        inst.entry.bids.now node.now both.0) }
+    ensures dual { IfOk result (λ both. IsValuation inst.entry.net.now
+        (F.rows_of rows.now inst.entry.net.now) inst.entry.bids.now node.now prices.now both.1) }
 {
     let mut kept = kept;
     admit(alloc, inst, rows, node, &mut kept, entries(prices))?;

@@ -9,8 +9,10 @@ use optra_walk::{Instance, RowFamily};
 /// family, the node, the start prices, the number of steps and the incumbent.
 pub fn price_laws<F: RowFamily>(inst: Instance<'_>, rows: &F)
     ensures one_price_list { OnePriceList F.Row.cmp (F.rows_of rows.now inst.entry.net.now) }
-    ensures one_valuation { OneValuation {R = F.Row} inst.entry.net.now (F.rows_of rows.now inst.entry.net.now) inst.entry.bids.now }
-    ensures one_result { OnePathResult F.Row.cmp inst.entry.net.now (F.rows_of rows.now inst.entry.net.now) inst.entry.bids.now }
+    ensures one_valuation { OneValuation {R = F.Row} inst.entry.net.now
+        (F.rows_of rows.now inst.entry.net.now) inst.entry.bids.now }
+    ensures one_result { OnePathResult F.Row.cmp inst.entry.net.now
+        (F.rows_of rows.now inst.entry.net.now) inst.entry.bids.now }
 {
     let _ = inst;
     let _ = rows;

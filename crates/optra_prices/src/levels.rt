@@ -67,6 +67,22 @@ pub(crate) fn no_levels(alloc: Global) -> Levels
     }
 }
 
+/// Takes the memory for so many rows, and no more.
+pub(crate) fn reserve_levels(levels: &mut Levels, count: usize) -> Result<(), NoMemory>
+    requires levels { IsLevels levels.old }
+    requires unused { AreUnused levels.old }
+    ensures levels { OnOk result (IsLevels levels.new) }
+    ensures unused { OnOk result (AreUnused levels.new) }
+    ensures prices { OnOk result (levels.new.prices.items ≡ levels.old.prices.items) }
+    ensures capacities { OnOk result (levels.new.capacities.items ≡ levels.old.capacities.items) }
+{
+    let more = count.saturating_sub(levels.prices.len());
+    levels.capacities.reserve_exact(more)?;
+    levels.prices.reserve_exact(more)?;
+    levels.uses.reserve_exact(more)?;
+    levels.listed.reserve_exact(more)
+}
+
 /// Makes room for one more row, at no price and with no use.
 pub(crate) fn push_level(levels: &mut Levels, capacity: u32) -> Result<(), NoMemory>
     requires levels { IsLevels levels.old }
@@ -75,7 +91,8 @@ pub(crate) fn push_level(levels: &mut Levels, capacity: u32) -> Result<(), NoMem
     ensures levels { OnOk result (IsLevels levels.new) }
     ensures unused { OnOk result (AreUnused levels.new) }
     ensures prices { OnOk result (levels.new.prices.items ≡ levels.old.prices.items ++ pos 0 ∷ []) }
-    ensures capacities { OnOk result (levels.new.capacities.items ≡ levels.old.capacities.items ++ capacity ∷ []) }
+    ensures capacities { OnOk result (levels.new.capacities.items ≡ levels.old.capacities.items
+        ++ capacity ∷ []) }
 {
     levels.capacities.push(capacity)?;
     levels.prices.push(0)?;
@@ -128,11 +145,12 @@ pub(crate) fn set_price(
     ensures levels { OnOk result (IsLevels levels.new) }
     ensures columns { OnOk result (IsColumns columns.old.groups columns.new) }
     ensures due { OnOk result (PricesAllButDue levels.new.prices.items columns.new) }
-    ensures prices { OnOk result (levels.new.prices.items ≡ slice_set levels.old.prices.items number price) }
+    ensures prices { OnOk result (levels.new.prices.items ≡ slice_set levels.old.prices.items number
+        price) }
     ensures grouped { OnOk result (columns.new.grouped ≡ columns.old.grouped) }
     ensures rest { OnOk result (KeepsUses levels.old levels.new) }
-    ensures active { OnOk result
-        (is_listed levels.old number ≡ true → levels.new.active ≡ levels.old.active) }
+    ensures active { OnOk result (is_listed levels.old number ≡ true → levels.new.active
+        ≡ levels.old.active) }
 {
     let place = number as usize;
     let old = levels.prices[place];
@@ -274,7 +292,8 @@ pub(crate) fn set_prices(
     ensures levels { OnOk result (IsLevels levels.new) }
     ensures columns { OnOk result (IsColumns columns.old.groups columns.new) }
     ensures due { OnOk result (PricesAllButDue levels.new.prices.items columns.new) }
-    ensures prices { OnOk result (levels.new.prices.items ≡ moved_by moves.now levels.old.prices.items) }
+    ensures prices { OnOk result (levels.new.prices.items
+        ≡ moved_by moves.now levels.old.prices.items) }
     ensures grouped { OnOk result (columns.new.grouped ≡ columns.old.grouped) }
     ensures rest { OnOk result (KeepsUses levels.old levels.new) }
 {
@@ -288,7 +307,8 @@ pub(crate) fn set_prices(
 pub(crate) fn add_touch(levels: &mut Levels, touch: Touch) -> Result<(), NoMemory>
     requires { IsLevels levels.old }
     ensures levels { OnOk result (IsLevels levels.new) }
-    ensures uses { OnOk result (AddsUses (touch_use touch) levels.old.uses.items levels.new.uses.items) }
+    ensures uses { OnOk result (AddsUses (touch_use touch) levels.old.uses.items
+        levels.new.uses.items) }
     ensures prices { OnOk result (KeepsPrices levels.old levels.new) }
 {
     let place = touch.row as usize;

@@ -6,7 +6,7 @@ ghost use Rattle.optra_prices.specs.Levels.{IsLevels, AreUnused};
 ghost use Rattle.optra_prices.specs.Listings.{AddsZeros};
 ghost use Rattle.optra_prices.specs.Tables.{IsNumbering, Extends, IsRowPrice};
 
-use crate::levels::{Levels, push_level};
+use crate::levels::{Levels, push_level, reserve_levels};
 use crate::numbering::Numbering;
 use crate::ranking::number;
 use crate::stepping::push_price;
@@ -23,11 +23,15 @@ pub(crate) fn number_more<F: RowFamily>(
 ) -> Result<(), NoMemory>
     requires prices { ArePrices (F.rows_of rows.now net.now) entries.now }
     requires numbering { IsNumbering F.Row.cmp numbering.old.order.items numbering.old.rows.items }
-    requires rows { All (λ row. (F.rows_of rows.now net.now).is_row row ≡ true) numbering.old.rows.items }
-    ensures numbering { OnOk result (IsNumbering F.Row.cmp numbering.new.order.items numbering.new.rows.items) }
-    ensures rows { OnOk result (All (λ row. (F.rows_of rows.now net.now).is_row row ≡ true) numbering.new.rows.items) }
+    requires rows { All (λ row. (F.rows_of rows.now net.now).is_row row ≡ true)
+        numbering.old.rows.items }
+    ensures numbering { OnOk result (IsNumbering F.Row.cmp numbering.new.order.items
+        numbering.new.rows.items) }
+    ensures rows { OnOk result (All (λ row. (F.rows_of rows.now net.now).is_row row ≡ true)
+        numbering.new.rows.items) }
     ensures extends { OnOk result (Extends numbering.old.rows.items numbering.new.rows.items) }
-    ensures same { OnOk result (length numbering.new.rows.items ≡ length numbering.old.rows.items → numbering.new ≡ numbering.old) }
+    ensures same { OnOk result (length numbering.new.rows.items ≡ length numbering.old.rows.items
+        → numbering.new ≡ numbering.old) }
     ensures numbered { OnOk result (All (λ e. Contains numbering.new.rows.items e.0) entries.now) }
 {
     for entry in entries {
@@ -44,7 +48,8 @@ pub(crate) fn capacities_of<F: RowFamily>(
     numbered: &[F::Row],
 ) -> Result<Vec<u32>, NoMemory>
     requires { All (λ row. (F.rows_of rows.now net.now).is_row row ≡ true) numbered.now }
-    ensures { IfOk result (λ capacities. capacities.items ≡ map (F.rows_of rows.now net.now).capacity numbered.now) }
+    ensures { IfOk result (λ capacities. capacities.items
+        ≡ map (F.rows_of rows.now net.now).capacity numbered.now) }
 {
     let mut capacities = Vec::with_capacity(alloc, numbered.len())?;
     for row in numbered {
@@ -64,14 +69,17 @@ pub(crate) fn widen<F: RowFamily>(
     requires unused { AreUnused levels.old }
     requires rows { All (λ row. (F.rows_of rows.now net.now).is_row row ≡ true) numbered.now }
     requires few { length levels.old.prices.items ≤ length numbered.now }
-    requires capacities { HaveCapacities (F.rows_of rows.now net.now) (take (length levels.old.prices.items) numbered.now) levels.old.capacities.items }
+    requires capacities { HaveCapacities (F.rows_of rows.now net.now)
+        (take (length levels.old.prices.items) numbered.now) levels.old.capacities.items }
     ensures levels { OnOk result (IsLevels levels.new) }
     ensures unused { OnOk result (AreUnused levels.new) }
-    ensures capacities { OnOk result (HaveCapacities (F.rows_of rows.now net.now) numbered.now levels.new.capacities.items) }
+    ensures capacities { OnOk result (HaveCapacities (F.rows_of rows.now net.now) numbered.now
+        levels.new.capacities.items) }
     ensures prices { OnOk result (AddsZeros levels.old.prices.items levels.new.prices.items) }
     ensures count { OnOk result (length levels.new.prices.items ≡ length numbered.now) }
 {
-    let _ = net.track_count();
+    net.laws();
+    reserve_levels(levels, numbered.len())?;
     for n in levels.prices.len()..numbered.len() {
         push_level(levels, rows.cap(net, numbered[n]))?;
     }

@@ -24,8 +24,8 @@ pub(crate) fn arc_touches<'a>(groups: &'a Groups, table: &BidTable<'_>, k: u32) 
 fn add_group(levels: &mut Levels, touches: &[Touch]) -> Result<(), NoMemory>
     requires { IsLevels levels.old }
     ensures levels { OnOk result (IsLevels levels.new) }
-    ensures uses { OnOk result
-        (AddsUses (touch_uses touches.now) levels.old.uses.items levels.new.uses.items) }
+    ensures uses { OnOk result (AddsUses (touch_uses touches.now) levels.old.uses.items
+        levels.new.uses.items) }
     ensures prices { OnOk result (KeepsPrices levels.old levels.new) }
 {
     for touch in touches {
@@ -56,8 +56,7 @@ fn add_path(
     requires levels { IsLevels levels.old }
     requires groups { HasGroups groups.now table.now }
     ensures levels { OnOk result (IsLevels levels.new) }
-    ensures uses { OnOk result
-        (AddsUses (path_uses groups.now table.now path.now)
+    ensures uses { OnOk result (AddsUses (path_uses groups.now table.now path.now)
         levels.old.uses.items levels.new.uses.items) }
     ensures prices { OnOk result (KeepsPrices levels.old levels.new) }
 {
@@ -72,8 +71,8 @@ fn take_path(levels: &mut Levels, groups: &Groups, table: &BidTable<'_>, path: &
     requires levels { IsLevels levels.old }
     requires groups { HasGroups groups.now table.now }
     ensures levels { IsLevels levels.new }
-    ensures uses { TakesUses (path_uses groups.now table.now path.now)
-        levels.old.uses.items levels.new.uses.items }
+    ensures uses { TakesUses (path_uses groups.now table.now path.now) levels.old.uses.items
+        levels.new.uses.items }
     ensures prices { KeepsPrices levels.old levels.new }
 {
     for k in path {
@@ -107,8 +106,7 @@ fn count_path(
     requires groups { HasGroups groups.now table.now }
     ensures levels { OnOk result (IsLevels levels.new) }
     ensures path { OnOk result (counted.new.items ≡ path.now) }
-    ensures uses { OnOk result
-        (CountsPath groups.now table.now counted.old.items path.now
+    ensures uses { OnOk result (CountsPath groups.now table.now counted.old.items path.now
         levels.old.uses.items levels.new.uses.items) }
     ensures prices { OnOk result (KeepsPrices levels.old levels.new) }
 {
@@ -134,8 +132,8 @@ pub(crate) fn count_uses(
         levels.old.uses.items }
     requires standings { length standings.now ≡ length tables.now }
     ensures levels { OnOk result (IsLevels levels.new) }
-    ensures counted { OnOk result
-        (AreCounted groups.now tables.now (paths_in counted.new.items) levels.new.uses.items) }
+    ensures counted { OnOk result (AreCounted groups.now tables.now (paths_in counted.new.items)
+        levels.new.uses.items) }
     ensures paths { OnOk result (paths_in counted.new.items ≡ paths_of standings.now) }
     ensures prices { OnOk result (KeepsPrices levels.old levels.new) }
 {

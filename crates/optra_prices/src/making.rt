@@ -61,7 +61,8 @@ pub(crate) fn new_making<F: RowFamily>(
     net: &Network,
     rows: &F,
 ) -> Result<Making<F::Row>, NoMemory>
-    ensures { IfOk result (IsMaking net.now (F.rows_of rows.now net.now) (F.rows_used rows.now net.now)) }
+    ensures { IfOk result (IsMaking net.now (F.rows_of rows.now net.now)
+        (F.rows_used rows.now net.now)) }
 {
     let _ = net;
     let _ = rows;
@@ -114,9 +115,11 @@ fn head_group<F: RowFamily>(
     kind: TypeId,
     leg: Leg,
 ) -> Option<u32>
-    requires making { IsMaking net.now (F.rows_of rows.now net.now) (F.rows_used rows.now net.now) making.now }
+    requires making { IsMaking net.now (F.rows_of rows.now net.now) (F.rows_used rows.now net.now)
+        making.now }
     requires usable { IsUsable net.now kind leg }
-    ensures { IfSome result (IsGroupOf (F.rows_of rows.now net.now) (F.rows_used rows.now net.now) kind leg making.now.named.items making.now.groups) }
+    ensures { IfSome result (IsGroupOf (F.rows_of rows.now net.now) (F.rows_used rows.now net.now)
+        kind leg making.now.named.items making.now.groups) }
 {
     let known = making.heads.get(head as usize)?;
     if known.kind == kind && rows.use_alike(net, kind, known.leg, leg) {
@@ -138,9 +141,9 @@ fn new_group<F: RowFamily>(
     requires usable { IsUsable net.now kind leg }
     requires rows { All (λ row. (F.rows_of rows.now net.now).is_row row ≡ true) named.old.items }
     requires groups { AreGroups groups.old.starts.items groups.old.touches.items }
-    ensures { IfOk result (FindsGroup (F.rows_of rows.now net.now) (F.rows_used rows.now net.now) kind leg named.old.items named.new.items groups.old groups.new) }
+    ensures { IfOk result (FindsGroup (F.rows_of rows.now net.now) (F.rows_used rows.now net.now)
+        kind leg named.old.items named.new.items groups.old groups.new) }
 {
-    let _ = net.track_count();
     let Ok(number) = u32::try_from(groups.starts.len() - 1) else {
         return Err(AllocError);
     };
@@ -157,11 +160,14 @@ fn guessed_group<F: RowFamily>(
     kind: TypeId,
     leg: Leg,
 ) -> Option<u32>
-    requires making { IsMaking net.now (F.rows_of rows.now net.now) (F.rows_used rows.now net.now) making.old }
+    requires making { IsMaking net.now (F.rows_of rows.now net.now) (F.rows_used rows.now net.now)
+        making.old }
     requires usable { IsUsable net.now kind leg }
-    ensures making { IsMaking net.now (F.rows_of rows.now net.now) (F.rows_used rows.now net.now) making.new }
+    ensures making { IsMaking net.now (F.rows_of rows.now net.now) (F.rows_used rows.now net.now)
+        making.new }
     ensures same { (making.new.named ≡ making.old.named) × (making.new.groups ≡ making.old.groups) }
-    ensures found { IfSome result (IsGroupOf (F.rows_of rows.now net.now) (F.rows_used rows.now net.now) kind leg making.new.named.items making.new.groups) }
+    ensures found { IfSome result (IsGroupOf (F.rows_of rows.now net.now)
+        (F.rows_used rows.now net.now) kind leg making.new.named.items making.new.groups) }
 {
     if let Some(group) = head_group(net, rows, making, making.last, kind, leg) {
         return Some(group);
@@ -184,10 +190,14 @@ fn enter<F: RowFamily>(
     making: &mut Making<F::Row>,
     head: Head,
 ) -> Result<(), NoMemory>
-    requires making { IsMaking net.now (F.rows_of rows.now net.now) (F.rows_used rows.now net.now) making.old }
-    requires head { IsHead net.now (F.rows_of rows.now net.now) (F.rows_used rows.now net.now) making.old.named.items making.old.groups head }
-    ensures making { OnOk result (IsMaking net.now (F.rows_of rows.now net.now) (F.rows_used rows.now net.now) making.new) }
-    ensures same { OnOk result ((making.new.named ≡ making.old.named) × (making.new.groups ≡ making.old.groups)) }
+    requires making { IsMaking net.now (F.rows_of rows.now net.now) (F.rows_used rows.now net.now)
+        making.old }
+    requires head { IsHead net.now (F.rows_of rows.now net.now) (F.rows_used rows.now net.now)
+        making.old.named.items making.old.groups head }
+    ensures making { OnOk result (IsMaking net.now (F.rows_of rows.now net.now)
+        (F.rows_used rows.now net.now) making.new) }
+    ensures same { OnOk result ((making.new.named ≡ making.old.named)
+        × (making.new.groups ≡ making.old.groups)) }
 {
     let _ = net;
     let _ = rows;
@@ -211,11 +221,14 @@ pub(crate) fn leg_group<F: RowFamily>(
     kind: TypeId,
     leg: Leg,
 ) -> Result<u32, NoMemory>
-    requires making { IsMaking net.now (F.rows_of rows.now net.now) (F.rows_used rows.now net.now) making.old }
+    requires making { IsMaking net.now (F.rows_of rows.now net.now) (F.rows_used rows.now net.now)
+        making.old }
     requires usable { IsUsable net.now kind leg }
-    ensures making { OnOk result (IsMaking net.now (F.rows_of rows.now net.now) (F.rows_used rows.now net.now) making.new) }
+    ensures making { OnOk result (IsMaking net.now (F.rows_of rows.now net.now)
+        (F.rows_used rows.now net.now) making.new) }
     ensures grows { OnOk result (Grows making.old making.new) }
-    ensures found { IfOk result (IsGroupOf (F.rows_of rows.now net.now) (F.rows_used rows.now net.now) kind leg making.new.named.items making.new.groups) }
+    ensures found { IfOk result (IsGroupOf (F.rows_of rows.now net.now)
+        (F.rows_used rows.now net.now) kind leg making.new.named.items making.new.groups) }
 {
     if let Some(group) = guessed_group(net, rows, making, kind, leg) {
         return Ok(group);
@@ -233,15 +246,22 @@ pub(crate) fn finish_making<F: RowFamily>(
     making: Making<F::Row>,
 ) -> Result<Numbered<F::Row>, NoMemory>
     requires { IsMaking net.now (F.rows_of rows.now net.now) (F.rows_used rows.now net.now) making }
-    ensures { IfOk result (IsNumbered F.Row.cmp (F.rows_of rows.now net.now) making.named.items making.groups) }
+    ensures { IfOk result (IsNumbered F.Row.cmp (F.rows_of rows.now net.now) making.named.items
+        making.groups) }
 {
     let _ = net;
     let _ = rows;
     let Making {
         named,
         mut groups,
+        heads,
+        guesses,
         ..
     } = making;
-    let numbering = number_rows::<F>(alloc, &named, &mut groups.touches)?;
+    drop(heads);
+    drop(guesses);
+    groups.starts.shrink_to_fit();
+    groups.touches.shrink_to_fit();
+    let numbering = number_rows::<F>(alloc, named, &mut groups.touches)?;
     Ok(Numbered { numbering, groups })
 }

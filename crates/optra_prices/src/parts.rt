@@ -1,7 +1,6 @@
 //! What the arcs of a bid's table add to the value of a walk, and which of them may be taken beside what is placed.
 ghost use Rattle.std.specs.Prelude.{◌≡◌, ◌&&◌, ◌+◌, ◌<◌, ◌↔◌, ℕ, [], Some, All, IsTrue, IfOk, OnOk, length, slice_get};
 ghost use Rattle.optra_bid.specs.declared.bids.Bid.{Bid};
-ghost use Rattle.optra_walk.specs.Families.{IsUsable};
 ghost use Rattle.optra_graph.specs.Timed.{Timed, IsGraphOf, IsRoute, walk_of};
 ghost use Rattle.optra_prices.specs.Keepings.{AreKept, AreKeptAt};
 ghost use Rattle.optra_prices.specs.Parts.{AreParts, ArePartsOf, IsTableGraph, IsRoomIn, HasRoom, KeepsWithin, IsPutIn};
@@ -10,11 +9,11 @@ ghost use Rattle.optra_prices.specs.Tables.{AreGroups};
 use crate::arc_tables::ArcTables;
 use crate::numbering::{ArcTerm, BidTable, Groups};
 use crate::putting::{add_arcs, are_arcs_within, has_room_for_each, take_arcs};
-use crate::rooms::{Room, Told, add_leg, free_copy, tell_group};
+use crate::rooms::{Room, Told, free_copy, tell_group};
 use optra_graph::TimeGraph;
-use optra_network::{NoMemory, TypeId};
+use optra_network::NoMemory;
 use optra_node::Node;
-use optra_walk::{Instance, Leg, RowFamily};
+use optra_walk::{Instance, RowFamily};
 use std::alloc::Global;
 
 /// What an arc adds to the value of a walk, in thousandths of a cent, and whether it may be taken.
@@ -43,8 +42,10 @@ fn tell_table(
     room: &Room,
 ) -> Result<(), NoMemory>
     requires groups { AreGroups groups.now.starts.items groups.now.touches.items }
-    requires within { All (λ arc. arc.group + 1 < length groups.now.starts.items) table.now.arcs.items }
-    ensures { OnOk result (ArePartsOf room.now groups.now.starts.items groups.now.touches.items table.now.arcs.items (length table.now.arcs.items) parts.new.items) }
+    requires within { All (λ arc. arc.group + 1 < length groups.now.starts.items)
+        table.now.arcs.items }
+    ensures { OnOk result (ArePartsOf room.now groups.now.starts.items groups.now.touches.items
+        table.now.arcs.items (length table.now.arcs.items) parts.new.items) }
 {
     parts.clear();
     parts.reserve(table.arcs.len())?;
@@ -67,10 +68,12 @@ pub fn graph_of<'a, F: RowFamily>(
     kept: &'a ArcTables<'_, F::Row>,
     number: u32,
 ) -> &'a TimeGraph
-    requires kept { AreKept F.Row.cmp inst.net.now (F.rows_of rows.now inst.net.now) (F.rows_used rows.now inst.net.now) inst.bids.now kept.now }
+    requires kept { AreKept F.Row.cmp inst.net.now (F.rows_of rows.now inst.net.now)
+        (F.rows_used rows.now inst.net.now) inst.bids.now kept.now }
     requires number { number < length inst.bids.now }
     ensures table { IsTableGraph kept.now number result.now }
-    ensures graph { (bid : Bid) → slice_get inst.entry.bids.now number ≡ Some bid → IsGraphOf inst.entry.net.now bid.path result.now }
+    ensures graph { (bid : Bid) → slice_get inst.entry.bids.now number ≡ Some bid
+        → IsGraphOf inst.entry.net.now bid.path result.now }
 {
     let _ = inst.bids;
     let _ = rows;
@@ -88,11 +91,15 @@ pub fn tell_parts<F: RowFamily>(
     room: &Room,
     number: u32,
 ) -> Result<(), NoMemory>
-    requires kept { AreKeptAt F.Row.cmp inst.net.now (F.rows_of rows.now inst.net.now) (F.rows_used rows.now inst.net.now) inst.bids.now node.now kept.now }
+    requires kept { AreKeptAt F.Row.cmp inst.net.now (F.rows_of rows.now inst.net.now)
+        (F.rows_used rows.now inst.net.now) inst.bids.now node.now kept.now }
     requires number { number < length inst.bids.now }
-    ensures { OnOk result ((bid : Bid) (t : Timed) (total : F.Row → ℕ) → slice_get inst.entry.bids.now number ≡ Some bid → IsTableGraph kept.now number t → IsRoomIn (F.rows_of rows.now inst.entry.net.now) kept.now total room.now → AreParts inst.entry.net.now (F.rows_of rows.now inst.entry.net.now) inst.entry.bids.now node.now total number bid t (length t.dag.arcs) parts.new.items) }
+    ensures { OnOk result ((bid : Bid) (t : Timed) (total : F.Row → ℕ)
+        → slice_get inst.entry.bids.now number ≡ Some bid → IsTableGraph kept.now number t
+        → IsRoomIn (F.rows_of rows.now inst.entry.net.now) kept.now total room.now
+        → AreParts inst.entry.net.now (F.rows_of rows.now inst.entry.net.now) inst.entry.bids.now
+        node.now total number bid t (length t.dag.arcs) parts.new.items) }
 {
-    let _ = inst.net.track_count();
     let _ = rows;
     let _ = node;
     tell_table(
@@ -110,30 +117,14 @@ pub fn free_room<F: RowFamily>(
     rows: &F,
     kept: &ArcTables<'_, F::Row>,
 ) -> Result<Room, NoMemory>
-    requires { AreKept F.Row.cmp inst.net.now (F.rows_of rows.now inst.net.now) (F.rows_used rows.now inst.net.now) inst.bids.now kept.now }
+    requires { AreKept F.Row.cmp inst.net.now (F.rows_of rows.now inst.net.now)
+        (F.rows_used rows.now inst.net.now) inst.bids.now kept.now }
     ensures { IfOk result (IsRoomIn (F.rows_of rows.now inst.entry.net.now) kept.now (λ row. 0)) }
 {
     let _ = inst.net;
     let _ = rows;
     let room = free_copy(alloc, &kept.decided.room)?;
     Ok(room)
-}
-
-/// Adds what a usable leg of the type uses to a room. After `NoMemory`, its only refusal, some of it may be added, and the
-/// room serves no more.
-pub fn take_up<F: RowFamily>(
-    room: &mut Room,
-    inst: Instance<'_>,
-    rows: &F,
-    kept: &ArcTables<'_, F::Row>,
-    kind: TypeId,
-    leg: Leg,
-) -> Result<(), NoMemory>
-    requires kept { AreKept F.Row.cmp inst.net.now (F.rows_of rows.now inst.net.now) (F.rows_used rows.now inst.net.now) inst.bids.now kept.now }
-    requires usable { IsUsable inst.net.now kind leg }
-    ensures { OnOk result ((total : F.Row → ℕ) → IsRoomIn (F.rows_of rows.now inst.entry.net.now) kept.now total room.old → IsRoomIn (F.rows_of rows.now inst.entry.net.now) kept.now (λ row. total row + (F.rows_of rows.now inst.entry.net.now).uses kind leg row) room.new) }
-{
-    add_leg(room, inst.net, rows, &kept.numbering, kind, leg)
 }
 
 /// Whether there is room for each leg of the walk of a bid's path by itself. The path must be one of the bid's graph.
@@ -145,12 +136,17 @@ pub fn has_room_for_path<F: RowFamily>(
     number: u32,
     path: &[u32],
 ) -> bool
-    requires kept { AreKept F.Row.cmp inst.net.now (F.rows_of rows.now inst.net.now) (F.rows_used rows.now inst.net.now) inst.bids.now kept.now }
+    requires kept { AreKept F.Row.cmp inst.net.now (F.rows_of rows.now inst.net.now)
+        (F.rows_used rows.now inst.net.now) inst.bids.now kept.now }
     requires number { number < length inst.bids.now }
-    requires route { (t : Timed) → IsTableGraph kept.now number t → (path.now ≡ [] → ⊥) → IsRoute t path.now }
-    ensures { (bid : Bid) (t : Timed) (total : F.Row → ℕ) → slice_get inst.entry.bids.now number ≡ Some bid → IsTableGraph kept.now number t → IsRoomIn (F.rows_of rows.now inst.entry.net.now) kept.now total room.now → IsTrue result ↔ All (HasRoom (F.rows_of rows.now inst.entry.net.now) total bid.path.kind) (walk_of t path.now) }
+    requires route { (t : Timed) → IsTableGraph kept.now number t → (path.now ≡ [] → ⊥)
+        → IsRoute t path.now }
+    ensures { (bid : Bid) (t : Timed) (total : F.Row → ℕ) → slice_get inst.entry.bids.now number
+        ≡ Some bid → IsTableGraph kept.now number t
+        → IsRoomIn (F.rows_of rows.now inst.entry.net.now) kept.now total room.now → IsTrue result
+        ↔ All (HasRoom (F.rows_of rows.now inst.entry.net.now) total bid.path.kind)
+        (walk_of t path.now) }
 {
-    let _ = inst.net.track_count();
     let _ = rows;
     has_room_for_each(
         room,
@@ -171,12 +167,18 @@ pub fn put_path<F: RowFamily>(
     number: u32,
     path: &[u32],
 ) -> Result<bool, NoMemory>
-    requires kept { AreKept F.Row.cmp inst.net.now (F.rows_of rows.now inst.net.now) (F.rows_used rows.now inst.net.now) inst.bids.now kept.now }
+    requires kept { AreKept F.Row.cmp inst.net.now (F.rows_of rows.now inst.net.now)
+        (F.rows_used rows.now inst.net.now) inst.bids.now kept.now }
     requires number { number < length inst.bids.now }
-    requires route { (t : Timed) → IsTableGraph kept.now number t → (path.now ≡ [] → ⊥) → IsRoute t path.now }
-    ensures { IfOk result (λ put. (bid : Bid) (t : Timed) (total : F.Row → ℕ) → slice_get inst.entry.bids.now number ≡ Some bid → IsTableGraph kept.now number t → KeepsWithin (F.rows_of rows.now inst.entry.net.now) total → IsRoomIn (F.rows_of rows.now inst.entry.net.now) kept.now total room.old → IsPutIn (F.rows_of rows.now inst.entry.net.now) kept.now bid.path.kind (walk_of t path.now) put total room.new) }
+    requires route { (t : Timed) → IsTableGraph kept.now number t → (path.now ≡ [] → ⊥)
+        → IsRoute t path.now }
+    ensures { IfOk result (λ put. (bid : Bid) (t : Timed) (total : F.Row → ℕ)
+        → slice_get inst.entry.bids.now number ≡ Some bid → IsTableGraph kept.now number t
+        → KeepsWithin (F.rows_of rows.now inst.entry.net.now) total
+        → IsRoomIn (F.rows_of rows.now inst.entry.net.now) kept.now total room.old
+        → IsPutIn (F.rows_of rows.now inst.entry.net.now) kept.now bid.path.kind
+        (walk_of t path.now) put total room.new) }
 {
-    let _ = inst.net.track_count();
     let _ = rows;
     let groups = &kept.columns.groups;
     let table = &kept.tables[number as usize];

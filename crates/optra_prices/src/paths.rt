@@ -31,12 +31,13 @@ pub fn price_path<F: RowFamily, G: Graphs>(
     steps: u32,
     incumbent: Cents,
 ) -> Result<Priced<F::Row>, NoMemory>
-    requires few { length inst.bids.now ≤ 1000 }
     requires node { IsNode inst.net.now (length inst.bids.now) node.now }
     requires network { G.network graphs.now ≡ inst.net.now }
     requires held { All (λ bid. Contains (G.held graphs.now) bid.path) inst.bids.now }
     requires start { AreProper F.Row.cmp (F.rows_of rows.now inst.net.now) start.now }
-    ensures { IfOk result (λ priced. IsPathResult F.Row.cmp inst.entry.net.now (F.rows_of rows.now inst.entry.net.now) inst.entry.bids.now node.now start.now steps incumbent priced) }
+    ensures { IfOk result (λ priced. IsPathResult F.Row.cmp inst.entry.net.now
+        (F.rows_of rows.now inst.entry.net.now) inst.entry.bids.now node.now start.now steps
+        incumbent priced) }
 {
     let mut kept = keep_arcs(alloc, inst, graphs, rows)?;
     bring_to(alloc, inst, rows, node, &mut kept)?;

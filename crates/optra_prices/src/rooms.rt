@@ -1,15 +1,14 @@
 //! How much is used of rows by their numbers, and the room that is left.
-ghost use Rattle.std.specs.Prelude.{◌≡◌, ◌+◌, ◌-◌, ◌<◌, ℕ, ◌↔◌, IsTrue, true, All, IfOk, OnOk, length};
-ghost use Rattle.optra_walk.specs.Families.{IsUsable};
-ghost use Rattle.optra_prices.specs.Tables.{IsNumbering, AreGroups};
-ghost use Rattle.optra_prices.specs.Rooms.{IsRoom, HasRoomFor, HasRoomForAll, ChangesUse, ChangesRow, IsTold, IsFreeCopy};
+ghost use Rattle.std.specs.Prelude.{◌≡◌, ◌+◌, ◌-◌, ◌<◌, ◌↔◌, IsTrue, true, All, IfOk, OnOk, length};
+ghost use Rattle.optra_prices.specs.Tables.{AreGroups};
+ghost use Rattle.optra_prices.specs.Rooms.{IsRoom, HasRoomFor, HasRoomForAll, ChangesUse, IsNumberWithin, IsTold, IsFreeCopy};
+ghost use Rattle.optra_prices.specs.Uses.{touch_use, touch_uses, AddsUses, TakesUses};
 
 use crate::grouping::group;
 use crate::listing::capacities_of;
 use crate::numbering::{Groups, Numbering, Touch};
-use crate::ranking::number_of;
-use optra_network::{Network, NoMemory, TypeId};
-use optra_walk::{Leg, RowFamily};
+use optra_network::{Network, NoMemory};
+use optra_walk::RowFamily;
 use std::alloc::{AllocError, Global};
 
 /// How much is used of rows, by their numbers, and how much there is of them.
@@ -26,8 +25,10 @@ pub(crate) fn empty_room<F: RowFamily>(
     rows: &F,
     numbering: &Numbering<F::Row>,
 ) -> Result<Room, NoMemory>
-    requires { All (λ row. (F.rows_of rows.now net.now).is_row row ≡ true) numbering.now.rows.items }
-    ensures { IfOk result (IsRoom (F.rows_of rows.now net.now) numbering.now.rows.items (λ row. 0)) }
+    requires { All (λ row. (F.rows_of rows.now net.now).is_row row ≡ true)
+        numbering.now.rows.items }
+    ensures { IfOk result (IsRoom (F.rows_of rows.now net.now) numbering.now.rows.items
+        (λ row. 0)) }
 {
     Ok(Room {
         uses: vec![in alloc; 0; numbering.rows.len()]?,
@@ -46,7 +47,7 @@ pub(crate) fn free_copy(alloc: Global, room: &Room) -> Result<Room, NoMemory>
 }
 
 /// Adds uses of the row with this number. More than 2^64 uses are refused as want of memory; no legs come near it.
-pub(crate) fn add_use(uses: &mut Vec<u64>, number: u32, by: u32) -> Result<(), NoMemory>
+fn add_use(uses: &mut Vec<u64>, number: u32, by: u32) -> Result<(), NoMemory>
     ensures { OnOk result (ChangesUse number (λ used. used + by) uses.old.items uses.new.items) }
 {
     let Some(used) = uses.get_mut(number as usize) else {
@@ -60,7 +61,7 @@ pub(crate) fn add_use(uses: &mut Vec<u64>, number: u32, by: u32) -> Result<(), N
 }
 
 /// Takes away uses of the row with this number.
-pub(crate) fn take_use(uses: &mut Vec<u64>, number: u32, by: u32)
+fn take_use(uses: &mut Vec<u64>, number: u32, by: u32)
     ensures { ChangesUse number (λ used. used - by) uses.old.items uses.new.items }
 {
     let Some(used) = uses.get_mut(number as usize) else {
@@ -69,77 +70,65 @@ pub(crate) fn take_use(uses: &mut Vec<u64>, number: u32, by: u32)
     *used = used.saturating_sub(u64::from(by));
 }
 
-/// Adds uses of the row, where the row has a number.
-fn add_row<F: RowFamily>(
-    room: &mut Room,
-    numbering: &Numbering<F::Row>,
-    row: F::Row,
-    by: u32,
-) -> Result<(), NoMemory>
-    requires { IsNumbering F.Row.cmp numbering.now.order.items numbering.now.rows.items }
-    ensures { OnOk result (ChangesRow F.Row.cmp numbering.now.rows.items row (λ used. used + by) room.old room.new) }
+/// Adds what a touch uses.
+fn add_touch(room: &mut Room, touch: Touch) -> Result<(), NoMemory>
+    ensures uses { OnOk result (AddsUses (touch_use touch) room.old.uses.items
+        room.new.uses.items) }
+    ensures capacities { OnOk result (room.new.capacities ≡ room.old.capacities) }
 {
-    match number_of::<F>(numbering, row) {
-        Some(number) => add_use(&mut room.uses, number, by),
-        None => Ok(()),
-    }
+    add_use(&mut room.uses, touch.row, touch.uses)
 }
 
-/// Takes away uses of the row, where the row has a number.
-fn take_row<F: RowFamily>(room: &mut Room, numbering: &Numbering<F::Row>, row: F::Row, by: u32)
-    requires { IsNumbering F.Row.cmp numbering.now.order.items numbering.now.rows.items }
-    ensures { ChangesRow F.Row.cmp numbering.now.rows.items row (λ used. used - by) room.old room.new }
+/// Takes away what a touch uses.
+fn take_touch(room: &mut Room, touch: Touch)
+    ensures uses { TakesUses (touch_use touch) room.old.uses.items room.new.uses.items }
+    ensures capacities { room.new.capacities ≡ room.old.capacities }
 {
-    if let Some(number) = number_of::<F>(numbering, row) {
-        take_use(&mut room.uses, number, by);
-    }
+    take_use(&mut room.uses, touch.row, touch.uses);
 }
 
-/// Adds what a leg of the type uses. More than 2^64 uses of a row are refused as want of memory; no legs come near it.
-pub(crate) fn add_leg<F: RowFamily>(
-    room: &mut Room,
-    net: &Network,
-    rows: &F,
-    numbering: &Numbering<F::Row>,
-    kind: TypeId,
-    leg: Leg,
-) -> Result<(), NoMemory>
-    requires usable { IsUsable net.now kind leg }
-    requires numbering { IsNumbering F.Row.cmp numbering.now.order.items numbering.now.rows.items }
-    ensures { OnOk result ((total : F.Row → ℕ) → IsRoom (F.rows_of rows.now net.now) numbering.now.rows.items total room.old → IsRoom (F.rows_of rows.now net.now) numbering.now.rows.items (λ row. total row + (F.rows_of rows.now net.now).uses kind leg row) room.new) }
+/// Adds what touches use.
+pub(crate) fn add_touches(room: &mut Room, touches: &[Touch]) -> Result<(), NoMemory>
+    ensures uses { OnOk result (AddsUses (touch_uses touches.now) room.old.uses.items
+        room.new.uses.items) }
+    ensures capacities { OnOk result (room.new.capacities ≡ room.old.capacities) }
 {
-    let _ = net.track_count();
-    for k in 0..8192 {
-        let Some(row) = rows.touched(net, kind, leg, k) else {
-            return Ok(());
-        };
-        let by = rows.leg_use(net, kind, leg, row);
-        add_row::<F>(room, numbering, row, by)?;
+    for touch in touches {
+        add_touch(room, *touch)?;
     }
     Ok(())
 }
 
-/// Takes away what a leg of the type uses, which was added before.
-pub(crate) fn take_leg<F: RowFamily>(
-    room: &mut Room,
-    net: &Network,
-    rows: &F,
-    numbering: &Numbering<F::Row>,
-    kind: TypeId,
-    leg: Leg,
-)
-    requires usable { IsUsable net.now kind leg }
-    requires numbering { IsNumbering F.Row.cmp numbering.now.order.items numbering.now.rows.items }
-    ensures { (total : F.Row → ℕ) → IsRoom (F.rows_of rows.now net.now) numbering.now.rows.items (λ row. total row + (F.rows_of rows.now net.now).uses kind leg row) room.old → IsRoom (F.rows_of rows.now net.now) numbering.now.rows.items total room.new }
+/// Takes away what touches use.
+pub(crate) fn take_touches(room: &mut Room, touches: &[Touch])
+    ensures uses { TakesUses (touch_uses touches.now) room.old.uses.items room.new.uses.items }
+    ensures capacities { room.new.capacities ≡ room.old.capacities }
 {
-    let _ = net.track_count();
-    for k in 0..8192 {
-        let Some(row) = rows.touched(net, kind, leg, k) else {
-            return;
-        };
-        let by = rows.leg_use(net, kind, leg, row);
-        take_row::<F>(room, numbering, row, by);
+    for touch in touches {
+        take_touch(room, *touch);
     }
+}
+
+/// Whether no more is used of the row with this number than there is.
+fn is_number_within(room: &Room, number: u32) -> bool
+    ensures { IsTrue result ↔ IsNumberWithin room.now number }
+{
+    let place = number as usize;
+    let used = room.uses.get(place).copied().unwrap_or(0);
+    let capacity = room.capacities.get(place).copied().unwrap_or(0);
+    used <= u64::from(capacity)
+}
+
+/// Whether no more is used of the touched rows than there is.
+pub(crate) fn are_touches_within(room: &Room, touches: &[Touch]) -> bool
+    ensures { IsTrue result ↔ All (λ touch. IsNumberWithin room.now touch.row) touches.now }
+{
+    for touch in touches {
+        if !is_number_within(room, touch.row) {
+            return false;
+        }
+    }
+    true
 }
 
 /// Whether there is room for the touch.

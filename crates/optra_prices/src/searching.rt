@@ -70,7 +70,8 @@ pub(crate) struct Outcome {
 
 /// Whether a path is taken: the bid is forced to have a walk, or the path is worth something.
 fn is_worth(forced: bool, sum: i128) -> bool
-    ensures { MatchBool result ((forced ≡ true) ⊎ (pos 0 <ℤ sum)) ((forced ≡ false) × (sum ≤ℤ pos 0)) }
+    ensures { MatchBool result ((forced ≡ true) ⊎ (pos 0 <ℤ sum)) ((forced ≡ false)
+        × (sum ≤ℤ pos 0)) }
 {
     forced || sum > 0
 }
@@ -94,8 +95,11 @@ fn narrow_best(
     requires count { length dag.now.arcs ≡ length weights.now.arcs.now }
     requires weighed { AreWeighedTo most weights.now.arcs.now weights.now.grouped.now }
     requires room { most * length dag.now.ends ≤ NARROW_ROOM }
-    ensures best { IfOk result (λ answer. IfSome answer (λ sum. IsFirstBest dag.now (allows_by weights.now.arcs.now) (weight_by weights.now.arcs.now weights.now.grouped.now) sum buffers.new)) }
-    ensures none { IfOk result (λ answer. IfNone answer ((path : List ℕ) → IsPath dag.now (allows_by weights.now.arcs.now) path → ⊥)) }
+    ensures best { IfOk result (λ answer. IfSome answer (λ sum. IsFirstBest dag.now
+        (allows_by weights.now.arcs.now) (weight_by weights.now.arcs.now weights.now.grouped.now)
+        sum buffers.new)) }
+    ensures none { IfOk result (λ answer. IfNone answer ((path : List ℕ)
+        → IsPath dag.now (allows_by weights.now.arcs.now) path → ⊥)) }
 {
     let Some(sum) = narrow_best_in(buffers, dag, weights, most)? else {
         return Ok(None);
@@ -112,8 +116,11 @@ fn best_in(
 ) -> Result<Option<i128>, NoMemory>
     requires count { length dag.now.arcs ≡ length weights.now.arcs.now }
     requires weighed { AreWeighedTo most weights.now.arcs.now weights.now.grouped.now }
-    ensures best { IfOk result (λ answer. IfSome answer (λ sum. IsFirstBest dag.now (allows_by weights.now.arcs.now) (weight_by weights.now.arcs.now weights.now.grouped.now) sum buffers.new)) }
-    ensures none { IfOk result (λ answer. IfNone answer ((path : List ℕ) → IsPath dag.now (allows_by weights.now.arcs.now) path → ⊥)) }
+    ensures best { IfOk result (λ answer. IfSome answer (λ sum. IsFirstBest dag.now
+        (allows_by weights.now.arcs.now) (weight_by weights.now.arcs.now weights.now.grouped.now)
+        sum buffers.new)) }
+    ensures none { IfOk result (λ answer. IfNone answer ((path : List ℕ)
+        → IsPath dag.now (allows_by weights.now.arcs.now) path → ⊥)) }
 {
     if is_narrow(dag, most) {
         narrow_best(buffers, dag, weights, most)
@@ -137,7 +144,9 @@ pub(crate) fn search_bid(
     requires most { IsMost most }
     requires values { All (λ arc. IsBetween (neg_ℤ most) most arc.value) arcs.now }
     requires grouped { AreUpTo grouped.most grouped.prices.now }
-    ensures { IfOk result (λ outcome. IsFound dag.now (allows_by arcs.now) (weight_by arcs.now grouped.entry.prices.now) forced path.new.items outcome.term outcome.stuck) }
+    ensures { IfOk result (λ outcome. IsFound dag.now (allows_by arcs.now)
+        (weight_by arcs.now grouped.entry.prices.now) forced path.new.items outcome.term
+        outcome.stuck) }
 {
     path.clear();
     let weights = Weights {

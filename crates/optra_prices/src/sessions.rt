@@ -30,9 +30,15 @@ pub(crate) fn make_tables<'g, F: RowFamily, G: Graphs>(
 ) -> Result<Vec<BidTable<'g>>, NoMemory>
     requires network { G.network graphs.now ≡ inst.net.now }
     requires held { All (λ bid. Contains (G.held graphs.now) bid.path) inst.bids.now }
-    requires making { IsMaking inst.net.now (F.rows_of rows.now inst.net.now) (F.rows_used rows.now inst.net.now) making.old }
-    ensures making { OnOk result (IsMaking inst.entry.net.now (F.rows_of rows.now inst.entry.net.now) (F.rows_used rows.now inst.entry.net.now) making.new) }
-    ensures tables { IfOk result (λ tables. HoldArcs inst.entry.net.now (F.rows_of rows.now inst.entry.net.now) (F.rows_used rows.now inst.entry.net.now) inst.entry.bids.now (length inst.entry.bids.now) making.new.named.items making.new.groups tables.items) }
+    requires making { IsMaking inst.net.now (F.rows_of rows.now inst.net.now)
+        (F.rows_used rows.now inst.net.now) making.old }
+    ensures making { OnOk result (IsMaking inst.entry.net.now
+        (F.rows_of rows.now inst.entry.net.now) (F.rows_used rows.now inst.entry.net.now)
+        making.new) }
+    ensures tables { IfOk result (λ tables. HoldArcs inst.entry.net.now
+        (F.rows_of rows.now inst.entry.net.now) (F.rows_used rows.now inst.entry.net.now)
+        inst.entry.bids.now (length inst.entry.bids.now) making.new.named.items making.new.groups
+        tables.items) }
 {
     let bids = inst.bids;
     let mut tables = Vec::with_capacity(alloc, bids.len())?;
@@ -62,7 +68,9 @@ pub(crate) fn made_tables<'g, F: RowFamily, G: Graphs>(
 ) -> Result<Made<'g, F::Row>, NoMemory>
     requires network { G.network graphs.now ≡ inst.net.now }
     requires held { All (λ bid. Contains (G.held graphs.now) bid.path) inst.bids.now }
-    ensures { IfOk result (IsMade F.Row.cmp inst.entry.net.now (F.rows_of rows.now inst.entry.net.now) (F.rows_used rows.now inst.entry.net.now) inst.entry.bids.now) }
+    ensures { IfOk result (IsMade F.Row.cmp inst.entry.net.now
+        (F.rows_of rows.now inst.entry.net.now) (F.rows_used rows.now inst.entry.net.now)
+        inst.entry.bids.now) }
 {
     let mut making = new_making(alloc, inst.net, rows)?;
     let tables = make_tables(alloc, inst, graphs, rows, &mut making)?;
@@ -83,7 +91,8 @@ pub(crate) fn first_standings(
 ) -> Result<Vec<Standing>, NoMemory>
     requires grouped { AreUpTo grouped.most grouped.prices.now }
     requires sound { All IsSound tables.now }
-    ensures { IfOk result (λ standings. AllStand tables.now grouped.entry.prices.now standings.items) }
+    ensures { IfOk result (λ standings. AllStand tables.now grouped.entry.prices.now
+        standings.items) }
 {
     let mut standings = Vec::with_capacity(alloc, tables.len())?;
     for number in 0..tables.len() {
@@ -120,7 +129,8 @@ pub(crate) fn settle(
 ) -> Result<(), NoMemory>
     requires grouped { AreUpTo grouped.most grouped.prices.now }
     requires sound { All IsSound tables.now }
-    requires before { (old : List ℤ) × AllStand tables.now old standings.old.items × MarksTell old grouped.prices.now marks.now }
+    requires before { (old : List ℤ) × AllStand tables.now old standings.old.items
+        × MarksTell old grouped.prices.now marks.now }
     requires fallen { TellsFallen marks.now tables.now fallen.now }
     ensures { OnOk result (AllStand tables.now grouped.entry.prices.now standings.new.items) }
 {
@@ -147,7 +157,8 @@ pub(crate) fn renew_all(
 ) -> Result<(), NoMemory>
     requires grouped { AreUpTo grouped.most grouped.prices.now }
     requires sound { All IsSound tables.now }
-    requires brought { (before : List BidTable) × AreBrought changed.now before tables.now × AllStand before grouped.prices.now standings.old.items }
+    requires brought { (before : List BidTable) × AreBrought changed.now before tables.now
+        × AllStand before grouped.prices.now standings.old.items }
     ensures { OnOk result (AllStand tables.now grouped.entry.prices.now standings.new.items) }
 {
     for number in 0..tables.len() {

@@ -90,7 +90,8 @@ pub(crate) fn renew_where(
 ) -> Result<(), NoMemory>
     requires sound { IsSound table.now }
     requires grouped { AreUpTo grouped.most grouped.prices.now }
-    ensures { OnOk result (KeepsStanding changed table.now grouped.entry.prices.now standing.old standing.new) }
+    ensures { OnOk result (KeepsStanding changed table.now grouped.entry.prices.now standing.old
+        standing.new) }
 {
     if !changed {
         return Ok(());
@@ -110,7 +111,8 @@ pub(crate) fn group_of(arcs: &[ArcTerm], k: u32) -> u32
 
 /// Whether the price of an arc of the path rose.
 fn has_risen(marks: &[Mark], arcs: &[ArcTerm], path: &[u32]) -> bool
-    ensures { result ≡ false → All (λ k. HasNotRisen marks.now (slice_index_or arcs.now k no_arc).group) path.now }
+    ensures { result ≡ false
+        → All (λ k. HasNotRisen marks.now (slice_index_or arcs.now k no_arc).group) path.now }
 {
     path.iter()
         .any(|k| mark_at(marks, group_of(arcs, *k)) == Mark::Rose)
@@ -128,7 +130,8 @@ pub(crate) fn update(
 ) -> Result<(), NoMemory>
     requires grouped { AreUpTo grouped.most grouped.prices.now }
     requires sound { IsSound table.now }
-    requires before { (old : List ℤ) × Stands table.now old standing.old × MarksTell old grouped.prices.now marks.now }
+    requires before { (old : List ℤ) × Stands table.now old standing.old
+        × MarksTell old grouped.prices.now marks.now }
     requires told { fell ≡ false → HaveNotFallen marks.now table.now.arcs.items }
     ensures { OnOk result (Stands table.now grouped.entry.prices.now standing.new) }
 {

@@ -105,7 +105,8 @@ pub(crate) fn push_price<R: Copy>(
     row: R,
     price: i64,
 ) -> Result<(), NoMemory>
-    ensures { OnOk result (out.new.items ≡ out.old.items ++ cond (is_positive price) ((row, price) ∷ []) []) }
+    ensures { OnOk result (out.new.items ≡ out.old.items ++ cond (is_positive price) ((row, price)
+        ∷ []) []) }
 {
     if price > 0 {
         out.push((row, price))?;
@@ -123,7 +124,8 @@ fn made_prices<F: RowFamily>(
 ) -> Result<Prices<F::Row>, NoMemory>
     requires length { IsBetween (pos 1) (pos 1000000000000) length }
     requires rows { All (λ e. (F.rows_of rows.now net.now).is_row e.0 ≡ true) held.now.entries }
-    ensures { IfOk result (λ prices. prices ≡ stepped (next_held (F.rows_of rows.now net.now) length) held.now.entries) }
+    ensures { IfOk result (λ prices. prices ≡ stepped (next_held (F.rows_of rows.now net.now)
+        length) held.now.entries) }
 {
     let mut out = Vec::new(alloc);
     for (row, item) in held {
@@ -150,9 +152,9 @@ pub fn step<F: RowFamily>(
 ) -> Result<Prices<F::Row>, NoMemory>
     requires prices { AreProper F.Row.cmp (F.rows_of rows.now inst.net.now) prices.now }
     requires replies { IsChoice inst.net.now inst.bids.now replies.now }
-    ensures { IfOk result (IsStep F.Row.cmp (F.rows_of rows.now inst.entry.net.now) inst.entry.bids.now replies.now k prices.now) }
+    ensures { IfOk result (IsStep F.Row.cmp (F.rows_of rows.now inst.entry.net.now)
+        inst.entry.bids.now replies.now k prices.now) }
 {
-    let _ = inst.net.track_count();
     let entries = entries(prices);
     let mut held = priced_rows(alloc, inst.net, rows, entries)?;
     add_replies(inst, rows, &mut held, replies)?;

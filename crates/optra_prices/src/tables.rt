@@ -62,12 +62,16 @@ fn term_at<F: RowFamily>(
 ) -> Result<ArcTerm, NoMemory>
     requires graph { IsGraphOf net.now bid.now.path graph.now }
     requires within { k < length graph.now.dag.arcs }
-    requires making { IsMaking net.now (F.rows_of rows.now net.now) (F.rows_used rows.now net.now) making.old }
-    ensures making { OnOk result (IsMaking net.now (F.rows_of rows.now net.now) (F.rows_used rows.now net.now) making.new) }
+    requires making { IsMaking net.now (F.rows_of rows.now net.now) (F.rows_used rows.now net.now)
+        making.old }
+    ensures making { OnOk result (IsMaking net.now (F.rows_of rows.now net.now)
+        (F.rows_used rows.now net.now) making.new) }
     ensures grows { OnOk result (Grows making.old making.new) }
-    ensures term { IfOk result (λ arc. IsTerm net.now (F.rows_of rows.now net.now) (F.rows_used rows.now net.now) bid.now graph.now making.new.named.items making.new.groups.starts.items making.new.groups.touches.items k arc) }
+    ensures term { IfOk result (λ arc. IsTerm net.now (F.rows_of rows.now net.now)
+        (F.rows_used rows.now net.now) bid.now graph.now making.new.named.items
+        making.new.groups.starts.items making.new.groups.touches.items k arc) }
 {
-    let _ = net.track_count();
+    net.laws();
     let Some(leg) = graph.leg(k) else {
         let minute = graph.start(k).unwrap_or(0);
         return Ok(start_term(bid, minute));
@@ -98,10 +102,14 @@ pub(crate) fn bid_table<'g, F: RowFamily>(
     making: &mut Making<F::Row>,
 ) -> Result<BidTable<'g>, NoMemory>
     requires graph { IsGraphOf net.now bid.now.path graph.now }
-    requires making { IsMaking net.now (F.rows_of rows.now net.now) (F.rows_used rows.now net.now) making.old }
-    ensures making { OnOk result (IsMaking net.now (F.rows_of rows.now net.now) (F.rows_used rows.now net.now) making.new) }
+    requires making { IsMaking net.now (F.rows_of rows.now net.now) (F.rows_used rows.now net.now)
+        making.old }
+    ensures making { OnOk result (IsMaking net.now (F.rows_of rows.now net.now)
+        (F.rows_used rows.now net.now) making.new) }
     ensures grows { OnOk result (Grows making.old making.new) }
-    ensures table { IfOk result (λ table. AreArcs net.now (F.rows_of rows.now net.now) (F.rows_used rows.now net.now) bid.now table.graph.now making.new.named.items table.arcs.items making.new.groups.starts.items making.new.groups.touches.items) }
+    ensures table { IfOk result (λ table. AreArcs net.now (F.rows_of rows.now net.now)
+        (F.rows_used rows.now net.now) bid.now table.graph.now making.new.named.items
+        table.arcs.items making.new.groups.starts.items making.new.groups.touches.items) }
     ensures covers { IfOk result (λ table. Covers table.most table.arcs.items) }
 {
     let count = graph.dag().arcs();

@@ -31,11 +31,12 @@ pub(crate) fn push_touches<F: RowFamily>(
 ) -> Result<(), NoMemory>
     requires usable { IsUsable net.now kind leg }
     requires rows { All (λ row. (F.rows_of rows.now net.now).is_row row ≡ true) named.old.items }
-    ensures rows { OnOk result (All (λ row. (F.rows_of rows.now net.now).is_row row ≡ true) named.new.items) }
+    ensures rows { OnOk result (All (λ row. (F.rows_of rows.now net.now).is_row row ≡ true)
+        named.new.items) }
     ensures extends { OnOk result (Extends named.old.items named.new.items) }
-    ensures touches { OnOk result (AddsTouches named.new.items ((F.rows_of rows.now net.now).uses kind leg) (F.rows_used rows.now net.now kind leg) touches.old.items touches.new.items) }
+    ensures touches { OnOk result (AddsTouches named.new.items ((F.rows_of rows.now net.now).uses
+        kind leg) (F.rows_used rows.now net.now kind leg) touches.old.items touches.new.items) }
 {
-    let _ = net.track_count();
     for k in 0..8192 {
         let Some(row) = rows.touched(net, kind, leg, k) else {
             return Ok(());

@@ -52,9 +52,9 @@ fn add_leg<F: RowFamily>(
     leg: Leg,
 ) -> Result<(), NoMemory>
     requires { IsUsable net.now kind leg }
-    ensures { OnOk result (Adds F.Row.cmp (F.rows_of rows.now net.now).is_row ((F.rows_of rows.now net.now).uses kind leg) held.old held.new) }
+    ensures { OnOk result (Adds F.Row.cmp (F.rows_of rows.now net.now).is_row
+        ((F.rows_of rows.now net.now).uses kind leg) held.old held.new) }
 {
-    let _ = net.track_count();
     for k in 0..8192 {
         let Some(row) = rows.touched(net, kind, leg, k) else {
             return Ok(());
@@ -74,7 +74,9 @@ fn add_legs<F: RowFamily>(
     legs: &[Leg],
 ) -> Result<(), NoMemory>
     requires { All (IsUsable net.now kind) legs.now }
-    ensures { OnOk result (Adds F.Row.cmp (F.rows_of rows.now net.now).is_row (λ row. load_of (F.rows_of rows.now net.now) row (map (λ leg. (kind, leg)) legs.now)) held.old held.new) }
+    ensures { OnOk result (Adds F.Row.cmp (F.rows_of rows.now net.now).is_row
+        (λ row. load_of (F.rows_of rows.now net.now) row (map (λ leg. (kind, leg)) legs.now))
+        held.old held.new) }
 {
     for number in 0..legs.len() {
         add_leg(net, rows, held, kind, legs[number])?;
@@ -98,9 +100,11 @@ fn add_reply<F: RowFamily>(
     reply: &Option<Walk>,
 ) -> Result<(), NoMemory>
     requires { IfSome reply.now (IsWalk net.now bid.now.path) }
-    ensures { OnOk result (Adds F.Row.cmp (F.rows_of rows.now net.now).is_row (λ row. load_of (F.rows_of rows.now net.now) row (entries_one bid.now reply.now)) held.old held.new) }
+    ensures { OnOk result (Adds F.Row.cmp (F.rows_of rows.now net.now).is_row
+        (λ row. load_of (F.rows_of rows.now net.now) row (entries_one bid.now reply.now)) held.old
+        held.new) }
 {
-    let _ = net.track_count();
+    net.laws();
     let Some(walk) = reply else {
         return Ok(());
     };
@@ -116,7 +120,9 @@ pub(crate) fn add_replies<F: RowFamily>(
     replies: &[Option<Walk>],
 ) -> Result<(), NoMemory>
     requires { IsChoice inst.net.now inst.bids.now replies.now }
-    ensures { OnOk result (Adds F.Row.cmp (F.rows_of rows.now inst.entry.net.now).is_row (λ row. load_of (F.rows_of rows.now inst.entry.net.now) row (entries_of inst.entry.bids.now replies.now)) held.old held.new) }
+    ensures { OnOk result (Adds F.Row.cmp (F.rows_of rows.now inst.entry.net.now).is_row
+        (λ row. load_of (F.rows_of rows.now inst.entry.net.now) row (entries_of inst.entry.bids.now
+        replies.now)) held.old held.new) }
 {
     let bids = inst.bids;
     for number in 0..bids.len().min(replies.len()) {
@@ -133,7 +139,8 @@ pub(crate) fn priced_rows<F: RowFamily>(
     entries: &[(F::Row, i64)],
 ) -> Result<BTreeMap<F::Row, Held>, NoMemory>
     requires { AreProper F.Row.cmp (F.rows_of rows.now net.now) entries.now }
-    ensures { IfOk result (Holds F.Row.cmp (F.rows_of rows.now net.now).is_row (price_of (eq_by_cmp F.Row.cmp) entries.now) (λ row. 0)) }
+    ensures { IfOk result (Holds F.Row.cmp (F.rows_of rows.now net.now).is_row
+        (price_of (eq_by_cmp F.Row.cmp) entries.now) (λ row. 0)) }
 {
     let _ = net;
     let _ = rows;

@@ -115,7 +115,8 @@ pub(crate) fn put_prices<F: RowFamily>(
     requires ascending { AreAscending F.Row.cmp entries.now }
     requires range { All (λ entry. IsRowPrice entry.1) entries.now }
     requires zero { levels.old.prices.items ≡ replicate (length numbering.now.rows.items) (pos 0) }
-    ensures agrees { OnOk result (Agrees F.Row.cmp numbering.now.rows.items levels.new.prices.items entries.now) }
+    ensures agrees { OnOk result (Agrees F.Row.cmp numbering.now.rows.items levels.new.prices.items
+        entries.now) }
     ensures levels { OnOk result (IsLevels levels.new) }
     ensures columns { OnOk result (IsColumns columns.old.groups columns.new) }
     ensures due { OnOk result (PricesAllButDue levels.new.prices.items columns.new) }
@@ -142,7 +143,8 @@ fn put_row_price<F: RowFamily>(
     requires due { PricesAllButDue levels.old.prices.items columns.old }
     requires price { IsRowPrice entry.1 }
     requires count { length levels.old.prices.items ≡ length numbering.now.rows.items }
-    ensures prices { OnOk result (SetsPrice F.Row.cmp numbering.now.rows.items entry levels.old.prices.items levels.new.prices.items) }
+    ensures prices { OnOk result (SetsPrice F.Row.cmp numbering.now.rows.items entry
+        levels.old.prices.items levels.new.prices.items) }
     ensures levels { OnOk result (IsLevels levels.new) }
     ensures columns { OnOk result (IsColumns columns.old.groups columns.new) }
     ensures due { OnOk result (PricesAllButDue levels.new.prices.items columns.new) }

@@ -64,8 +64,10 @@ fn narrow_best(
     requires count { length weights.now.parts.now ≡ length dag.now.arcs }
     requires range { All (λ part. IsArcValue part.value) weights.now.parts.now }
     requires room { MOST * length dag.now.ends ≤ NARROW_ROOM }
-    ensures best { IfOk result (λ answer. IfSome answer (λ sum. IsFirstBest dag.now (allows_at weights.now.parts.now) (weight_at weights.now.parts.now) sum buffers.new)) }
-    ensures none { IfOk result (λ answer. IfNone answer ((path : List ℕ) → IsPath dag.now (allows_at weights.now.parts.now) path → ⊥)) }
+    ensures best { IfOk result (λ answer. IfSome answer (λ sum. IsFirstBest dag.now
+        (allows_at weights.now.parts.now) (weight_at weights.now.parts.now) sum buffers.new)) }
+    ensures none { IfOk result (λ answer. IfNone answer ((path : List ℕ)
+        → IsPath dag.now (allows_at weights.now.parts.now) path → ⊥)) }
 {
     let Some(sum) = narrow_best_in(buffers, dag, weights, MOST)? else {
         return Ok(None);
@@ -77,8 +79,10 @@ fn narrow_best(
 fn best_in(buffers: &mut Buffers, dag: &Dag, weights: &Parts<'_>) -> Result<Option<i128>, NoMemory>
     requires count { length weights.now.parts.now ≡ length dag.now.arcs }
     requires range { All (λ part. IsArcValue part.value) weights.now.parts.now }
-    ensures best { IfOk result (λ answer. IfSome answer (λ sum. IsFirstBest dag.now (allows_at weights.now.parts.now) (weight_at weights.now.parts.now) sum buffers.new)) }
-    ensures none { IfOk result (λ answer. IfNone answer ((path : List ℕ) → IsPath dag.now (allows_at weights.now.parts.now) path → ⊥)) }
+    ensures best { IfOk result (λ answer. IfSome answer (λ sum. IsFirstBest dag.now
+        (allows_at weights.now.parts.now) (weight_at weights.now.parts.now) sum buffers.new)) }
+    ensures none { IfOk result (λ answer. IfNone answer ((path : List ℕ)
+        → IsPath dag.now (allows_at weights.now.parts.now) path → ⊥)) }
 {
     if is_narrow(dag, MOST) {
         narrow_best(buffers, dag, weights)

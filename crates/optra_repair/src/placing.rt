@@ -35,11 +35,23 @@ fn put<F: RowFamily>(
     number: u32,
     path: &[u32],
 ) -> Result<Option<Walk>, NoMemory>
-    requires kept { AreKept F.Row.cmp inst.net.now (F.rows_of rows.now inst.net.now) (F.rows_used rows.now inst.net.now) inst.bids.now kept.now }
+    requires kept { AreKept F.Row.cmp inst.net.now (F.rows_of rows.now inst.net.now)
+        (F.rows_used rows.now inst.net.now) inst.bids.now kept.now }
     requires number { number < length inst.bids.now }
     requires route { (t : Timed) → IsTableGraph kept.now number t → IsRoute t path.now }
-    ensures put { IfOk result (λ given. (bid : Bid) (t : Timed) (total : F.Row → ℕ) → slice_get inst.entry.bids.now number ≡ Some bid → IsTableGraph kept.now number t → AreWithin (F.rows_of rows.now inst.entry.net.now) total → IsRoomIn (F.rows_of rows.now inst.entry.net.now) kept.now total room.old → IsPutWhole (F.rows_of rows.now inst.entry.net.now) bid.path.kind (walk_of t path.now) given total (λ row. total row + use_of_walk (F.rows_of rows.now inst.entry.net.now) bid.path.kind given row)) }
-    ensures room { IfOk result (λ given. (bid : Bid) (total : F.Row → ℕ) → slice_get inst.entry.bids.now number ≡ Some bid → AreWithin (F.rows_of rows.now inst.entry.net.now) total → IsRoomIn (F.rows_of rows.now inst.entry.net.now) kept.now total room.old → IsRoomIn (F.rows_of rows.now inst.entry.net.now) kept.now (λ row. total row + use_of_walk (F.rows_of rows.now inst.entry.net.now) bid.path.kind given row) room.new) }
+    ensures put { IfOk result (λ given. (bid : Bid) (t : Timed) (total : F.Row → ℕ)
+        → slice_get inst.entry.bids.now number ≡ Some bid → IsTableGraph kept.now number t
+        → AreWithin (F.rows_of rows.now inst.entry.net.now) total
+        → IsRoomIn (F.rows_of rows.now inst.entry.net.now) kept.now total room.old
+        → IsPutWhole (F.rows_of rows.now inst.entry.net.now) bid.path.kind (walk_of t path.now)
+        given total (λ row. total row + use_of_walk (F.rows_of rows.now inst.entry.net.now)
+        bid.path.kind given row)) }
+    ensures room { IfOk result (λ given. (bid : Bid) (total : F.Row → ℕ)
+        → slice_get inst.entry.bids.now number ≡ Some bid
+        → AreWithin (F.rows_of rows.now inst.entry.net.now) total
+        → IsRoomIn (F.rows_of rows.now inst.entry.net.now) kept.now total room.old
+        → IsRoomIn (F.rows_of rows.now inst.entry.net.now) kept.now (λ row. total row
+        + use_of_walk (F.rows_of rows.now inst.entry.net.now) bid.path.kind given row) room.new) }
 {
     let graph = graph_of(inst, rows, kept, number);
     if !put_path(room, inst, rows, kept, number, path)? {
@@ -61,13 +73,25 @@ pub(crate) fn place<F: RowFamily>(
     kept: &ArcTables<'_, F::Row>,
     number: u32,
 ) -> Result<Option<Walk>, NoMemory>
-    requires kept { AreKeptAt F.Row.cmp inst.net.now (F.rows_of rows.now inst.net.now) (F.rows_used rows.now inst.net.now) inst.bids.now node.now kept.now }
+    requires kept { AreKeptAt F.Row.cmp inst.net.now (F.rows_of rows.now inst.net.now)
+        (F.rows_used rows.now inst.net.now) inst.bids.now node.now kept.now }
     requires number { number < length inst.bids.now }
-    requires room { (total : F.Row → ℕ) × AreWithin (F.rows_of rows.now inst.net.now) total × IsRoomIn (F.rows_of rows.now inst.net.now) kept.now total room.old }
-    ensures given { IfOk result (λ given. (bid : Bid) (total : F.Row → ℕ) (placed : List Entry) → slice_get inst.entry.bids.now number ≡ Some bid → AreWithin (F.rows_of rows.now inst.entry.net.now) total → IsRoomIn (F.rows_of rows.now inst.entry.net.now) kept.now total room.old → AreTotals (F.rows_of rows.now inst.entry.net.now) total placed → IsGiven inst.entry.net.now (F.rows_of rows.now inst.entry.net.now) inst.entry.bids.now node.now placed number bid given) }
-    ensures room { IfOk result (λ given. (bid : Bid) (total : F.Row → ℕ) → slice_get inst.entry.bids.now number ≡ Some bid → AreWithin (F.rows_of rows.now inst.entry.net.now) total → IsRoomIn (F.rows_of rows.now inst.entry.net.now) kept.now total room.old → IsRoomIn (F.rows_of rows.now inst.entry.net.now) kept.now (λ row. total row + use_of_walk (F.rows_of rows.now inst.entry.net.now) bid.path.kind given row) room.new) }
+    requires room { (total : F.Row → ℕ) × AreWithin (F.rows_of rows.now inst.net.now) total
+        × IsRoomIn (F.rows_of rows.now inst.net.now) kept.now total room.old }
+    ensures given { IfOk result (λ given. (bid : Bid) (total : F.Row → ℕ) (placed : List Entry)
+        → slice_get inst.entry.bids.now number ≡ Some bid
+        → AreWithin (F.rows_of rows.now inst.entry.net.now) total
+        → IsRoomIn (F.rows_of rows.now inst.entry.net.now) kept.now total room.old
+        → AreTotals (F.rows_of rows.now inst.entry.net.now) total placed
+        → IsGiven inst.entry.net.now (F.rows_of rows.now inst.entry.net.now) inst.entry.bids.now
+        node.now placed number bid given) }
+    ensures room { IfOk result (λ given. (bid : Bid) (total : F.Row → ℕ)
+        → slice_get inst.entry.bids.now number ≡ Some bid
+        → AreWithin (F.rows_of rows.now inst.entry.net.now) total
+        → IsRoomIn (F.rows_of rows.now inst.entry.net.now) kept.now total room.old
+        → IsRoomIn (F.rows_of rows.now inst.entry.net.now) kept.now (λ row. total row
+        + use_of_walk (F.rows_of rows.now inst.entry.net.now) bid.path.kind given row) room.new) }
 {
-    let _ = inst.net.track_count();
     let best = best_allowed(inst, rows, node, kept, number);
     if is_no_path(best) {
         return Ok(None);

@@ -37,10 +37,13 @@ fn place_all<F: RowFamily>(
     kept: &ArcTables<'_, F::Row>,
     order: &[u32],
 ) -> Result<Vec<Option<Walk>>, NoMemory>
-    requires kept { AreKeptAt F.Row.cmp inst.net.now (F.rows_of rows.now inst.net.now) (F.rows_used rows.now inst.net.now) inst.bids.now node.now kept.now }
+    requires kept { AreKeptAt F.Row.cmp inst.net.now (F.rows_of rows.now inst.net.now)
+        (F.rows_used rows.now inst.net.now) inst.bids.now node.now kept.now }
     requires within { All (λ number. number < length inst.bids.now) order.now }
     requires once { AllPairs (λ a b. a ≢ b) order.now }
-    ensures { IfOk result (λ walks. GivesInTurn inst.entry.net.now (F.rows_of rows.now inst.entry.net.now) inst.entry.bids.now node.now order.now (empty_choice inst.entry.bids.now) walks.items) }
+    ensures { IfOk result (λ walks. GivesInTurn inst.entry.net.now
+        (F.rows_of rows.now inst.entry.net.now) inst.entry.bids.now node.now order.now
+        (empty_choice inst.entry.bids.now) walks.items) }
 {
     let bids = inst.bids;
     let mut room = free_room(alloc, inst, rows, kept)?;
@@ -74,15 +77,17 @@ pub fn repair<F: RowFamily, G: Graphs>(
     node: &Node,
     dual: &Dual,
 ) -> Result<Choice, NoMemory>
-    requires few { length inst.bids.now ≤ 1000 }
     requires node { IsNode inst.net.now (length inst.bids.now) node.now }
     requires network { G.network graphs.now ≡ inst.net.now }
     requires held { All (λ bid. Contains (G.held graphs.now) bid.path) inst.bids.now }
     requires terms { length dual.now.terms ≡ length inst.bids.now }
     requires replies { IsChoice inst.net.now inst.bids.now dual.now.replies }
-    ensures repair { IfOk result (λ choice. IsRepair inst.entry.net.now (F.rows_of rows.now inst.entry.net.now) inst.entry.bids.now node.now dual.now choice) }
-    ensures choice { IfOk result (λ choice. IsChoice inst.entry.net.now inst.entry.bids.now choice) }
-    ensures keeps { IfOk result (λ choice. F.KeepsRule rows.now inst.entry.net.now (entries_of inst.entry.bids.now choice)) }
+    ensures repair { IfOk result (λ choice. IsRepair inst.entry.net.now
+        (F.rows_of rows.now inst.entry.net.now) inst.entry.bids.now node.now dual.now choice) }
+    ensures choice { IfOk result (λ choice. IsChoice inst.entry.net.now inst.entry.bids.now
+        choice) }
+    ensures keeps { IfOk result (λ choice. F.KeepsRule rows.now inst.entry.net.now
+        (entries_of inst.entry.bids.now choice)) }
 {
     let mut kept = keep_arcs(alloc, inst, graphs, rows)?;
     bring_to(alloc, inst, rows, node, &mut kept)?;
@@ -98,16 +103,18 @@ pub fn repair_over<F: RowFamily>(
     kept: &ArcTables<'_, F::Row>,
     dual: &Dual,
 ) -> Result<Choice, NoMemory>
-    requires few { length inst.bids.now ≤ 1000 }
     requires node { IsNode inst.net.now (length inst.bids.now) node.now }
-    requires kept { AreKeptAt F.Row.cmp inst.net.now (F.rows_of rows.now inst.net.now) (F.rows_used rows.now inst.net.now) inst.bids.now node.now kept.now }
+    requires kept { AreKeptAt F.Row.cmp inst.net.now (F.rows_of rows.now inst.net.now)
+        (F.rows_used rows.now inst.net.now) inst.bids.now node.now kept.now }
     requires terms { length dual.now.terms ≡ length inst.bids.now }
     requires replies { IsChoice inst.net.now inst.bids.now dual.now.replies }
-    ensures repair { IfOk result (λ choice. IsRepair inst.entry.net.now (F.rows_of rows.now inst.entry.net.now) inst.entry.bids.now node.now dual.now choice) }
-    ensures choice { IfOk result (λ choice. IsChoice inst.entry.net.now inst.entry.bids.now choice) }
-    ensures keeps { IfOk result (λ choice. F.KeepsRule rows.now inst.entry.net.now (entries_of inst.entry.bids.now choice)) }
+    ensures repair { IfOk result (λ choice. IsRepair inst.entry.net.now
+        (F.rows_of rows.now inst.entry.net.now) inst.entry.bids.now node.now dual.now choice) }
+    ensures choice { IfOk result (λ choice. IsChoice inst.entry.net.now inst.entry.bids.now
+        choice) }
+    ensures keeps { IfOk result (λ choice. F.KeepsRule rows.now inst.entry.net.now
+        (entries_of inst.entry.bids.now choice)) }
 {
-    let _ = inst.net.track_count();
     let order = taking_order(alloc, dual)?;
     let walks = place_all(alloc, inst, rows, node, kept, &order)?;
     Ok(Choice { walks })

@@ -42,10 +42,14 @@ pub(crate) fn best_allowed<'a, F: RowFamily>(
     kept: &'a ArcTables<'_, F::Row>,
     number: u32,
 ) -> &'a [u32]
-    requires kept { AreKeptAt F.Row.cmp inst.net.now (F.rows_of rows.now inst.net.now) (F.rows_used rows.now inst.net.now) inst.bids.now node.now kept.now }
+    requires kept { AreKeptAt F.Row.cmp inst.net.now (F.rows_of rows.now inst.net.now)
+        (F.rows_used rows.now inst.net.now) inst.bids.now node.now kept.now }
     requires number { number < length inst.bids.now }
-    ensures best { (bid : Bid) (t : Timed) → slice_get inst.entry.bids.now number ≡ Some bid → IsTableGraph kept.now number t → IsBestAllowed inst.entry.net.now (F.rows_of rows.now inst.entry.net.now) inst.entry.bids.now node.now number bid (path_reply t result.now) }
-    ensures route { (t : Timed) → IsTableGraph kept.now number t → (result.now ≡ [] → ⊥) → IsRoute t result.now }
+    ensures best { (bid : Bid) (t : Timed) → slice_get inst.entry.bids.now number ≡ Some bid
+        → IsTableGraph kept.now number t → IsBestAllowed inst.entry.net.now (F.rows_of rows.now
+        inst.entry.net.now) inst.entry.bids.now node.now number bid (path_reply t result.now) }
+    ensures route { (t : Timed) → IsTableGraph kept.now number t → (result.now ≡ [] → ⊥)
+        → IsRoute t result.now }
 {
     if !gains(zero_term(inst, rows, node, kept, number)) {
         return &[];
@@ -64,13 +68,21 @@ pub(crate) fn worthiest<F: RowFamily>(
     kept: &ArcTables<'_, F::Row>,
     number: u32,
 ) -> Result<bool, NoMemory>
-    requires kept { AreKeptAt F.Row.cmp inst.net.now (F.rows_of rows.now inst.net.now) (F.rows_used rows.now inst.net.now) inst.bids.now node.now kept.now }
+    requires kept { AreKeptAt F.Row.cmp inst.net.now (F.rows_of rows.now inst.net.now)
+        (F.rows_used rows.now inst.net.now) inst.bids.now node.now kept.now }
     requires number { number < length inst.bids.now }
-    requires room { (total : F.Row → ℕ) × IsRoomIn (F.rows_of rows.now inst.net.now) kept.now total room.now }
-    ensures worthiest { IfOk result (λ found. (bid : Bid) (t : Timed) (total : F.Row → ℕ) (placed : List Entry) → slice_get inst.entry.bids.now number ≡ Some bid → IsTableGraph kept.now number t → IsRoomIn (F.rows_of rows.now inst.entry.net.now) kept.now total room.now → AreWithin (F.rows_of rows.now inst.entry.net.now) total → AreTotals (F.rows_of rows.now inst.entry.net.now) total placed → IsWorthiest inst.entry.net.now (F.rows_of rows.now inst.entry.net.now) inst.entry.bids.now node.now placed number bid (walk_found t found lent.new.buffers)) }
-    ensures route { IfOk result (λ found. (t : Timed) → found ≡ true → IsTableGraph kept.now number t → IsRoute t lent.new.buffers) }
+    requires room { (total : F.Row → ℕ) × IsRoomIn (F.rows_of rows.now inst.net.now) kept.now total
+        room.now }
+    ensures worthiest { IfOk result (λ found. (bid : Bid) (t : Timed) (total : F.Row
+        → ℕ) (placed : List Entry) → slice_get inst.entry.bids.now number ≡ Some bid
+        → IsTableGraph kept.now number t → IsRoomIn (F.rows_of rows.now inst.entry.net.now) kept.now
+        total room.now → AreWithin (F.rows_of rows.now inst.entry.net.now) total
+        → AreTotals (F.rows_of rows.now inst.entry.net.now) total placed
+        → IsWorthiest inst.entry.net.now (F.rows_of rows.now inst.entry.net.now) inst.entry.bids.now
+        node.now placed number bid (walk_found t found lent.new.buffers)) }
+    ensures route { IfOk result (λ found. (t : Timed) → found ≡ true
+        → IsTableGraph kept.now number t → IsRoute t lent.new.buffers) }
 {
-    let _ = inst.net.track_count();
     tests_tell_allowed(inst, rows);
     let graph = graph_of(inst, rows, kept, number);
     tell_parts(&mut lent.parts, inst, rows, node, kept, room, number)?;

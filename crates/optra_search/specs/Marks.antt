@@ -1,5 +1,5 @@
 -- The arcs of a bid's graph: which may be taken at a node, and which have a leg that is not fixed.
-use Rattle.std.specs.Prelude.{◌≡◌, ◌⊎◌, ℕ, ◌<◌, ◌↔◌, Bool, true, false, not, cond, List, length, Option, None, Some, slice_get, slice_index_or, All, Contains, ℤ, pos}
+use Rattle.std.specs.Prelude.{◌≡◌, ◌⊎◌, ℕ, ◌<◌, ◌↔◌, Bool, true, false, not, cond, List, length, Option, None, Some, slice_get, slice_index_or, Contains, ℤ, pos}
 use Rattle.optra_network.specs.Net.{Net}
 use Rattle.optra_network.specs.declared.TypeId.{TypeId}
 use Rattle.optra_bid.specs.declared.bids.Bid.{Bid}
@@ -10,10 +10,8 @@ use Rattle.optra_graph.specs.Timed.{Timed, leg_of, start_of, walk_of}
 use Rattle.optra_node.specs.declared.Decision.{Decision}
 use Rattle.optra_node.specs.Nodes.{kind_at}
 use Rattle.optra_node.specs.Spans.{IsLegOk, IsStartOk}
-use Rattle.optra_node.specs.Duals.{PriceList}
 use Rattle.optra_search.specs.declared.freeing.ArcMark.{ArcMark}
 use Rattle.optra_prices.specs.Replies.{AllowsNone}
-use Rattle.optra_prices.specs.Steps.{reply_load}
 use Rattle.optra_search.specs.Splits.{is_fixed, IsFree, IsFreeLeg, reply_legs, HoldsOfNone, IsFirst, IsFreest, IsSettled, IsFreestLeg, IsSplitLeg}
 
 -- past the last arc
@@ -78,15 +76,10 @@ IsFreeSplitOrNone net rows bids node replies None = AreSettled net rows bids nod
 IsFreeSplitOrNone net rows bids node replies (Some found) =
     IsFirst (IsFreeLeg node) (reply_legs replies) found ⊎ (HoldsOfNone (IsFreeLeg node) (reply_legs replies) × IsFreestLeg net rows bids node found.0 found.1)
 
--- a row is listed exactly where the replies use more of it than its capacity
-pub record AreOverfilled {R : Type 0} (rows : Rows R) (bids : List Bid) (replies : List (Option (List Leg))) (listed : PriceList R) : Type 0 where
-  pub sound : All (λ e. (rows.is_row e.0 ≡ true) × (rows.capacity e.0 < reply_load rows bids replies e.0)) listed
-  pub whole : (row : R) → rows.is_row row ≡ true → rows.capacity row < reply_load rows bids replies row → (price : ℤ) × Contains listed (row, price)
-
 -- the leg of the type uses one of the rows that are listed
-abbrev pub UsesOne : {R : Type 0} → Rows R → TypeId → Leg → PriceList R → Type 0
-UsesOne {R} rows kind leg listed = (row : R) × (price : ℤ) × Contains listed (row, price) × (0 < rows.uses kind leg row)
+abbrev pub UsesOne : {R : Type 0} → Rows R → TypeId → Leg → List R → Type 0
+UsesOne {R} rows kind leg listed = (row : R) × Contains listed row × (0 < rows.uses kind leg row)
 
 -- a leg that is not fixed and uses one of the rows that are listed
-abbrev pub IsCrowding : {R : Type 0} → Rows R → List Bid → List Decision → PriceList R → ℕ × Leg → Type 0
+abbrev pub IsCrowding : {R : Type 0} → Rows R → List Bid → List Decision → List R → ℕ × Leg → Type 0
 IsCrowding rows bids node listed entry = IsFree node entry.0 entry.1 × UsesOne rows (kind_at bids entry.0) entry.1 listed

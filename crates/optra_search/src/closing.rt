@@ -44,13 +44,19 @@ fn close_open<'g, F: RowFamily>(
     search: Search<F::Row>,
     top: Waiting<F::Row>,
 ) -> Result<(Search<F::Row>, ArcTables<'g, F::Row>), NoMemory>
-    requires few { length inst.bids.now ≤ 1000 }
-    requires kept { AreKept F.Row.cmp inst.net.now (F.rows_of rows.now inst.net.now) (F.rows_used rows.now inst.net.now) inst.bids.now kept }
-    requires closing { MayClose F.Row.cmp inst.net.now (F.rows_of rows.now inst.net.now) inst.bids.now (record (parts_of search) { waiting = search.waiting.items ++ top ∷ [] }) }
-    ensures closing { IfOk result (λ both. MayClose F.Row.cmp inst.entry.net.now (F.rows_of rows.now inst.entry.net.now) inst.entry.bids.now (parts_of both.0)) }
-    ensures closed { IfOk result (λ both. HasClosed (record (parts_of search) { waiting = search.waiting.items ++ top ∷ [] }) (parts_of both.0)) }
+    requires kept { AreKept F.Row.cmp inst.net.now (F.rows_of rows.now inst.net.now)
+        (F.rows_used rows.now inst.net.now) inst.bids.now kept }
+    requires closing { MayClose F.Row.cmp inst.net.now (F.rows_of rows.now inst.net.now)
+        inst.bids.now (record (parts_of search) { waiting = search.waiting.items ++ top ∷ [] }) }
+    ensures closing { IfOk result (λ both. MayClose F.Row.cmp inst.entry.net.now
+        (F.rows_of rows.now inst.entry.net.now) inst.entry.bids.now (parts_of both.0)) }
+    ensures closed { IfOk result
+        (λ both. HasClosed (record (parts_of search) { waiting = search.waiting.items ++ top ∷ [] })
+        (parts_of both.0)) }
     ensures rest { IfOk result (λ both. both.0.waiting.items ≡ search.waiting.items) }
-    ensures kept { IfOk result (λ both. AreKept F.Row.cmp inst.entry.net.now (F.rows_of rows.now inst.entry.net.now) (F.rows_used rows.now inst.entry.net.now) inst.entry.bids.now both.1) }
+    ensures kept { IfOk result (λ both. AreKept F.Row.cmp inst.entry.net.now
+        (F.rows_of rows.now inst.entry.net.now) (F.rows_used rows.now inst.entry.net.now)
+        inst.entry.bids.now both.1) }
 {
     let mut search = search;
     let mut kept = kept;
@@ -77,10 +83,12 @@ pub(crate) fn close_all<F: RowFamily>(
     kept: ArcTables<'_, F::Row>,
     search: Search<F::Row>,
 ) -> Result<Search<F::Row>, NoMemory>
-    requires few { length inst.bids.now ≤ 1000 }
-    requires kept { AreKept F.Row.cmp inst.net.now (F.rows_of rows.now inst.net.now) (F.rows_used rows.now inst.net.now) inst.bids.now kept }
-    requires closing { MayClose F.Row.cmp inst.net.now (F.rows_of rows.now inst.net.now) inst.bids.now (parts_of search) }
-    ensures closing { IfOk result (λ after. MayClose F.Row.cmp inst.entry.net.now (F.rows_of rows.now inst.entry.net.now) inst.entry.bids.now (parts_of after)) }
+    requires kept { AreKept F.Row.cmp inst.net.now (F.rows_of rows.now inst.net.now)
+        (F.rows_used rows.now inst.net.now) inst.bids.now kept }
+    requires closing { MayClose F.Row.cmp inst.net.now (F.rows_of rows.now inst.net.now)
+        inst.bids.now (parts_of search) }
+    ensures closing { IfOk result (λ after. MayClose F.Row.cmp inst.entry.net.now
+        (F.rows_of rows.now inst.entry.net.now) inst.entry.bids.now (parts_of after)) }
     ensures closed { IfOk result (λ after. HasClosed (parts_of search) (parts_of after)) }
     ensures none { IfOk result (λ after. after.waiting.items ≡ []) }
 {

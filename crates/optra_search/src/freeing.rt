@@ -1,6 +1,5 @@
 //! The freest walk of a bid: of its allowed walks, the first one with the most legs that are not fixed.
 ghost use Rattle.std.specs.Prelude.{◌≡◌, ◌≤◌, ◌<◌, slice_get, length, All, Contains, IfOk, MatchOption, IsSomeAnd};
-ghost use Rattle.optra_bid.specs.Instances.{IsInstance};
 ghost use Rattle.optra_graph.specs.Timed.{IsGraphOf};
 ghost use Rattle.optra_node.specs.Nodes.{IsNode};
 ghost use Rattle.optra_search.specs.Splits.{IsFree, IsFirstOrNone};
@@ -57,11 +56,12 @@ fn mark<F: RowFamily>(
     arc: u32,
 ) -> ArcMark
     requires node { IsNode inst.net.now (length inst.bids.now) node.now }
-    requires graph { IsSomeAnd (slice_get inst.bids.now bid) (λ b. IsGraphOf inst.net.now b.path graph.now) }
+    requires graph { IsSomeAnd (slice_get inst.bids.now bid) (λ b. IsGraphOf inst.net.now b.path
+        graph.now) }
     requires arc { arc < length graph.now.dag.arcs }
-    ensures { IsMarkOf inst.entry.net.now (F.rows_of rows.now inst.entry.net.now) inst.entry.bids.now node.now bid graph.now arc result }
+    ensures { IsMarkOf inst.entry.net.now (F.rows_of rows.now inst.entry.net.now)
+        inst.entry.bids.now node.now bid graph.now arc result }
 {
-    let _ = inst.net.track_count();
     if let Some(leg) = graph.leg(arc) {
         return ArcMark {
             allowed: node.leg_ok(inst, rows, bid, leg),
@@ -88,8 +88,11 @@ fn mark_all<F: RowFamily>(
     graph: &TimeGraph,
 ) -> Result<Vec<ArcMark>, NoMemory>
     requires node { IsNode inst.net.now (length inst.bids.now) node.now }
-    requires graph { IsSomeAnd (slice_get inst.bids.now bid) (λ b. IsGraphOf inst.net.now b.path graph.now) }
-    ensures { IfOk result (λ marks. AreMarked inst.entry.net.now (F.rows_of rows.now inst.entry.net.now) inst.entry.bids.now node.now bid graph.now (length graph.now.dag.arcs) marks.items) }
+    requires graph { IsSomeAnd (slice_get inst.bids.now bid) (λ b. IsGraphOf inst.net.now b.path
+        graph.now) }
+    ensures { IfOk result (λ marks. AreMarked inst.entry.net.now
+        (F.rows_of rows.now inst.entry.net.now) inst.entry.bids.now node.now bid graph.now
+        (length graph.now.dag.arcs) marks.items) }
 {
     let count = graph.dag().arcs();
     let mut marks = Vec::with_capacity(alloc, count as usize)?;
@@ -122,10 +125,12 @@ fn freest<F: RowFamily>(
     graph: &TimeGraph,
 ) -> Result<Option<Walk>, NoMemory>
     requires node { IsNode inst.net.now (length inst.bids.now) node.now }
-    requires graph { IsSomeAnd (slice_get inst.bids.now bid) (λ b. IsGraphOf inst.net.now b.path graph.now) }
-    ensures { IfOk result (λ walk. IsSomeAnd (slice_get inst.entry.bids.now bid) (λ b. IsFreestOrNone inst.entry.net.now (F.rows_of rows.now inst.entry.net.now) inst.entry.bids.now node.now bid b walk)) }
+    requires graph { IsSomeAnd (slice_get inst.bids.now bid) (λ b. IsGraphOf inst.net.now b.path
+        graph.now) }
+    ensures { IfOk result (λ walk. IsSomeAnd (slice_get inst.entry.bids.now bid)
+        (λ b. IsFreestOrNone inst.entry.net.now (F.rows_of rows.now inst.entry.net.now)
+        inst.entry.bids.now node.now bid b walk)) }
 {
-    let _ = inst.net.track_count();
     tests_tell_allowed(inst, rows);
     let marks = mark_all(alloc, inst, rows, node, bid, graph)?;
     let walk = best_walk(alloc, graph, &marks)?;
@@ -154,8 +159,11 @@ fn free_leg<F: RowFamily>(
     graph: &TimeGraph,
 ) -> Result<Option<Leg>, NoMemory>
     requires node { IsNode inst.net.now (length inst.bids.now) node.now }
-    requires graph { IsSomeAnd (slice_get inst.bids.now bid) (λ b. IsGraphOf inst.net.now b.path graph.now) }
-    ensures { IfOk result (λ leg. IsSomeAnd (slice_get inst.entry.bids.now bid) (λ b. IsFreeLegOrNone inst.entry.net.now (F.rows_of rows.now inst.entry.net.now) inst.entry.bids.now node.now bid b leg)) }
+    requires graph { IsSomeAnd (slice_get inst.bids.now bid) (λ b. IsGraphOf inst.net.now b.path
+        graph.now) }
+    ensures { IfOk result (λ leg. IsSomeAnd (slice_get inst.entry.bids.now bid)
+        (λ b. IsFreeLegOrNone inst.entry.net.now (F.rows_of rows.now inst.entry.net.now)
+        inst.entry.bids.now node.now bid b leg)) }
 {
     match freest(alloc, inst, rows, node, bid, graph)? {
         Some(walk) => Ok(first_free(node, bid, &walk.legs)),
@@ -172,11 +180,11 @@ pub(crate) fn freest_leg<F: RowFamily, G: Graphs>(
     rows: &F,
     node: &Node,
 ) -> Result<Option<(u32, Leg)>, NoMemory>
-    requires instance { IsInstance inst.net.now inst.bids.now }
     requires network { G.network graphs.now ≡ inst.net.now }
     requires held { All (λ bid. Contains (G.held graphs.now) bid.path) inst.bids.now }
     requires node { IsNode inst.net.now (length inst.bids.now) node.now }
-    ensures { IfOk result (λ found. IsFreestLegOrNone inst.entry.net.now (F.rows_of rows.now inst.entry.net.now) inst.entry.bids.now node.now found) }
+    ensures { IfOk result (λ found. IsFreestLegOrNone inst.entry.net.now
+        (F.rows_of rows.now inst.entry.net.now) inst.entry.bids.now node.now found) }
 {
     for (number, bid) in inst.bids.iter().enumerate() {
         let number = number as u32;

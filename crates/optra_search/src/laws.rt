@@ -13,12 +13,17 @@ use optra_walk::{Instance, RowFamily};
 /// only where the count of nodes is the budget. Where N is the number of different pairs of a bid and a leg of one of its
 /// walks, a budget of `2^(N + 1) - 1` suffices for a bound equal to the revenue.
 pub fn plan_laws<F: RowFamily>(inst: Instance<'_>, rows: &F)
-    ensures one_turn { OneTurn F.Row.cmp inst.entry.net.now (F.rows_of rows.now inst.entry.net.now) inst.entry.bids.now }
-    ensures one_plan { OnePlan F.Row.cmp inst.entry.net.now (F.rows_of rows.now inst.entry.net.now) inst.entry.bids.now }
-    ensures certified { PlansAreCertified F.Row.cmp inst.entry.net.now (F.rows_of rows.now inst.entry.net.now) (F.KeepsRule rows.now inst.entry.net.now) inst.entry.bids.now }
-    ensures numbers { PlansHaveNumbers F.Row.cmp inst.entry.net.now (F.rows_of rows.now inst.entry.net.now) inst.entry.bids.now }
-    ensures sufficient { SufficientBudget F.Row.cmp inst.entry.net.now (F.rows_of rows.now inst.entry.net.now) inst.entry.bids.now }
+    ensures one_turn { OneTurn F.Row.cmp inst.entry.net.now (F.rows_of rows.now inst.entry.net.now)
+        inst.entry.bids.now }
+    ensures one_plan { OnePlan F.Row.cmp inst.entry.net.now (F.rows_of rows.now inst.entry.net.now)
+        inst.entry.bids.now }
+    ensures certified { PlansAreCertified F.Row.cmp inst.entry.net.now
+        (F.rows_of rows.now inst.entry.net.now) (F.KeepsRule rows.now inst.entry.net.now)
+        inst.entry.bids.now }
+    ensures numbers { PlansHaveNumbers F.Row.cmp inst.entry.net.now
+        (F.rows_of rows.now inst.entry.net.now) inst.entry.bids.now }
+    ensures sufficient { SufficientBudget F.Row.cmp inst.entry.net.now
+        (F.rows_of rows.now inst.entry.net.now) inst.entry.bids.now }
 {
     price_laws(inst, rows);
-    let _ = inst.net.track_count();
 }

@@ -1,6 +1,5 @@
 //! The plan of a search.
 ghost use Rattle.std.specs.Prelude.{◌≡◌, ◌⊎◌, ◌≤◌, ◌∷◌, [], None, true, pos, length, map, All, Contains, IfOk, OnOk};
-ghost use Rattle.optra_bid.specs.Instances.{IsInstance};
 ghost use Rattle.optra_bid.specs.Specs.{IsBetween};
 ghost use Rattle.optra_prices.specs.Repairs.{empty_choice};
 ghost use Rattle.optra_search.specs.Planner.{IsPlainPlan};
@@ -32,7 +31,9 @@ fn empty_choice(alloc: Global, inst: Instance<'_>) -> Result<Choice, NoMemory>
 
 /// The search before its first turn: the root waits, and no bid is served.
 fn first_search<R: Drop>(alloc: Global, inst: Instance<'_>) -> Result<Search<R>, NoMemory>
-    ensures { IfOk result (λ first. parts_of first ≡ record { node = []; waiting = record { depth = 0; decision = None; start = None } ∷ []; items = []; incumbent = empty_choice inst.entry.bids.now; revenue = pos 0; bound = pos 0; count = 0 }) }
+    ensures { IfOk result (λ first. parts_of first
+        ≡ record
+        { node = []; waiting = record { depth = 0; decision = None; start = None } ∷ []; items = []; incumbent = empty_choice inst.entry.bids.now; revenue = pos 0; bound = pos 0; count = 0 }) }
 {
     let incumbent = empty_choice(alloc, inst)?;
     let mut waiting = Vec::new(alloc);
@@ -75,12 +76,12 @@ fn plan_with<F: RowFamily, G: Graphs, P: Repairer<F, G>>(
     limits: Limits,
     repairer: &P,
 ) -> Result<Plan<F::Row>, NoMemory>
-    requires instance { IsInstance inst.net.now inst.bids.now }
     requires network { G.network graphs.now ≡ inst.net.now }
     requires held { All (λ bid. Contains (G.held graphs.now) bid.path) inst.bids.now }
-    ensures { IfOk result (λ plan. IsPlainPlan F.Row.cmp inst.entry.net.now (F.rows_of rows.now inst.entry.net.now) inst.entry.bids.now limits.steps limits.budget plan) }
+    ensures { IfOk result (λ plan. IsPlainPlan F.Row.cmp inst.entry.net.now
+        (F.rows_of rows.now inst.entry.net.now) inst.entry.bids.now limits.steps limits.budget
+        plan) }
 {
-    let _ = inst.net.track_count();
     let first = first_search(alloc, inst)?;
     let kept = keep_arcs(alloc, inst, graphs, rows)?;
     let (last, kept) = take_turns(alloc, inst, graphs, rows, limits, repairer, kept, first)?;
@@ -108,13 +109,17 @@ pub fn plan<F: RowFamily, G: Graphs, P: Repairer<F, G>>(
     limits: Limits,
     repairer: &P,
 ) -> Result<Plan<F::Row>, NoMemory>
-    requires instance { IsInstance inst.net.now inst.bids.now }
     requires network { G.network graphs.old ≡ inst.net.now }
     requires budget { 1 ≤ limits.budget }
-    ensures plan { IfOk result (λ plan. IsPlainPlan F.Row.cmp inst.entry.net.now (F.rows_of rows.now inst.entry.net.now) inst.entry.bids.now limits.steps limits.budget plan) }
-    ensures held { OnOk result (All (λ bid. Contains (G.held graphs.new) bid.path) inst.entry.bids.now) }
-    ensures others { OnOk result (All (λ path. Contains (G.held graphs.old) path ⊎ Contains (map (λ bid. bid.path) inst.entry.bids.now) path) (G.held graphs.new)) }
-    ensures kept { OnOk result (G.keeps graphs.old ≡ true → All (Contains (G.held graphs.new)) (G.held graphs.old)) }
+    ensures plan { IfOk result (λ plan. IsPlainPlan F.Row.cmp inst.entry.net.now
+        (F.rows_of rows.now inst.entry.net.now) inst.entry.bids.now limits.steps limits.budget
+        plan) }
+    ensures held { OnOk result (All (λ bid. Contains (G.held graphs.new) bid.path)
+        inst.entry.bids.now) }
+    ensures others { OnOk result (All (λ path. Contains (G.held graphs.old) path
+        ⊎ Contains (map (λ bid. bid.path) inst.entry.bids.now) path) (G.held graphs.new)) }
+    ensures kept { OnOk result (G.keeps graphs.old ≡ true
+        → All (Contains (G.held graphs.new)) (G.held graphs.old)) }
     ensures network { G.network graphs.new ≡ G.network graphs.old }
     ensures keeps { G.keeps graphs.new ≡ G.keeps graphs.old }
 {

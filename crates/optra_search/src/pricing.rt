@@ -1,15 +1,15 @@
 //! Pricing a node that is not dead: its price path, repair, and what becomes of it.
-ghost use Rattle.std.specs.Prelude.{◌≡◌, ◌+◌, ◌<◌, ◌≤◌, ◌≤ℤ◌, ◌<ℤ◌, ◌-◌, ◌^◌, None, length, All, Contains, IfOk, MatchBool, unwrap_or};
-ghost use Rattle.optra_bid.specs.Instances.{IsInstance};
+ghost use Rattle.std.specs.Prelude.{◌≡◌, ◌+◌, ◌<◌, ◌≤◌, ◌≤ℤ◌, ◌<ℤ◌, ◌-◌, ◌^◌, None, length, All, Contains, IfOk, OnOk, MatchBool, unwrap_or};
 ghost use Rattle.optra_walk.specs.Choices.{IsChoice, revenue_of};
 ghost use Rattle.optra_node.specs.Nodes.{IsNode};
 ghost use Rattle.optra_node.specs.Duals.{whole_cents};
+ghost use Rattle.optra_prices.specs.Courses.{replies_at};
 ghost use Rattle.optra_prices.specs.Deads.{IsDeadAs};
 ghost use Rattle.optra_prices.specs.Keepings.{AreKept, AreKeptAt};
 ghost use Rattle.optra_prices.specs.Paths.{IsPathResult};
 ghost use Rattle.optra_prices.specs.Steps.{AreProper};
 ghost use Rattle.optra_search.specs.Planner.{IsBetter};
-ghost use Rattle.optra_search.specs.Marks.{AreOverfilled, AreSettled};
+ghost use Rattle.optra_search.specs.Marks.{AreSettled};
 ghost use Rattle.optra_search.specs.Openings.{front, start_below, IsOutcome};
 ghost use Rattle.optra_search.specs.Searches.{IsReached, IsEntered};
 ghost use Rattle.optra_search.specs.Reached.{parts_of};
@@ -22,24 +22,10 @@ use optra_graph::Graphs;
 use optra_network::{Cents, NoMemory};
 use optra_node::{Node, Prices};
 use optra_prices::keeping::price_path_over;
-use optra_prices::{ArcTables, Dual, Priced, step};
-use optra_walk::{Choice, Instance, Leg, RowFamily, Walk};
+use optra_prices::overfull::overfull_rows;
+use optra_prices::{ArcTables, Dual, Priced};
+use optra_walk::{Choice, Instance, Leg, RowFamily};
 use std::alloc::Global;
-
-/// The rows of which the replies use more than the capacity, each with some price.
-fn overfilled<F: RowFamily>(
-    alloc: Global,
-    inst: Instance<'_>,
-    rows: &F,
-    replies: &[Option<Walk>],
-) -> Result<Prices<F::Row>, NoMemory>
-    requires { IsChoice inst.net.now inst.bids.now replies.now }
-    ensures { IfOk result (AreOverfilled (F.rows_of rows.now inst.entry.net.now) inst.entry.bids.now replies.now) }
-{
-    let zero = zero_prices(alloc);
-    let listed = step(alloc, inst, rows, &zero, replies, 0)?;
-    Ok(listed)
-}
 
 /// Whether a dual value in whole cents, rounded down, is at most the revenue.
 fn is_low(value: i128, revenue: Cents) -> bool
@@ -48,38 +34,40 @@ fn is_low(value: i128, revenue: Cents) -> bool
     whole_cents(value) <= i128::from(revenue)
 }
 
-/// The leg on which the node is split, by its dual value and replies at the result of its price path. `None` where the
-/// dual value in whole cents, rounded down, is at most the revenue: then the node becomes a leaf.
+/// The leg on which the search's node is split, by its dual value and replies at the result of its price path, at which
+/// the tables are. `None` where the dual value in whole cents, rounded down, is at most the revenue: then the node becomes
+/// a leaf.
 fn outcome<F: RowFamily, G: Graphs>(
     alloc: Global,
     inst: Instance<'_>,
     graphs: &G,
     rows: &F,
-    node: &Node,
+    kept: &mut ArcTables<'_, F::Row>,
     dual: &Dual,
-    revenue: Cents,
+    search: &Search<F::Row>,
 ) -> Result<Option<(u32, Leg)>, NoMemory>
-    requires instance { IsInstance inst.net.now inst.bids.now }
     requires network { G.network graphs.now ≡ inst.net.now }
     requires held { All (λ bid. Contains (G.held graphs.now) bid.path) inst.bids.now }
-    requires node { IsNode inst.net.now (length inst.bids.now) node.now }
+    requires node { IsNode inst.net.now (length inst.bids.now) search.now.node }
+    requires kept { AreKeptAt F.Row.cmp inst.net.now (F.rows_of rows.now inst.net.now)
+        (F.rows_used rows.now inst.net.now) inst.bids.now search.now.node kept.old }
+    requires stand { dual.now.replies ≡ replies_at kept.old }
     requires replies { IsChoice inst.net.now inst.bids.now dual.now.replies }
-    requires closes { AreSettled inst.net.now (F.rows_of rows.now inst.net.now) inst.bids.now node.now → whole_cents dual.now.value ≤ℤ revenue }
-    ensures { IfOk result (λ split. IsOutcome inst.entry.net.now (F.rows_of rows.now inst.entry.net.now) inst.entry.bids.now node.now dual.now revenue split) }
+    requires closes { AreSettled inst.net.now (F.rows_of rows.now inst.net.now) inst.bids.now
+        search.now.node → whole_cents dual.now.value ≤ℤ search.now.revenue }
+    ensures outcome { IfOk result (λ split. IsOutcome inst.entry.net.now
+        (F.rows_of rows.now inst.entry.net.now) inst.entry.bids.now search.now.node dual.now
+        search.now.revenue split) }
+    ensures kept { OnOk result (AreKeptAt F.Row.cmp inst.entry.net.now
+        (F.rows_of rows.now inst.entry.net.now) (F.rows_used rows.now inst.entry.net.now)
+        inst.entry.bids.now search.now.node kept.new) }
 {
-    if is_low(dual.value, revenue) {
+    if is_low(dual.value, search.revenue) {
         return Ok(None);
     }
-    let listed = overfilled(alloc, inst, rows, &dual.replies)?;
-    let found = split_leg(
-        alloc,
-        inst,
-        graphs,
-        rows,
-        node,
-        &dual.replies,
-        &listed.entries,
-    )?;
+    let node = &search.node;
+    let listed = overfull_rows(alloc, inst, rows, node, kept)?;
+    let found = split_leg(alloc, inst, graphs, rows, node, &dual.replies, &listed)?;
     Ok(found)
 }
 
@@ -93,12 +81,19 @@ fn path_result<'g, F: RowFamily>(
     search: &Search<F::Row>,
     start: &Option<Prices<F::Row>>,
 ) -> Result<(Priced<F::Row>, ArcTables<'g, F::Row>), NoMemory>
-    requires few { length inst.bids.now ≤ 1000 }
     requires node { IsNode inst.net.now (length inst.bids.now) search.now.node }
-    requires kept { AreKeptAt F.Row.cmp inst.net.now (F.rows_of rows.now inst.net.now) (F.rows_used rows.now inst.net.now) inst.bids.now search.now.node kept }
-    requires start { AreProper F.Row.cmp (F.rows_of rows.now inst.net.now) (unwrap_or start.now (start_below (front search.now.waiting.items))) }
-    ensures path { IfOk result (λ both. IsPathResult F.Row.cmp inst.entry.net.now (F.rows_of rows.now inst.entry.net.now) inst.entry.bids.now search.now.node (unwrap_or start.now (start_below (front search.now.waiting.items))) steps search.now.revenue both.0) }
-    ensures kept { IfOk result (λ both. AreKeptAt F.Row.cmp inst.entry.net.now (F.rows_of rows.now inst.entry.net.now) (F.rows_used rows.now inst.entry.net.now) inst.entry.bids.now search.now.node both.1) }
+    requires kept { AreKeptAt F.Row.cmp inst.net.now (F.rows_of rows.now inst.net.now)
+        (F.rows_used rows.now inst.net.now) inst.bids.now search.now.node kept }
+    requires start { AreProper F.Row.cmp (F.rows_of rows.now inst.net.now)
+        (unwrap_or start.now (start_below (front search.now.waiting.items))) }
+    ensures path { IfOk result (λ both. IsPathResult F.Row.cmp inst.entry.net.now
+        (F.rows_of rows.now inst.entry.net.now) inst.entry.bids.now search.now.node
+        (unwrap_or start.now (start_below (front search.now.waiting.items))) steps
+        search.now.revenue both.0) }
+    ensures kept { IfOk result (λ both. AreKeptAt F.Row.cmp inst.entry.net.now
+        (F.rows_of rows.now inst.entry.net.now) (F.rows_used rows.now inst.entry.net.now)
+        inst.entry.bids.now search.now.node both.1) }
+    ensures replies { IfOk result (λ both. both.0.dual.replies ≡ replies_at both.1) }
 {
     let zero = zero_prices(alloc);
     let from = start_of(start, &search.waiting, &zero);
@@ -117,13 +112,16 @@ fn path_result<'g, F: RowFamily>(
 
 /// Counts the node, and takes the repaired choice as the incumbent where it earns more.
 fn improve<R>(inst: Instance<'_>, search: Search<R>, repaired: Choice) -> Search<R>
-    requires few { length inst.bids.now ≤ 1000 }
     requires earned { search.revenue ≡ revenue_of inst.net.now inst.bids.now search.incumbent }
     requires choice { IsChoice inst.net.now inst.bids.now repaired }
     requires room { search.count < 2 ^ 64 - 1 }
-    ensures parts { parts_of result ≡ record (parts_of search) { incumbent = result.incumbent; revenue = result.revenue; count = search.count + 1 } }
-    ensures better { IsBetter inst.entry.net.now inst.entry.bids.now search.incumbent repaired result.incumbent }
-    ensures earned { result.revenue ≡ revenue_of inst.entry.net.now inst.entry.bids.now result.incumbent }
+    ensures parts { parts_of result
+        ≡ record (parts_of search)
+        { incumbent = result.incumbent; revenue = result.revenue; count = search.count + 1 } }
+    ensures better { IsBetter inst.entry.net.now inst.entry.bids.now search.incumbent repaired
+        result.incumbent }
+    ensures earned { result.revenue ≡ revenue_of inst.entry.net.now inst.entry.bids.now
+        result.incumbent }
 {
     let Search {
         node,
@@ -159,30 +157,27 @@ pub(crate) fn price_node<'g, F: RowFamily, G: Graphs, P: Repairer<F, G>>(
     search: Search<F::Row>,
     start: Option<Prices<F::Row>>,
 ) -> Result<(Search<F::Row>, ArcTables<'g, F::Row>), NoMemory>
-    requires instance { IsInstance inst.net.now inst.bids.now }
     requires network { G.network graphs.now ≡ inst.net.now }
     requires held { All (λ bid. Contains (G.held graphs.now) bid.path) inst.bids.now }
-    requires kept { AreKeptAt F.Row.cmp inst.net.now (F.rows_of rows.now inst.net.now) (F.rows_used rows.now inst.net.now) inst.bids.now search.node kept }
-    requires entered { IsEntered F.Row.cmp inst.net.now (F.rows_of rows.now inst.net.now) inst.bids.now limits.steps limits.budget start (parts_of search) }
-    requires lives { IsDeadAs F.Row.cmp inst.net.now (F.rows_of rows.now inst.net.now) inst.bids.now search.node None }
-    ensures reached { IfOk result (λ both. IsReached F.Row.cmp inst.entry.net.now (F.rows_of rows.now inst.entry.net.now) inst.entry.bids.now limits.steps limits.budget (parts_of both.0)) }
+    requires kept { AreKeptAt F.Row.cmp inst.net.now (F.rows_of rows.now inst.net.now)
+        (F.rows_used rows.now inst.net.now) inst.bids.now search.node kept }
+    requires entered { IsEntered F.Row.cmp inst.net.now (F.rows_of rows.now inst.net.now)
+        inst.bids.now limits.steps limits.budget start (parts_of search) }
+    requires lives { IsDeadAs F.Row.cmp inst.net.now (F.rows_of rows.now inst.net.now) inst.bids.now
+        search.node None }
+    ensures reached { IfOk result (λ both. IsReached F.Row.cmp inst.entry.net.now
+        (F.rows_of rows.now inst.entry.net.now) inst.entry.bids.now limits.steps limits.budget
+        (parts_of both.0)) }
     ensures count { IfOk result (λ both. both.0.count ≡ search.count + 1) }
-    ensures kept { IfOk result (λ both. AreKept F.Row.cmp inst.entry.net.now (F.rows_of rows.now inst.entry.net.now) (F.rows_used rows.now inst.entry.net.now) inst.entry.bids.now both.1) }
+    ensures kept { IfOk result (λ both. AreKept F.Row.cmp inst.entry.net.now
+        (F.rows_of rows.now inst.entry.net.now) (F.rows_used rows.now inst.entry.net.now)
+        inst.entry.bids.now both.1) }
 {
-    let _ = inst.net.track_count();
-    let (priced, kept) = path_result(alloc, inst, rows, limits.steps, kept, &search, &start)?;
+    let (priced, mut kept) = path_result(alloc, inst, rows, limits.steps, kept, &search, &start)?;
     let Priced { prices, dual } = priced;
     let repaired = repairer.repair_over(alloc, inst, graphs, rows, &search.node, &kept, &dual)?;
     let search = improve(inst, search, repaired);
-    let split = outcome(
-        alloc,
-        inst,
-        graphs,
-        rows,
-        &search.node,
-        &dual,
-        search.revenue,
-    )?;
+    let split = outcome(alloc, inst, graphs, rows, &mut kept, &dual, &search)?;
     let cents = whole_cents(dual.value);
     let after = close_or_split(search, split, prices, cents)?;
     Ok((after, kept))

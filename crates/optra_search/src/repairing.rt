@@ -32,13 +32,13 @@ pub trait Repairer<F: RowFamily, G: Graphs> {
         node: &Node,
         dual: &Dual,
     ) -> Result<Choice, NoMemory>
-        requires few { length inst.bids.now ≤ 1000 }
         requires node { IsNode inst.net.now (length inst.bids.now) node.now }
         requires network { G.network graphs.now ≡ inst.net.now }
         requires held { All (λ bid. Contains (G.held graphs.now) bid.path) inst.bids.now }
         requires terms { length dual.now.terms ≡ length inst.bids.now }
         requires replies { IsChoice inst.net.now inst.bids.now dual.now.replies }
-        ensures { IfOk result (λ choice. IsRepair inst.entry.net.now (F.rows_of rows.now inst.entry.net.now) inst.entry.bids.now node.now dual.now choice) };
+        ensures { IfOk result (λ choice. IsRepair inst.entry.net.now
+            (F.rows_of rows.now inst.entry.net.now) inst.entry.bids.now node.now dual.now choice) };
 
     /// As [`Repairer::repair`], by tables of arcs that are at the node. Who repairs faster by them says so here.
     fn repair_over(
@@ -51,14 +51,15 @@ pub trait Repairer<F: RowFamily, G: Graphs> {
         kept: &ArcTables<'_, F::Row>,
         dual: &Dual,
     ) -> Result<Choice, NoMemory>
-        requires few { length inst.bids.now ≤ 1000 }
         requires node { IsNode inst.net.now (length inst.bids.now) node.now }
         requires network { G.network graphs.now ≡ inst.net.now }
         requires held { All (λ bid. Contains (G.held graphs.now) bid.path) inst.bids.now }
-        requires kept { AreKeptAt F.Row.cmp inst.net.now (F.rows_of rows.now inst.net.now) (F.rows_used rows.now inst.net.now) inst.bids.now node.now kept.now }
+        requires kept { AreKeptAt F.Row.cmp inst.net.now (F.rows_of rows.now inst.net.now)
+            (F.rows_used rows.now inst.net.now) inst.bids.now node.now kept.now }
         requires terms { length dual.now.terms ≡ length inst.bids.now }
         requires replies { IsChoice inst.net.now inst.bids.now dual.now.replies }
-        ensures { IfOk result (λ choice. IsRepair inst.entry.net.now (F.rows_of rows.now inst.entry.net.now) inst.entry.bids.now node.now dual.now choice) }
+        ensures { IfOk result (λ choice. IsRepair inst.entry.net.now
+            (F.rows_of rows.now inst.entry.net.now) inst.entry.bids.now node.now dual.now choice) }
     {
         self.repair(alloc, inst, graphs, rows, node, dual)
     }

@@ -69,7 +69,8 @@ pub(crate) fn close_or_split<R: Drop>(
     prices: Prices<R>,
     cents: i128,
 ) -> Result<Search<R>, NoMemory>
-    ensures { IfOk result (λ after. parts_of after ≡ settled_as (parts_of search) split prices cents) }
+    ensures { IfOk result (λ after. parts_of after ≡ settled_as (parts_of search) split prices
+        cents) }
 {
     match split {
         Some((bid, leg)) => {
@@ -89,7 +90,8 @@ pub(crate) fn close<R: Drop>(
     prices: Prices<R>,
     cents: i128,
 ) -> Result<Search<R>, NoMemory>
-    ensures { IfOk result (λ after. parts_of after ≡ settled_as (parts_of search) None prices cents) }
+    ensures { IfOk result (λ after. parts_of after ≡ settled_as (parts_of search) None prices
+        cents) }
 {
     let mut search = search;
     search.bound = search.bound.max(cents);
@@ -104,7 +106,8 @@ fn divide<R: Drop>(
     leg: Leg,
     prices: Prices<R>,
 ) -> Result<Search<R>, NoMemory>
-    ensures { IfOk result (λ after. parts_of after ≡ settled_as (parts_of search) (Some (bid, leg)) prices (pos 0)) }
+    ensures { IfOk result (λ after. parts_of after ≡ settled_as (parts_of search) (Some (bid, leg))
+        prices (pos 0)) }
 {
     let mut search = search;
     search.items.push(Item::Split { bid, leg })?;

@@ -1,11 +1,11 @@
 //! The leg on which a node is split.
 ghost use Rattle.std.specs.Prelude.{◌≡◌, ◌↔◌, ◌<◌, ◌≤◌, [], length, All, Contains, IfOk, IsTrue, unwrap_or};
-ghost use Rattle.optra_bid.specs.Instances.{IsInstance};
 ghost use Rattle.optra_walk.specs.Choices.{IsChoice};
 ghost use Rattle.optra_walk.specs.Families.{IsUsable};
 ghost use Rattle.optra_node.specs.Nodes.{IsNode, kind_at};
+ghost use Rattle.optra_prices.specs.Overfull.{AreOverfilled};
 ghost use Rattle.optra_search.specs.Splits.{IsFree, IsFreeLeg, IsFirstOrNone, reply_legs};
-ghost use Rattle.optra_search.specs.Marks.{UsesOne, IsCrowding, AreOverfilled, IsFreeSplitOrNone, IsSplitLegOrNone};
+ghost use Rattle.optra_search.specs.Marks.{UsesOne, IsCrowding, IsFreeSplitOrNone, IsSplitLegOrNone};
 
 use crate::fixing::is_fixed;
 use crate::freeing::{first_free, freest_leg};
@@ -21,13 +21,13 @@ fn uses_one<F: RowFamily>(
     rows: &F,
     kind: TypeId,
     leg: Leg,
-    listed: &[(F::Row, i64)],
+    listed: &[F::Row],
 ) -> bool
     requires { IsUsable net.now kind leg }
     ensures { IsTrue result ↔ UsesOne (F.rows_of rows.now net.now) kind leg listed.now }
 {
-    for entry in listed {
-        if rows.leg_use(net, kind, leg, entry.0) > 0 {
+    for row in listed {
+        if rows.leg_use(net, kind, leg, *row) > 0 {
             return true;
         }
     }
@@ -41,11 +41,12 @@ fn is_crowding<F: RowFamily>(
     node: &Node,
     bid: u32,
     leg: Leg,
-    listed: &[(F::Row, i64)],
+    listed: &[F::Row],
 ) -> bool
     requires bid { bid < length inst.bids.now }
     requires usable { IsUsable inst.net.now (kind_at inst.bids.now bid) leg }
-    ensures { IsTrue result ↔ IsCrowding (F.rows_of rows.now inst.entry.net.now) inst.entry.bids.now node.now listed.now (bid, leg) }
+    ensures { IsTrue result ↔ IsCrowding (F.rows_of rows.now inst.entry.net.now) inst.entry.bids.now
+        node.now listed.now (bid, leg) }
 {
     let kind = kind_at(inst, bid);
     !is_fixed(node, bid, leg) && uses_one(inst.net, rows, kind, leg, listed)
@@ -67,11 +68,12 @@ fn first_crowding<F: RowFamily>(
     node: &Node,
     bid: u32,
     legs: &[Leg],
-    listed: &[(F::Row, i64)],
+    listed: &[F::Row],
 ) -> Option<Leg>
     requires bid { bid < length inst.bids.now }
     requires usable { All (IsUsable inst.net.now (kind_at inst.bids.now bid)) legs.now }
-    ensures { IsFirstOrNone (λ leg. IsCrowding (F.rows_of rows.now inst.entry.net.now) inst.entry.bids.now node.now listed.now (bid, leg)) legs.now result }
+    ensures { IsFirstOrNone (λ leg. IsCrowding (F.rows_of rows.now inst.entry.net.now)
+        inst.entry.bids.now node.now listed.now (bid, leg)) legs.now result }
 {
     for leg in legs {
         if is_crowding(inst, rows, node, bid, *leg, listed) {
@@ -88,11 +90,13 @@ fn crowding_in<F: RowFamily>(
     node: &Node,
     bid: u32,
     reply: &Option<Walk>,
-    listed: &[(F::Row, i64)],
+    listed: &[F::Row],
 ) -> Option<Leg>
     requires bid { bid < length inst.bids.now }
-    requires usable { All (IsUsable inst.net.now (kind_at inst.bids.now bid)) (unwrap_or reply.now []) }
-    ensures { IsFirstOrNone (λ leg. IsCrowding (F.rows_of rows.now inst.entry.net.now) inst.entry.bids.now node.now listed.now (bid, leg)) (unwrap_or reply.now []) result }
+    requires usable { All (IsUsable inst.net.now (kind_at inst.bids.now bid))
+        (unwrap_or reply.now []) }
+    ensures { IsFirstOrNone (λ leg. IsCrowding (F.rows_of rows.now inst.entry.net.now)
+        inst.entry.bids.now node.now listed.now (bid, leg)) (unwrap_or reply.now []) result }
 {
     match reply {
         Some(walk) => first_crowding(inst, rows, node, bid, &walk.legs, listed),
@@ -106,13 +110,12 @@ fn crowding_leg<F: RowFamily>(
     rows: &F,
     node: &Node,
     replies: &[Option<Walk>],
-    listed: &[(F::Row, i64)],
+    listed: &[F::Row],
 ) -> Option<(u32, Leg)>
-    requires instance { IsInstance inst.net.now inst.bids.now }
     requires replies { IsChoice inst.net.now inst.bids.now replies.now }
-    ensures { IsFirstOrNone (IsCrowding (F.rows_of rows.now inst.entry.net.now) inst.entry.bids.now node.now listed.now) (reply_legs replies.now) result }
+    ensures { IsFirstOrNone (IsCrowding (F.rows_of rows.now inst.entry.net.now) inst.entry.bids.now
+        node.now listed.now) (reply_legs replies.now) result }
 {
-    let _ = inst.net.track_count();
     'replies: for (i, reply) in replies.iter().enumerate() {
         let bid = i as u32;
         match crowding_in(inst, rows, node, bid, reply, listed) {
@@ -157,12 +160,12 @@ fn free_split<F: RowFamily, G: Graphs>(
     node: &Node,
     replies: &[Option<Walk>],
 ) -> Result<Option<(u32, Leg)>, NoMemory>
-    requires instance { IsInstance inst.net.now inst.bids.now }
     requires network { G.network graphs.now ≡ inst.net.now }
     requires held { All (λ bid. Contains (G.held graphs.now) bid.path) inst.bids.now }
     requires node { IsNode inst.net.now (length inst.bids.now) node.now }
     requires few { length replies.now ≤ 1000 }
-    ensures { IfOk result (λ found. IsFreeSplitOrNone inst.entry.net.now (F.rows_of rows.now inst.entry.net.now) inst.entry.bids.now node.now replies.now found) }
+    ensures { IfOk result (λ found. IsFreeSplitOrNone inst.entry.net.now
+        (F.rows_of rows.now inst.entry.net.now) inst.entry.bids.now node.now replies.now found) }
 {
     match free_reply_leg(node, replies) {
         Some(found) => Ok(Some(found)),
@@ -182,15 +185,16 @@ pub(crate) fn split_leg<F: RowFamily, G: Graphs>(
     rows: &F,
     node: &Node,
     replies: &[Option<Walk>],
-    listed: &[(F::Row, i64)],
+    listed: &[F::Row],
 ) -> Result<Option<(u32, Leg)>, NoMemory>
-    requires instance { IsInstance inst.net.now inst.bids.now }
     requires network { G.network graphs.now ≡ inst.net.now }
     requires held { All (λ bid. Contains (G.held graphs.now) bid.path) inst.bids.now }
     requires node { IsNode inst.net.now (length inst.bids.now) node.now }
     requires replies { IsChoice inst.net.now inst.bids.now replies.now }
-    requires listed { AreOverfilled (F.rows_of rows.now inst.net.now) inst.bids.now replies.now listed.now }
-    ensures { IfOk result (λ found. IsSplitLegOrNone inst.entry.net.now (F.rows_of rows.now inst.entry.net.now) inst.entry.bids.now node.now replies.now found) }
+    requires listed { AreOverfilled (F.rows_of rows.now inst.net.now) inst.bids.now replies.now
+        listed.now }
+    ensures { IfOk result (λ found. IsSplitLegOrNone inst.entry.net.now
+        (F.rows_of rows.now inst.entry.net.now) inst.entry.bids.now node.now replies.now found) }
 {
     match crowding_leg(inst, rows, node, replies, listed) {
         Some(found) => Ok(Some(found)),

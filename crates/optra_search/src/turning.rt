@@ -1,6 +1,5 @@
 //! Turns: from the root to a state in which no node waits or the budget is spent.
 ghost use Rattle.std.specs.Prelude.{◌≡◌, ◌+◌, ◌<◌, ◌-◌, ◌^◌, ◌++◌, ◌∷◌, [], All, Contains, IfOk};
-ghost use Rattle.optra_bid.specs.Instances.{IsInstance};
 ghost use Rattle.optra_prices.specs.Keepings.{AreKept};
 ghost use Rattle.optra_search.specs.Planner.{IsOver, dead_item};
 ghost use Rattle.optra_search.specs.Openings.{state_of};
@@ -21,7 +20,9 @@ use std::alloc::Global;
 /// Counts the node, which becomes a leaf that says why it is dead.
 fn end_dead<R: Drop>(search: Search<R>, reason: Dead<R>) -> Result<Search<R>, NoMemory>
     requires { search.count < 2 ^ 64 - 1 }
-    ensures { IfOk result (λ after. parts_of after ≡ record (parts_of search) { items = search.items.items ++ dead_item reason ∷ []; count = search.count + 1 }) }
+    ensures { IfOk result (λ after. parts_of after
+        ≡ record (parts_of search)
+        { items = search.items.items ++ dead_item reason ∷ []; count = search.count + 1 }) }
 {
     let mut search = search;
     search.items.push(dead_item(reason))?;
@@ -42,17 +43,22 @@ fn turn<'g, F: RowFamily, G: Graphs, P: Repairer<F, G>>(
     search: Search<F::Row>,
     top: Waiting<F::Row>,
 ) -> Result<(Search<F::Row>, ArcTables<'g, F::Row>), NoMemory>
-    requires instance { IsInstance inst.net.now inst.bids.now }
     requires network { G.network graphs.now ≡ inst.net.now }
     requires held { All (λ bid. Contains (G.held graphs.now) bid.path) inst.bids.now }
-    requires kept { AreKept F.Row.cmp inst.net.now (F.rows_of rows.now inst.net.now) (F.rows_used rows.now inst.net.now) inst.bids.now kept }
+    requires kept { AreKept F.Row.cmp inst.net.now (F.rows_of rows.now inst.net.now)
+        (F.rows_used rows.now inst.net.now) inst.bids.now kept }
     requires below { search.count < limits.budget }
-    requires reached { IsReached F.Row.cmp inst.net.now (F.rows_of rows.now inst.net.now) inst.bids.now limits.steps limits.budget (record (parts_of search) { waiting = search.waiting.items ++ top ∷ [] }) }
-    ensures reached { IfOk result (λ both. IsReached F.Row.cmp inst.entry.net.now (F.rows_of rows.now inst.entry.net.now) inst.entry.bids.now limits.steps limits.budget (parts_of both.0)) }
+    requires reached { IsReached F.Row.cmp inst.net.now (F.rows_of rows.now inst.net.now)
+        inst.bids.now limits.steps limits.budget
+        (record (parts_of search) { waiting = search.waiting.items ++ top ∷ [] }) }
+    ensures reached { IfOk result (λ both. IsReached F.Row.cmp inst.entry.net.now
+        (F.rows_of rows.now inst.entry.net.now) inst.entry.bids.now limits.steps limits.budget
+        (parts_of both.0)) }
     ensures count { IfOk result (λ both. both.0.count ≡ search.count + 1) }
-    ensures kept { IfOk result (λ both. AreKept F.Row.cmp inst.entry.net.now (F.rows_of rows.now inst.entry.net.now) (F.rows_used rows.now inst.entry.net.now) inst.entry.bids.now both.1) }
+    ensures kept { IfOk result (λ both. AreKept F.Row.cmp inst.entry.net.now
+        (F.rows_of rows.now inst.entry.net.now) (F.rows_used rows.now inst.entry.net.now)
+        inst.entry.bids.now both.1) }
 {
-    let _ = inst.net.track_count();
     let mut search = search;
     let mut kept = kept;
     let Waiting {
@@ -87,15 +93,22 @@ pub(crate) fn take_turns<'g, F: RowFamily, G: Graphs, P: Repairer<F, G>>(
     kept: ArcTables<'g, F::Row>,
     search: Search<F::Row>,
 ) -> Result<(Search<F::Row>, ArcTables<'g, F::Row>), NoMemory>
-    requires instance { IsInstance inst.net.now inst.bids.now }
     requires network { G.network graphs.now ≡ inst.net.now }
     requires held { All (λ bid. Contains (G.held graphs.now) bid.path) inst.bids.now }
-    requires kept { AreKept F.Row.cmp inst.net.now (F.rows_of rows.now inst.net.now) (F.rows_used rows.now inst.net.now) inst.bids.now kept }
+    requires kept { AreKept F.Row.cmp inst.net.now (F.rows_of rows.now inst.net.now)
+        (F.rows_used rows.now inst.net.now) inst.bids.now kept }
     requires first { search.count ≡ 0 }
-    requires reached { IsReached F.Row.cmp inst.net.now (F.rows_of rows.now inst.net.now) inst.bids.now limits.steps limits.budget (parts_of search) }
-    ensures reached { IfOk result (λ both. IsReached F.Row.cmp inst.entry.net.now (F.rows_of rows.now inst.entry.net.now) inst.entry.bids.now limits.steps limits.budget (parts_of both.0)) }
-    ensures over { IfOk result (λ both. IsOver limits.budget (state_of both.0.node both.0.waiting.items both.0.items.items both.0.incumbent both.0.count)) }
-    ensures kept { IfOk result (λ both. AreKept F.Row.cmp inst.entry.net.now (F.rows_of rows.now inst.entry.net.now) (F.rows_used rows.now inst.entry.net.now) inst.entry.bids.now both.1) }
+    requires reached { IsReached F.Row.cmp inst.net.now (F.rows_of rows.now inst.net.now)
+        inst.bids.now limits.steps limits.budget (parts_of search) }
+    ensures reached { IfOk result (λ both. IsReached F.Row.cmp inst.entry.net.now
+        (F.rows_of rows.now inst.entry.net.now) inst.entry.bids.now limits.steps limits.budget
+        (parts_of both.0)) }
+    ensures over { IfOk result (λ both. IsOver limits.budget
+        (state_of both.0.node both.0.waiting.items both.0.items.items both.0.incumbent
+        both.0.count)) }
+    ensures kept { IfOk result (λ both. AreKept F.Row.cmp inst.entry.net.now
+        (F.rows_of rows.now inst.entry.net.now) (F.rows_used rows.now inst.entry.net.now)
+        inst.entry.bids.now both.1) }
 {
     let mut search = search;
     let mut kept = kept;

@@ -1,19 +1,32 @@
-use Rattle.std.proofs.Common.{length, sym, ap, ◌∙◌, subst}
+use Rattle.std.proofs.Common.{ℕ, ◌<◌, List, length, sym, subst}
+use Rattle.std.specs.Prelude.{All}
 use Rattle.optra_network.specs.declared.TypeId.{TypeId}
 use Rattle.optra_walk.specs.declared.Leg.{Leg}
 use Rattle.optra_walk.specs.Families.{IsUsable}
-use Rattle.optra_node.specs.Nodes.{others_load}
 use Rattle.optra_node.specs.Summaries.{Summed, decisions_for}
-use Rattle.optra_node.proofs.SummaryLemmas.{own_formed}
 use Rattle.optra_prices.specs.Allowing.{RoomTells}
-use Rattle.optra_prices.proofs.AllowLemmas.{split_room, whole_room, table_tells}
+use Rattle.optra_prices.specs.Claims.{placed_uses}
+use Rattle.optra_prices.specs.Uses.{TakesUses, AddsUses}
+use Rattle.optra_prices.specs.declared.claims.Claim.{Claim}
+use Rattle.optra_prices.proofs.AllowLemmas.{room_without, room_with, table_tells}
+use Rattle.optra_prices.proofs.ClaimLemmas.{placed_within}
 use Rattle.optra_prices.proofs.allowing.allow_bid.Goals as goal
 
-pub take_decisions-requires-clause-decisions : goal.take_decisions-requires-clause-decisions
-take_decisions-requires-clause-decisions g c =
+pub take_placed-requires : goal.take_placed-requires
+take_placed-requires g c =
     let node = c.args.summary.now.node in
-    let own_is = c.own-own.ensures ∙ ap (λ (x : Summed g.row.F.Denot). decisions_for x.node c.args.number) c.requires.summary in
-    own_formed c.args.number c.own-own.result.now node own_is c.args.inst.net.now (length c.args.inst.bids.now) c.requires.node.formed
+    let decided = c.args.decided.now in
+    let places = c.places-places.result.now in
+    subst (λ (cs : List Claim). All (λ (place : ℕ). place < length cs) places) (sym c.deref.ensures.value)
+    (placed_within (g.F.RowFamily.rows_of c.args.rows.now c.args.inst.net.now) c.args.inst.bids.now c.args.grouping.now.numbering.now.rows.items node decided.claims.items c.requires.decided.claims_are places (decisions_for node c.args.number) c.places-places.ensures)
+
+pub add_placed-requires : goal.add_placed-requires
+add_placed-requires g c =
+    let node = c.args.summary.now.node in
+    let decided = c.args.decided.now in
+    let places = c.places-places.result.now in
+    subst (λ (cs : List Claim). All (λ (place : ℕ). place < length cs) places) (sym c.deref-2.ensures.value)
+    (placed_within (g.F.RowFamily.rows_of c.args.rows.now c.args.inst.net.now) c.args.inst.bids.now c.args.grouping.now.numbering.now.rows.items node decided.claims.items c.requires.decided.claims_are places (decisions_for node c.args.number) c.places-places.ensures)
 
 pub allow_table-changed-requires-clause-tells : goal.allow_table-changed-requires-clause-tells
 allow_table-changed-requires-clause-tells g c =
@@ -26,28 +39,32 @@ allow_table-changed-requires-clause-tells g c =
     let n = c.args.number in
     let numbered = c.args.grouping.now.numbering.now.rows.items in
     let table = c.args.table.now in
-    let proper = c.track_count.ensures.proper in
+    let old = c.args.decided.now in
+    let is = c.requires.decided in
+    let places = c.places-places.result.now in
+    let new = c.take_placed.new.room in
+    let proper = c.args.inst.proper in
     let lists = λ (kind : TypeId) (leg : Leg) (usable : IsUsable net kind leg). g.met.F.RowFamily.lists_rows f net kind leg proper usable in
-    let own_is = c.own-own.ensures ∙ ap (λ (x : Summed g.row.F.Denot). decisions_for x.node n) c.requires.summary in
-    let room = c.take_decisions.ensures (others_load rows bids node n) (split_room rows bids numbered node n c.own-own.result.now c.args.room.now own_is c.requires.room) in
-    subst (λ (x : Summed g.row.F.Denot). RoomTells (g.F.RowFamily.rows_of x.family x.net) x.bids x.node n c.take_decisions.new.room table.graph.now c.args.grouping.now.groups.now table.arcs.items) (sym c.requires.summary)
-    (table_tells g.F.Row.Ord.cmp net proper rows used lists bids node n numbered c.take_decisions.new.room room c.args.grouping.now.groups.now table c.requires.table)
+    let takes = subst (λ (cs : List Claim). TakesUses (placed_uses cs places) old.room.uses.items new.uses.items) c.deref.ensures.value c.take_placed.ensures.uses in
+    let room = room_without rows bids numbered node old.claims.items is.claims_are n places c.places-places.ensures old.room new is.room_is takes c.take_placed.ensures.capacities in
+    subst (λ (x : Summed g.row.F.Denot). RoomTells (g.F.RowFamily.rows_of x.family x.net) x.bids x.node n new table.graph.now c.args.grouping.now.groups.now table.arcs.items) (sym c.requires.summary)
+    (table_tells g.F.Row.Ord.cmp net proper rows used lists bids node n numbered new room c.args.grouping.now.groups.now table c.requires.table)
 
-pub add_decisions-requires-clause-decisions : goal.add_decisions-requires-clause-decisions
-add_decisions-requires-clause-decisions g c =
-    let node = c.args.summary.now.node in
-    let own_is = c.own-own.ensures ∙ ap (λ (x : Summed g.row.F.Denot). decisions_for x.node c.args.number) c.requires.summary in
-    own_formed c.args.number c.own-own.result.now node own_is c.args.inst.net.now (length c.args.inst.bids.now) c.requires.node.formed
-
-pub returns-clause-room : goal.returns-clause-room
-returns-clause-room g c =
+pub returns-clause-decided : goal.returns-clause-decided
+returns-clause-decided g c =
     let rows = g.F.RowFamily.rows_of c.args.rows.now c.args.inst.net.now in
     let bids = c.args.inst.bids.now in
     let node = c.args.summary.now.node in
     let n = c.args.number in
     let numbered = c.args.grouping.now.numbering.now.rows.items in
-    let own = c.own-own.result.now in
-    let own_is = c.own-own.ensures ∙ ap (λ (x : Summed g.row.F.Denot). decisions_for x.node n) c.requires.summary in
-    let others = others_load rows bids node n in
-    let room = c.take_decisions.ensures others (split_room rows bids numbered node n own c.args.room.now own_is c.requires.room) in
-    whole_room rows bids numbered node n own c.add_decisions.new.room own_is (c.in_ok-add_decisions.ensures others room)
+    let old = c.args.decided.now in
+    let claims = old.claims.items in
+    let is = c.requires.decided in
+    let places = c.places-places.result.now in
+    let own = c.places-places.ensures in
+    let mid = c.take_placed.new.room in
+    let new = c.add_placed.new.room in
+    let takes = subst (λ (cs : List Claim). TakesUses (placed_uses cs places) old.room.uses.items mid.uses.items) c.deref.ensures.value c.take_placed.ensures.uses in
+    let adds = subst (λ (cs : List Claim). AddsUses (placed_uses cs places) mid.uses.items new.uses.items) c.deref-2.ensures.value c.in_ok-add_placed.ensures.uses in
+    let beside = room_without rows bids numbered node claims is.claims_are n places own old.room mid is.room_is takes c.take_placed.ensures.capacities in
+    record { decisions_are = is.decisions_are; formed = is.formed; claims_are = is.claims_are; room_is = room_with rows bids numbered node claims is.claims_are n places own mid new beside adds c.in_ok-add_placed.ensures.capacities }

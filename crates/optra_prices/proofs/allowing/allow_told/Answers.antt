@@ -11,7 +11,7 @@ loop-number-init g c =
     let grouping = c.args.grouping.now in
     let tables = c.args.tables.now.items in
     record {
-      room = c.requires.room;
+      decided = c.requires.decided;
       tables = tables_first net (g.F.RowFamily.rows_of f net) (g.F.RowFamily.rows_used f net) c.args.inst.bids.now c.args.summary.now.node grouping.numbering.now.rows.items grouping.groups.now tables c.requires.tables;
       brought = brought_none c.args.told.now.items tables;
     }
@@ -34,7 +34,7 @@ loop-number-preserved-then-not-index g c =
     let here : slice_get told n ≡ Some c.index.result.now = slice_get_read told (length told) n c.index.result.now refl within c.index.ensures in
     let untold : slice_get c.args.told.now.items n ≡ Some false = sym (brought.told_left n (omega arith)) ∙ here ∙ ap Some c.if-not-index.true in
     record {
-      room = inv.room;
+      decided = inv.decided;
       tables = tables_skip net (g.F.RowFamily.rows_of f net) (g.F.RowFamily.rows_used f net) bids c.args.summary.now.node grouping.numbering.now.rows.items grouping.groups.now n c.loop-number.tables.items inv.tables
           (λ bid table bid_at table_at. c.requires.others n bid table untold bid_at (sym (brought.left n (omega arith)) ∙ table_at));
       brought = brought_skip n c.args.told.now.items told c.args.tables.now.items c.loop-number.tables.items brought;
@@ -76,7 +76,7 @@ loop-number-preserved g c =
     let told_within : n < length c.loop-number.told.items = omega (arith, l, counts, size, all) in
     let one = c.in_ok-told.ensures in
     record {
-      room = one.room;
+      decided = one.decided;
       tables = tables_more net (g.F.RowFamily.rows_of f net) (g.F.RowFamily.rows_used f net) bids c.args.summary.now.node grouping.numbering.now.rows.items grouping.groups.now n tables bid.0 table c.allow_bid.new.table mixed bid.1 at one.anew;
       brought = brought_more n c.args.told.now.items c.loop-number.told.items c.args.tables.now.items tables c.in_ok-told.field-0 table c.allow_bid.new.table inv.brought at told_within one.brought;
     }

@@ -1,5 +1,4 @@
-use Rattle.optra_node.specs.Nodes.{yes_load}
-use Rattle.optra_prices.specs.Rooms.{IsRoom}
+use Rattle.optra_prices.specs.Rooms.{IsDecided}
 use Rattle.optra_prices.proofs.AllowLemmas.{AreTablesUpTo, AreBroughtUpTo}
 use Rattle.optra_prices.proofs.allowing.allow_told.Given as goal
 
@@ -8,7 +7,7 @@ invariant-loop-number g l =
     let rows = g.F.RowFamily.rows_of l.rows l.inst.net.now in
     let numbered = l.grouping.numbering.now.rows.items in
     record {
-      room : IsRoom rows numbered (yes_load rows l.inst.bids.now l.summary.node) l.room;
+      decided : IsDecided l.inst.net.now rows l.inst.bids.now numbered l.summary.node l.decided;
       tables : AreTablesUpTo l.inst.net.now rows (g.F.RowFamily.rows_used l.rows l.inst.net.now) l.inst.bids.now l.summary.node numbered l.grouping.groups.now l.number l.tables.items;
       brought : AreBroughtUpTo l.number l.fn.told.items l.told.items l.fn.tables.items l.tables.items;
     }

@@ -1,10 +1,10 @@
 use Rattle.std.proofs.Common.{List, length, take, sym, ap, ◌∙◌, subst, arith}
 use Rattle.std.specs.Prelude.{All}
 use Rattle.optra_node.specs.declared.Decision.{Decision}
-use Rattle.optra_node.specs.Nodes.{IsFormedDecision, yes_load}
+use Rattle.optra_node.specs.Nodes.{IsFormedDecision}
 use Rattle.optra_prices.specs.Courses.{HaveCapacities}
 use Rattle.optra_prices.specs.Listings.{AddsZeros}
-use Rattle.optra_prices.specs.Rooms.{IsRoom}
+use Rattle.optra_prices.specs.Rooms.{IsDecided}
 use Rattle.optra_prices.specs.Terms.{Setting, setting}
 use Rattle.optra_prices.specs.Tables.{group_at}
 use Rattle.optra_prices.specs.Uses.{paths_in}
@@ -58,17 +58,13 @@ returns-clause-course g c =
         stand = is.stand;
         zero = is.zero;
         holders = is.holders;
-        decided = record {
-          decisions_are = is.decided.decisions_are;
-          formed = is.decided.formed;
-          room_is = subst (λ (ds : List Decision). IsRoom rows numbering.rows.items (yes_load rows c.args.inst.bids.now ds) c.in_ok-kept.field-0) (c.deref-2.ensures.value ∙ is.decided.decisions_are) c.in_ok-kept.ensures;
-        };
+        decided = subst (λ (ds : List Decision). IsDecided net rows c.args.inst.bids.now numbering.rows.items ds c.tell_anew.new.decided) is.decided.decisions_are c.in_ok-tell_anew.ensures;
       };
       still = course.still;
       grouped = λ h l. course.grouped h l ∙ sym (prices_read kept.levels.prices.items c.widen.new.levels.prices.items (subst (λ v. AddsZeros v.items c.widen.new.levels.prices.items) c.forget_paths.ensures.prices.prices wide.prices) (group_at kept.columns.groups.starts.items kept.columns.groups.touches.items h));
     }
 
-pub room_beside-requires-clause-decisions : goal.room_beside-requires-clause-decisions
-room_beside-requires-clause-decisions g c =
+pub tell_anew-requires-clause-decisions : goal.tell_anew-requires-clause-decisions
+tell_anew-requires-clause-decisions g c =
     let decided = c.requires.course.is.decided in
-    subst (All (IsFormedDecision c.args.inst.net.now (length c.args.inst.bids.now))) (sym (c.deref-2.ensures.value ∙ decided.decisions_are)) decided.formed
+    subst (All (IsFormedDecision c.args.inst.net.now (length c.args.inst.bids.now))) (sym decided.decisions_are) decided.formed

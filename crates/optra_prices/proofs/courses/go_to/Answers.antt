@@ -16,16 +16,18 @@ put_prices-requires-clause-range g c =
     subst (All (λ (e : g.row.F-Row.Denot × ℤ). IsRowPrice e.1)) (sym c.entries.ensures.value)
     (λ k d l. let is = c.requires.start.each k d l in let a = is.least in let b = is.most in (omega (arith, ints), omega (arith, ints)))
 
-pub arrive-requires-clause-moved : goal.arrive-requires-clause-moved
-arrive-requires-clause-moved g c =
+pub arrive-requires : goal.arrive-requires
+arrive-requires g c =
     let net = c.args.inst.net.now in
     let f = c.args.rows.now in
     let s : Setting g.row.F-Row.Denot = setting net (g.F.RowFamily.rows_of f net) (g.F.RowFamily.rows_used f net) c.args.inst.bids.now c.args.node.now in
     let is = c.in_ok-leave.ensures.moved.is in
     let put = c.in_ok-put_prices.ensures in
     record {
-      is = set_up_on g.F.Row.Ord.cmp s c.leave.new.kept c.put_prices.new.columns put.columns c.put_prices.new.levels is put.levels put.rest.uses (put.count ∙ sym is.price_count) put.rest.capacities put.grouped;
-      due = put.due;
+      moved = record {
+        is = set_up_on g.F.Row.Ord.cmp s c.leave.new.kept c.put_prices.new.columns put.columns c.put_prices.new.levels is put.levels put.rest.uses (put.count ∙ sym is.price_count) put.rest.capacities put.grouped;
+        due = put.due;
+      };
     }
 
 pub returns-clause-prices : goal.returns-clause-prices

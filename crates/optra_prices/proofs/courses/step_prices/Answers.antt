@@ -14,7 +14,7 @@ pub count_uses-requires-clause-groups : goal.count_uses-requires-clause-groups
 count_uses-requires-clause-groups g c =
     let net = c.args.inst.net.now in
     let f = c.args.rows.now in
-    let proper = c.track_count.ensures.proper in
+    let proper = c.args.inst.proper in
     let s : Setting g.row.F-Row.Denot = setting net (g.F.RowFamily.rows_of f net) (g.F.RowFamily.rows_used f net) c.args.inst.bids.now c.args.node.now in
     subst (All (HasGroups c.args.kept.now.columns.groups)) (sym c.deref.ensures.value)
     (course_grouped g.F.Row.Ord.cmp g.met.F.Row.Ord.total g.met.F.RowFamily.tells_apart s proper (λ kind leg usable. g.met.F.RowFamily.lists_rows f net kind leg proper usable) c.args.kept.now c.requires.course.is)
@@ -50,7 +50,7 @@ returns-clause-step g c =
     let net = c.args.inst.net.now in
     let f = c.args.rows.now in
     let rows = g.F.RowFamily.rows_of f net in
-    let proper = c.track_count.ensures.proper in
+    let proper = c.args.inst.proper in
     let s : Setting g.row.F-Row.Denot = setting net rows (g.F.RowFamily.rows_used f net) c.args.inst.bids.now c.args.node.now in
     let kept = c.args.kept.now in
     let used = c.count_uses.new.levels in

@@ -23,4 +23,4 @@ returns-clause-valuation g c =
     let net = c.args.inst.net.now in
     let f = c.args.rows.now in
     let s : Setting g.row.F-Row.Denot = setting net (g.F.RowFamily.rows_of f net) (g.F.RowFamily.rows_used f net) c.args.inst.bids.now c.args.node.now in
-    zero_is_valued g.F.Row.Ord.cmp s c.args.kept.now c.track_count.ensures.proper c.tests_tell_allowed.ensures c.prices_by_used_rows.ensures c.requires.course.is
+    zero_is_valued g.F.Row.Ord.cmp s c.args.kept.now c.args.inst.proper c.tests_tell_allowed.ensures c.prices_by_used_rows.ensures c.requires.course.is

@@ -1,13 +1,19 @@
--- One more bid is added.
-use Rattle.std.proofs.Common.{◌≡◌, ◌≤◌, ◌<◌, List, length, get_or, Some, slice_get, subst, arith}
+-- One more bid is listed.
+use Rattle.std.proofs.Common.{◌≡◌, ◌+◌, ◌<◌, ◌++◌, ◌∷◌, [], ℕ, List, length, get_or, Some, slice_get, sym, ap, ◌∙◌, subst, arith}
 use Rattle.std.proofs.lemmas.Option.{slice_get-get_or}
-use Rattle.optra_prices.specs.Holders.{Holds}
+use Rattle.std.specs.Prelude.{IfOk}
+use Rattle.std.specs.declared.result.Result.{Result}
+use Rattle.std.specs.declared.result.Result.TheVariants.{Ok, Err}
+use Rattle.optra_prices.specs.Holders.{AreHolders, HoldsArcs}
+use Rattle.optra_prices.specs.Indexes.{AreSpans, IsIndex, Inverts}
 use Rattle.optra_prices.specs.declared.numbering.ArcTerm.{ArcTerm}
-use Rattle.optra_prices.proofs.HolderLemmas.{holders_none, holders_more, holders_all}
+use Rattle.optra_prices.proofs.HolderLemmas.{listed_none, listed_more, holders_all}
 use Rattle.optra_prices.proofs.holders.find_holders.Goals as goal
 
 pub loop-number-init : goal.loop-number-init
-loop-number-init c = record { chains = c.no_chains-holders.ensures; below = holders_none c.args.tables.now c.no_chains-holders.result }
+loop-number-init c =
+    let starts = c.in_ok-push.ensures.items ∙ ap (λ (xs : List ℕ). xs ++ 0 ∷ []) c.in_ok-starts.ensures.items in
+    listed_none c.args.tables.now c.push.new.self.items _ starts c.new.ensures.items c.new-2.ensures.items
 
 pub loop-number-preserved : goal.loop-number-preserved
 loop-number-preserved c =
@@ -16,12 +22,27 @@ loop-number-preserved c =
     let l : n < length tables = omega arith in
     let table = get_or tables n c.index-tables-number.result in
     let at : slice_get tables n ≡ Some table = slice_get-get_or tables n c.index-tables-number.result l in
-    let is = c.in_ok-hold_arcs.ensures in
-    let new = c.hold_arcs.new.holders in
-    let holds = subst (λ (arcs : List ArcTerm). Holds new n arcs) c.deref.ensures.value is.holds in
-    record { chains = is.chains; below = holders_more n tables c.loop-number.holders new table c.loop-number.invariant.below at holds is.kept }
+    let old = c.loop-number.held in
+    let new = c.hold_arcs.new.held in
+    let holds = subst (λ (arcs : List ArcTerm). HoldsArcs (n + 1) arcs old new) c.deref.ensures.value c.in_ok-hold_arcs.ensures in
+    let len : c.len.result ≡ length new.groups.items = omega (arith, c.len.ensures, new.groups.ok.0) in
+    listed_more n tables c.loop-number.starts.items c.push-in-loop-number.new.self.items old new table c.loop-number.invariant at holds
+    (c.in_ok-push-2.ensures.items ∙ ap (λ (k : ℕ). c.loop-number.starts.items ++ k ∷ []) len)
+
+pub inverted-requires : goal.inverted-requires
+inverted-requires c =
+    let held = c.loop-number.held in
+    subst (λ (starts : List ℕ). AreSpans starts (length c.deref-3.result.now)) (sym c.deref-2.ensures.value)
+    (subst (λ (groups : List ℕ). AreSpans c.loop-number.starts.items (length groups)) (sym c.deref-3.ensures.value) c.loop-number.invariant.spans)
+
+both_ok : {X E : Type 0} (r : Result X E) (P Q S : X → Type 0) → ((x : X) → P x → Q x → S x) → IfOk r P → IfOk r Q → IfOk r S
+both_ok (Ok x) P Q S f p q = f x p q
+both_ok (Err e) P Q S f p q = tt
 
 pub returns : goal.returns
 returns c =
-    let past : length c.args.tables.now ≤ c.loop-number.number = omega arith in
-    holders_all c.loop-number.number c.args.tables.now c.loop-number.holders past c.loop-number.invariant.chains c.loop-number.invariant.below
+    let held = c.loop-number.held in
+    let keys = c.deref-3.result.now in
+    both_ok c.inverted.result IsIndex (Inverts c.deref-2.result.now keys) (AreHolders c.args.tables.now)
+    (λ holders index inverts. holders_all c.loop-number.number c.args.tables.now c.loop-number.starts.items keys held holders c.loop-number-test.false c.deref-3.ensures.value c.loop-number.invariant index
+    (subst (λ (starts : List ℕ). Inverts starts keys holders) c.deref-2.ensures.value inverts)) c.inverted.ensures.index c.inverted.ensures.inverts

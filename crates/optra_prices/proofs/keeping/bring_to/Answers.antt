@@ -1,16 +1,18 @@
-use Rattle.std.proofs.Common.{List, [], length, take, refl, sym, ap, ◌∙◌, subst, rules, ℤ, arith}
+use Rattle.std.proofs.Common.{List, [], length, take, drop, refl, sym, ap, ◌∙◌, subst, rules, ℤ, arith}
 use Rattle.std.specs.Prelude.{All, FitsSigned}
 use Rattle.std.specs.Int.{w64}
 use Rattle.std.proofs.lemmas.Int.{to_z-of_z}
+use Rattle.std.proofs.lemmas.List.Elements.{All-drop}
 use Rattle.std.proofs.lemmas.Result.{on_ok_weaker}
 use Rattle.optra_network.specs.declared.TypeId.{TypeId}
 use Rattle.optra_walk.specs.declared.Leg.{Leg}
 use Rattle.optra_walk.specs.Families.{IsUsable}
 use Rattle.optra_node.specs.declared.Decision.{Decision}
-use Rattle.optra_node.specs.Nodes.{IsNode, yes_load}
+use Rattle.optra_node.specs.Nodes.{IsFormedDecision}
 use Rattle.optra_node.specs.Summaries.{Summed, summed}
 use Rattle.optra_prices.specs.Allowing.{AreAtUnlessTold}
-use Rattle.optra_prices.specs.Rooms.{IsRoom}
+use Rattle.optra_prices.specs.Claims.{AreClaims}
+use Rattle.optra_prices.specs.Rooms.{IsDecided}
 use Rattle.optra_prices.specs.Standings.{IsSound, AllStand, AreTables}
 use Rattle.optra_prices.specs.Tables.{AreUpTo}
 use Rattle.optra_prices.specs.Terms.{Setting, setting}
@@ -21,8 +23,38 @@ use Rattle.optra_prices.proofs.HolderLemmas.{holders_brought}
 use Rattle.optra_prices.proofs.NarrowLemmas.{columns_up, free_up}
 use Rattle.optra_prices.proofs.StayLemmas.{others_stay}
 use Rattle.optra_prices.proofs.TableLemmas.{tables_sound, tables_hold}
+use Rattle.optra_prices.proofs.TellingLemmas.{rest_is}
 use Rattle.optra_prices.proofs.UseLemmas.{counted_brought}
 use Rattle.optra_prices.proofs.keeping.bring_to.Goals as goal
+
+pub claims_of-requires-clause-decisions : goal.claims_of-requires-clause-decisions
+claims_of-requires-clause-decisions g c =
+    let k = c.shared_count-count.result in
+    let formed = IsFormedDecision c.args.inst.net.now (length c.args.inst.bids.now) in
+    let node = c.args.node.now in
+    subst (All formed) (sym (rest_is c.decisions_of-2.result.now node k c.decisions_of-2.ensures)) (All-drop formed k node c.requires.node.formed)
+
+pub tell_moved-requires-clause-claims : goal.tell_moved-requires-clause-claims
+tell_moved-requires-clause-claims g c =
+    let rows = g.F.RowFamily.rows_of c.args.rows.now c.args.inst.net.now in
+    let bids = c.args.inst.bids.now in
+    let numbered = c.args.kept.now.numbering.rows.items in
+    let k = c.shared_count-count.result in
+    let node = c.args.node.now in
+    let entered = rest_is c.decisions_of-2.result.now node k c.decisions_of-2.ensures in
+    subst (AreClaims rows bids numbered (drop k node)) (sym c.deref-2.ensures.value)
+    (subst (λ (ds : List Decision). AreClaims rows bids numbered ds c.in_ok-claims.claims.items) entered c.in_ok-claims.ensures)
+
+pub move_room-requires-clause-claims : goal.move_room-requires-clause-claims
+move_room-requires-clause-claims g c =
+    let rows = g.F.RowFamily.rows_of c.args.rows.now c.args.inst.net.now in
+    let bids = c.args.inst.bids.now in
+    let k = c.shared_count-count.result in
+    let node = c.args.node.now in
+    let claims = c.in_ok-claims.claims.items in
+    let entered = rest_is c.decisions_of-2.result.now node k c.decisions_of-2.ensures in
+    subst (λ numbering. AreClaims rows bids numbering.rows.items (drop k node) claims) (sym c.in_ok-tell_moved.ensures.numbering)
+    (subst (λ (ds : List Decision). AreClaims rows bids c.args.kept.now.numbering.rows.items ds claims) entered c.in_ok-claims.ensures)
 
 pub tell_moved-requires-clause-course : goal.tell_moved-requires-clause-course
 tell_moved-requires-clause-course g c =
@@ -55,23 +87,19 @@ move_room-requires-clause-shared g c =
     let k = c.shared_count-count.result in
     ap (take k) (c.in_ok-tell_moved.ensures.course.is.decided.decisions_are ∙ sym c.deref.ensures.value) ∙ c.shared_count-count.ensures.shared ∙ ap (take k) c.decisions_of.ensures
 
-pub allow_told-requires-clause-node : goal.allow_told-requires-clause-node
-allow_told-requires-clause-node g c =
-    let node_is = ap (λ (x : Summed g.row.F.Denot). x.node) c.in_ok-summary.ensures in
-    subst (IsNode c.args.inst.net.now (length c.args.inst.bids.now)) (sym node_is) c.requires.node
-
 pub allow_told-requires-clause-summary : goal.allow_told-requires-clause-summary
 allow_told-requires-clause-summary g c =
     let net = c.args.inst.net.now in
     let node_is = ap (λ (x : Summed g.row.F.Denot). x.node) c.in_ok-summary.ensures in
     c.in_ok-summary.ensures ∙ ap (λ (ds : List Decision). summed c.args.rows.now net c.args.inst.bids.now ds) (sym node_is)
 
-pub allow_told-requires-clause-room : goal.allow_told-requires-clause-room
-allow_told-requires-clause-room g c =
-    let rows = g.F.RowFamily.rows_of c.args.rows.now c.args.inst.net.now in
+pub allow_told-requires-clause-decided : goal.allow_told-requires-clause-decided
+allow_told-requires-clause-decided g c =
+    let net = c.args.inst.net.now in
+    let rows = g.F.RowFamily.rows_of c.args.rows.now net in
     let node_is = ap (λ (x : Summed g.row.F.Denot). x.node) c.in_ok-summary.ensures in
     let numbered = c.tell_moved.new.kept.numbering.rows.items in
-    subst (λ (ds : List Decision). IsRoom rows numbered (yes_load rows c.args.inst.bids.now ds) c.move_room.new.decided.room) (sym node_is) c.in_ok-move_room.ensures.room_is
+    subst (λ (ds : List Decision). IsDecided net rows c.args.inst.bids.now numbered ds c.move_room.new.decided) (sym node_is) c.in_ok-move_room.ensures
 
 pub allow_told-requires-clause-tables : goal.allow_told-requires-clause-tables
 allow_told-requires-clause-tables g c =
@@ -96,7 +124,7 @@ allow_told-requires-clause-others g c =
     let kept = c.tell_moved.new.kept in
     let numbered = kept.numbering.rows.items in
     let groups = kept.columns.groups in
-    let proper = c.track_count.ensures.proper in
+    let proper = c.args.inst.proper in
     let lists = λ (kind : TypeId) (leg : Leg) (usable : IsUsable net kind leg). g.met.F.RowFamily.lists_rows f net kind leg proper usable in
     let moved = c.in_ok-tell_moved.ensures in
     let shared = ap (take k) (sym c.deref.ensures.value) ∙ c.shared_count-count.ensures.shared ∙ ap (take k) c.decisions_of.ensures in
@@ -110,7 +138,7 @@ renew_all-requires-clause-sound g c =
     let f = c.args.rows.now in
     let kept = c.tell_moved.new.kept in
     let s : Setting g.row.F-Row.Denot = setting net (g.F.RowFamily.rows_of f net) (g.F.RowFamily.rows_used f net) c.args.inst.bids.now c.in_ok-summary.summary.node in
-    subst (All IsSound) (sym c.deref-2.ensures.value) (tables_sound s kept.numbering.rows.items kept.columns.groups c.allow_told.new.tables.items c.in_ok-allow_told.ensures.tables)
+    subst (All IsSound) (sym c.deref-3.ensures.value) (tables_sound s kept.numbering.rows.items kept.columns.groups c.allow_told.new.tables.items c.in_ok-allow_told.ensures.tables)
 
 pub renew_all-requires-2-clause-sound : goal.renew_all-requires-2-clause-sound
 renew_all-requires-2-clause-sound g c =
@@ -118,7 +146,7 @@ renew_all-requires-2-clause-sound g c =
     let f = c.args.rows.now in
     let kept = c.tell_moved.new.kept in
     let s : Setting g.row.F-Row.Denot = setting net (g.F.RowFamily.rows_of f net) (g.F.RowFamily.rows_used f net) c.args.inst.bids.now c.in_ok-summary.summary.node in
-    subst (All IsSound) (sym c.deref-4.ensures.value) (tables_sound s kept.numbering.rows.items kept.columns.groups c.allow_told.new.tables.items c.in_ok-allow_told.ensures.tables)
+    subst (All IsSound) (sym c.deref-5.ensures.value) (tables_sound s kept.numbering.rows.items kept.columns.groups c.allow_told.new.tables.items c.in_ok-allow_told.ensures.tables)
 
 pub renew_all-requires-clause-grouped : goal.renew_all-requires-clause-grouped
 renew_all-requires-clause-grouped g c = free_up
@@ -127,7 +155,7 @@ pub renew_all-requires-2-clause-grouped : goal.renew_all-requires-2-clause-group
 renew_all-requires-2-clause-grouped g c =
     let columns = c.tell_moved.new.kept.columns in
     let fits : FitsSigned w64 columns.highest = search rules in
-    subst (λ (most : ℤ). AreUpTo most c.deref-5.result.now) (sym (to_z-of_z w64 columns.highest fits)) (subst (AreUpTo columns.highest) (sym c.deref-5.ensures.value) (columns_up columns.groups columns c.in_ok-tell_moved.ensures.course.is.columns))
+    subst (λ (most : ℤ). AreUpTo most c.deref-6.result.now) (sym (to_z-of_z w64 columns.highest fits)) (subst (AreUpTo columns.highest) (sym c.deref-6.ensures.value) (columns_up columns.groups columns c.in_ok-tell_moved.ensures.course.is.columns))
 
 pub returns : goal.returns
 returns g c =
@@ -143,7 +171,7 @@ returns g c =
     let told = c.in_ok-allow_told.ensures in
     let node_is = ap (λ (x : Summed g.row.F.Denot). x.node) c.in_ok-summary.ensures in
     let tables = c.allow_told.new.tables.items in
-    let zero : AllStand tables [] c.renew_all.new.standings.items = subst (λ (ts : List BidTable). AllStand ts [] c.renew_all.new.standings.items) c.deref-2.ensures.value c.in_ok-renew_all.ensures in
+    let zero : AllStand tables [] c.renew_all.new.standings.items = subst (λ (ts : List BidTable). AllStand ts [] c.renew_all.new.standings.items) c.deref-3.ensures.value c.in_ok-renew_all.ensures in
     let prices = kept.columns.grouped.items in
     let standings = c.renew_all-2.new.standings.items in
     on_ok_weaker c.renew_all-2.result
@@ -157,14 +185,10 @@ returns g c =
         counted = counted_brought kept.columns.groups c.allow_told.new.told.items kept.tables.items tables (paths_in kept.counted.items) kept.levels.uses.items told.brought is.counted;
         columns = is.columns;
         tables = subst (λ (ds : List Decision). AreTables (setting net rows used bids ds) (length bids) numbered kept.columns.groups tables) node_is told.tables;
-        stand = subst (λ (ts : List BidTable). AllStand ts prices standings) c.deref-4.ensures.value (subst (λ (ps : List ℤ). AllStand c.deref-4.result.now ps standings) c.deref-5.ensures.value stands);
+        stand = subst (λ (ts : List BidTable). AllStand ts prices standings) c.deref-5.ensures.value (subst (λ (ps : List ℤ). AllStand c.deref-5.result.now ps standings) c.deref-6.ensures.value stands);
         zero = zero;
         holders = holders_brought c.allow_told.new.told.items kept.tables.items tables kept.holders told.brought is.holders;
-        decided = record {
-          decisions_are = c.in_ok-move_room.ensures.decisions_are;
-          formed = c.requires.node.formed;
-          room_is = subst (λ (ds : List Decision). IsRoom rows numbered (yes_load rows bids ds) c.allow_told.new.room) node_is told.room;
-        };
+        decided = subst (λ (ds : List Decision). IsDecided net rows bids numbered ds c.allow_told.new.decided) node_is told.decided;
       };
       still = course.still;
       grouped = course.grouped;

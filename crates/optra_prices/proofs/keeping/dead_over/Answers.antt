@@ -20,7 +20,7 @@ returns-in_err-bid g c =
     let is = c.requires.kept.is in
     let free = subst (λ (xs : List Standing). IsFirstStuckIn xs None) c.deref.ensures.value c.in_err-bid.ensures in
     subst (λ (result : Option (Dead g.row.F-Row.Denot)). IsDeadAs cmp net rows bids c.args.node.now result) (sym c.from_residual.ensures)
-    (c.in_default.ensures, none_known cmp s c.track_count.ensures.proper c.tests_tell_allowed.ensures c.prices_by_used_rows.ensures kept.numbering.rows.items kept.columns.groups kept.tables.items kept.zero.items is.tables is.zero free)
+    (c.in_default.ensures, none_known cmp s c.args.inst.proper c.tests_tell_allowed.ensures c.prices_by_used_rows.ensures kept.numbering.rows.items kept.columns.groups kept.tables.items kept.zero.items is.tables is.zero free)
 
 pub returns : goal.returns
 returns g c =
@@ -30,4 +30,4 @@ returns g c =
     let kept = c.args.kept.now in
     let is = c.requires.kept.is in
     let first = subst (λ (xs : List Standing). IsFirstStuckIn xs (Some c.in_ok-bid.bid)) c.deref.ensures.value c.in_ok-bid.ensures in
-    (c.in_default.ensures, first_known g.F.Row.Ord.cmp s c.track_count.ensures.proper c.tests_tell_allowed.ensures c.prices_by_used_rows.ensures kept.numbering.rows.items kept.columns.groups kept.tables.items kept.zero.items is.tables is.zero c.in_ok-bid.bid first)
+    (c.in_default.ensures, first_known g.F.Row.Ord.cmp s c.args.inst.proper c.tests_tell_allowed.ensures c.prices_by_used_rows.ensures kept.numbering.rows.items kept.columns.groups kept.tables.items kept.zero.items is.tables is.zero c.in_ok-bid.bid first)

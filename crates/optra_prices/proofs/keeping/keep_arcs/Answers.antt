@@ -16,16 +16,11 @@ use Rattle.optra_prices.proofs.StandLemmas.{copies_stand, stand_free}
 use Rattle.optra_prices.proofs.TableLemmas.{tables_sound}
 use Rattle.optra_prices.proofs.UseLemmas.{none_counted, empty_all}
 use Rattle.optra_node.specs.declared.Decision.{Decision}
-use Rattle.optra_node.specs.Nodes.{IsNode, yes_load}
 use Rattle.optra_node.specs.Summaries.{Summed, summed}
-use Rattle.optra_prices.specs.Rooms.{IsRoom}
+use Rattle.optra_prices.specs.Rooms.{IsDecided}
+use Rattle.optra_prices.proofs.DecidedLemmas.{none_decided}
 use Rattle.optra_prices.proofs.StayLemmas.{all_told}
 use Rattle.optra_prices.proofs.keeping.keep_arcs.Goals as goal
-
-pub allow_told-requires-clause-node : goal.allow_told-requires-clause-node
-allow_told-requires-clause-node g c =
-    let node_is = ap (λ (x : Summed g.row.F.Denot). x.node) c.in_ok-summary.ensures in
-    subst (IsNode c.args.inst.net.now (length c.args.inst.bids.now)) (sym node_is) (c.root-node.ensures.node c.args.inst.net.now (length c.args.inst.bids.now))
 
 pub allow_told-requires-clause-summary : goal.allow_told-requires-clause-summary
 allow_told-requires-clause-summary g c =
@@ -33,11 +28,12 @@ allow_told-requires-clause-summary g c =
     let node_is = ap (λ (x : Summed g.row.F.Denot). x.node) c.in_ok-summary.ensures in
     c.in_ok-summary.ensures ∙ ap (λ (ds : List Decision). summed c.args.rows.now net c.args.inst.bids.now ds) (sym node_is)
 
-pub allow_told-requires-clause-room : goal.allow_told-requires-clause-room
-allow_told-requires-clause-room g c =
-    let rows = g.F.RowFamily.rows_of c.args.rows.now c.args.inst.net.now in
+pub allow_told-requires-clause-decided : goal.allow_told-requires-clause-decided
+allow_told-requires-clause-decided g c =
+    let net = c.args.inst.net.now in
     let node_is = ap (λ (x : Summed g.row.F.Denot). x.node) c.in_ok-summary.ensures in
-    subst (λ (ds : List Decision). IsRoom rows c.in_ok-made.made.numbering.rows.items (yes_load rows c.args.inst.bids.now ds) c.in_ok-room.room) (sym (node_is ∙ c.root-node.ensures.value)) c.in_ok-room.ensures
+    none_decided net (g.F.RowFamily.rows_of c.args.rows.now net) c.args.inst.bids.now c.in_ok-made.made.numbering.rows.items c.in_ok-summary.summary.node
+    (record { decisions = c.new.result; claims = c.new-2.result; room = c.in_ok-empty_room.field-0 }) (node_is ∙ c.root-node.ensures.value) c.new.ensures.items c.new-2.ensures.items c.in_ok-empty_room.ensures
 
 pub allow_told-requires-clause-others : goal.allow_told-requires-clause-others
 allow_told-requires-clause-others g c =
@@ -102,11 +98,7 @@ returns g c =
           stand = stand_free tables columns.grouped.items copies (free_groups columns.groups.starts.items columns.groups.touches.items columns.grouped.items made.columns.count free) (copies_stand tables [] zero copies same stand);
           zero = stand;
           holders = subst (λ (ts : List BidTable). AreHolders ts c.in_ok-holders.holders) c.deref-2.ensures.value c.in_ok-holders.ensures;
-          decided = record {
-            decisions_are = c.new-decisions.ensures.items ∙ sym c.root-node.ensures.value;
-            formed = (c.root-node.ensures.node net (length c.args.inst.bids.now)).formed;
-            room_is = subst (λ (ds : List Decision). IsRoom rows numbered (yes_load rows c.args.inst.bids.now ds) c.allow_told.new.room) node_is c.in_ok-allow_told.ensures.room;
-          };
+          decided = subst (λ (ds : List Decision). IsDecided net rows c.args.inst.bids.now numbered ds c.allow_told.new.decided) node_is c.in_ok-allow_told.ensures.decided;
         };
         still = made.still;
         grouped = λ h l. free h l ∙ sym (free_listed levels.prices.items c.no_levels-levels.result.prices.items c.no_levels-levels.ensures.none.0 wide.prices columns.groups h);

@@ -3,6 +3,7 @@ use Rattle.std.specs.Prelude.{pos}
 use Rattle.std.proofs.lemmas.List.{length-append, length-take}
 use Rattle.std.proofs.lemmas.Option.{slice_get_read}
 use Rattle.optra_prices.specs.Courses.{HaveCapacities}
+use Rattle.optra_prices.specs.Listings.{AddsZeros}
 use Rattle.optra_prices.proofs.ListLemmas.{all_at}
 use Rattle.optra_prices.proofs.ListingLemmas.{capacities_push, adds_zero, no_zeros}
 use Rattle.optra_prices.proofs.NumberLemmas.{take_push}
@@ -11,12 +12,16 @@ use Rattle.optra_prices.proofs.listing.widen.Goals as goal
 pub loop-n-init : goal.loop-n-init
 loop-n-init g c =
     let old = c.args.levels.now in
-    let count : length old.prices.items ≡ c.len-n.result = omega (arith, c.len-n.ensures, old.prices.ok.0) in
+    let now = c.reserve_levels.new.levels in
+    let is = c.in_ok-reserve_levels.ensures in
+    let count : length now.prices.items ≡ c.len-n.result = omega (arith, c.len-n.ensures, now.prices.ok.0) in
+    let was : length old.prices.items ≡ c.len-n.result = ap length (sym is.prices) ∙ count in
     record {
-      levels = c.requires.levels;
-      unused = c.requires.unused;
-      capacities = subst (λ (n : ℕ). HaveCapacities (g.F.RowFamily.rows_of c.args.rows.now c.args.net.now) (take n c.args.numbered.now) old.capacities.items) count c.requires.capacities;
-      prices = no_zeros old.prices.items;
+      levels = is.levels;
+      unused = is.unused;
+      capacities = subst (λ (caps : List ℕ). HaveCapacities (g.F.RowFamily.rows_of c.args.rows.now c.args.net.now) (take c.len-n.result c.args.numbered.now) caps) (sym is.capacities)
+          (subst (λ (n : ℕ). HaveCapacities (g.F.RowFamily.rows_of c.args.rows.now c.args.net.now) (take n c.args.numbered.now) old.capacities.items) was c.requires.capacities);
+      prices = subst (AddsZeros old.prices.items) (sym is.prices) (no_zeros old.prices.items);
       count = count;
     }
 
@@ -28,7 +33,7 @@ push_level-requires-clause-small g c =
     let n = c.loop-n.n in
     let row = c.index-numbered-n.result in
     let at : slice_get numbered n ≡ Some row = slice_get_read numbered (length numbered) n row refl c.loop-n-test.true c.index-numbered-n.is in
-    let fits = g.met.F.RowFamily.capacity_fits f net row c.track_count.ensures.proper (all_at (λ r. (g.F.RowFamily.rows_of f net).is_row r ≡ true) numbered n row c.requires.rows at) in
+    let fits = g.met.F.RowFamily.capacity_fits f net row c.laws.ensures (all_at (λ r. (g.F.RowFamily.rows_of f net).is_row r ≡ true) numbered n row c.requires.rows at) in
     let is = c.cap.ensures in
     omega arith
 

@@ -8,7 +8,7 @@ use Rattle.optra_prices.proofs.tables.term_at.Goals as goal
 pub leg_group-requires-clause-usable : goal.leg_group-requires-clause-usable
 leg_group-requires-clause-usable g c =
     subst (λ kind. IsUsable c.args.net.now kind c.in-Some.leg) (sym c.kind_of.ensures)
-    (arc_usable c.args.net.now c.track_count.ensures.proper c.args.bid.now c.args.graph.now c.requires.graph c.args.k c.in-Some.leg c.requires.within (sym c.leg.ensures ∙ c.in-Some.is))
+    (arc_usable c.args.net.now c.laws.ensures c.args.bid.now c.args.graph.now c.requires.graph c.args.k c.in-Some.leg c.requires.within (sym c.leg.ensures ∙ c.in-Some.is))
 
 pub returns-in_default-clause-term : goal.returns-in_default-clause-term
 returns-in_default-clause-term g c =

@@ -16,7 +16,7 @@ add_legs-requires g c =
     let bid = c.args.bid.now in
     let walk = c.in-Some.walk in
     let is : IsWalk net bid.path walk = MatchOption-at_some _ (λ legs. IsWalk net bid.path legs) walk c.in-Some.is c.requires in
-    let usable = walk_usable net c.track_count.ensures.proper bid walk is in
+    let usable = walk_usable net c.laws.ensures bid walk is in
     subst (λ kind. All (IsUsable net kind) c.legs_of.result.now) (sym c.kind_of.ensures) (subst (All (IsUsable net bid.path.kind)) (sym c.legs_of.ensures) usable)
 
 pub returns-in_default : goal.returns-in_default

@@ -31,7 +31,7 @@ returns-clause-reply g c bid t at graph =
     let m = is.zero.count_is in
     let k : n < length kept.zero.items = omega (arith, m, count, c.requires.number) in
     let standing_at = slice_get_read kept.zero.items (length kept.zero.items) n standing refl k c.index.ensures in
-    let replied = zero_replied g.F.Row.Ord.cmp s c.track_count.ensures.proper c.tests_tell_allowed.ensures c.prices_by_used_rows.ensures kept.numbering.rows.items kept.columns.groups kept.tables.items kept.zero.items is.tables is.zero n graph.0 standing graph.1 standing_at bid at in
+    let replied = zero_replied g.F.Row.Ord.cmp s c.args.inst.proper c.tests_tell_allowed.ensures c.prices_by_used_rows.ensures kept.numbering.rows.items kept.columns.groups kept.tables.items kept.zero.items is.tables is.zero n graph.0 standing graph.1 standing_at bid at in
     subst (λ (t : Timed). IsReply net s.rows s.bids s.node [] n bid (path_reply t c.deref.result.now)) graph.2
     (subst (λ (path : List ℕ). IsReply net s.rows s.bids s.node [] n bid (path_reply graph.0.graph.now path)) (sym c.deref.ensures.value) replied)
 

@@ -27,4 +27,4 @@ returns g c bid at =
     let standing_at = slice_get_read kept.zero.items (length kept.zero.items) n standing refl k c.index.ensures in
     let fits : FitsSigned w128 standing.term = search rules in
     subst (IsTerm net s.rows s.bids s.node [] n bid) (sym (to_z-of_z w128 standing.term fits))
-    (zero_termed g.F.Row.Ord.cmp s c.track_count.ensures.proper c.tests_tell_allowed.ensures c.prices_by_used_rows.ensures kept.numbering.rows.items kept.columns.groups kept.tables.items kept.zero.items is.tables is.zero n table.0 standing table.1 standing_at bid at)
+    (zero_termed g.F.Row.Ord.cmp s c.args.inst.proper c.tests_tell_allowed.ensures c.prices_by_used_rows.ensures kept.numbering.rows.items kept.columns.groups kept.tables.items kept.zero.items is.tables is.zero n table.0 standing table.1 standing_at bid at)

@@ -36,7 +36,7 @@ returns-clause-keeps g c =
     let rows = g.F.RowFamily.rows_of f net in
     let bids = c.args.inst.bids.now in
     let walks = c.in_ok-walks.walks.items in
-    let proper = c.track_count.ensures.proper in
+    let proper = c.args.inst.proper in
     let is = is_repair net rows bids c.args.node.now c.deref.result.now c.args.dual.now c.in_ok-order.order.items walks c.requires.terms c.in_ok-order.ensures c.deref.ensures.value c.in_ok-walks.ensures in
     let fit = repair_fits net rows bids c.args.node.now c.args.dual.now walks is in
     (g.met.F.RowFamily.rule_by_rows f net (entries_of bids walks) proper (choice_usable net proper bids walks fit.is_choice)).1 fit.fits

@@ -32,7 +32,7 @@ returns-clause-worthiest g c =
     let net = c.args.inst.net.now in
     let f = c.args.rows.now in
     let rows = g.F.RowFamily.rows_of f net in
-    let proper = c.track_count.ensures.proper in
+    let proper = c.args.inst.proper in
     let graph = c.graph_of-graph.result.now in
     let path = c.worth_path.new.buffers in
     IfOk-weaker c.worth_path.result _ _

@@ -16,7 +16,7 @@ pub leg_ok-requires-clause-leg : goal.leg_ok-requires-clause-leg
 leg_ok-requires-clause-leg g c =
     let net = c.args.inst.net.now in
     let b = some_there (λ (b : Bid). IsGraphOf net b.path c.args.graph.now) c.args.inst.bids.now c.args.bid c.requires.graph in
-    arc_formed net c.track_count.ensures.proper (g.F.RowFamily.rows_of c.args.rows.now net) c.args.inst.bids.now c.args.bid b.0 b.1 c.args.graph.now b.2 c.args.arc c.in-Some.leg c.requires.arc (sym c.leg.ensures ∙ c.in-Some.is)
+    arc_formed net c.args.inst.proper (g.F.RowFamily.rows_of c.args.rows.now net) c.args.inst.bids.now c.args.bid b.0 b.1 c.args.graph.now b.2 c.args.arc c.in-Some.leg c.requires.arc (sym c.leg.ensures ∙ c.in-Some.is)
 
 pub start_ok-allowed-requires-clause-bid : goal.start_ok-allowed-requires-clause-bid
 start_ok-allowed-requires-clause-bid g c =

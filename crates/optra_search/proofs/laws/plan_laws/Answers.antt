@@ -9,7 +9,7 @@ pub returns : goal.returns
 returns g c =
     let net = c.args.inst.net.now in
     let bids = c.args.inst.bids.now in
-    let proper = c.track_count.ensures.proper in
+    let proper = c.args.inst.proper in
     let rows = g.F.RowFamily.rows_of c.args.rows.now net in
     let cmp = g.F.Row.Ord.cmp in
     let total = g.met.F.Row.Ord.total in

@@ -8,7 +8,7 @@ use Rattle.optra_search.proofs.splitting.crowding_leg.Goals as goal
 pub overflow_cast-bid : goal.overflow_cast-bid
 overflow_cast-bid g c =
     let long = choice_long c.args.inst.net.now c.args.inst.bids.now c.args.replies.now c.requires.replies in
-    let few = c.requires.instance.few in
+    let few = c.args.inst.few in
     let l = c.replies-test.true in
     omega arith
 
@@ -18,7 +18,7 @@ crowding_in-requires g c =
     let l = c.replies-test.true in
     record {
       bid = omega arith;
-      usable = reply_usable c.args.inst.net.now c.track_count.ensures.proper c.args.inst.bids.now c.args.replies.now c.replies.i c.index-replies-i.result c.requires.replies l c.index-replies-i.is;
+      usable = reply_usable c.args.inst.net.now c.args.inst.proper c.args.inst.bids.now c.args.replies.now c.replies.i c.index-replies-i.result c.requires.replies l c.index-replies-i.is;
     }
 
 pub replies-preserved : goal.replies-preserved

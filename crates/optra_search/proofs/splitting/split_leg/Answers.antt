@@ -7,7 +7,7 @@ use Rattle.optra_search.proofs.splitting.split_leg.Goals as goal
 pub free_split-requires-clause-few : goal.free_split-requires-clause-few
 free_split-requires-clause-few g c =
     let long = choice_long c.args.inst.net.now c.args.inst.bids.now c.args.replies.now c.requires.replies in
-    let few = c.requires.instance.few in
+    let few = c.args.inst.few in
     omega arith
 
 pub returns-in-Some : goal.returns-in-Some

@@ -17,7 +17,7 @@ bring_to-requires-clause-node g c =
     let s = parts_of c.args.search in
     let node = c.enter.new.node in
     let is = entered_top g.F.Row.Ord.cmp net rows c.args.inst.bids.now c.args.limits.steps c.args.limits.budget s c.args.top node c.requires.reached c.in_ok-enter.ensures c.requires.below in
-    entered_node g.F.Row.Ord.cmp net c.track_count.ensures.proper rows c.args.inst.bids.now c.args.limits.steps c.args.limits.budget c.args.top.start (record s { node = node }) is
+    entered_node g.F.Row.Ord.cmp net c.args.inst.proper rows c.args.inst.bids.now c.args.limits.steps c.args.limits.budget c.args.top.start (record s { node = node }) is
 
 pub dead_over-requires-clause-node : goal.dead_over-requires-clause-node
 dead_over-requires-clause-node g c =
@@ -26,7 +26,7 @@ dead_over-requires-clause-node g c =
     let s = parts_of c.args.search in
     let node = c.enter.new.node in
     let is = entered_top g.F.Row.Ord.cmp net rows c.args.inst.bids.now c.args.limits.steps c.args.limits.budget s c.args.top node c.requires.reached c.in_ok-enter.ensures c.requires.below in
-    entered_node g.F.Row.Ord.cmp net c.track_count.ensures.proper rows c.args.inst.bids.now c.args.limits.steps c.args.limits.budget c.args.top.start (record s { node = node }) is
+    entered_node g.F.Row.Ord.cmp net c.args.inst.proper rows c.args.inst.bids.now c.args.limits.steps c.args.limits.budget c.args.top.start (record s { node = node }) is
 
 pub returns-in_ok-after-in-Some-clause-reached : goal.returns-in_ok-after-in-Some-clause-reached
 returns-in_ok-after-in-Some-clause-reached g c =
@@ -35,5 +35,5 @@ returns-in_ok-after-in-Some-clause-reached g c =
     let s = parts_of c.args.search in
     let node = c.enter.new.node in
     let is = entered_top g.F.Row.Ord.cmp net rows c.args.inst.bids.now c.args.limits.steps c.args.limits.budget s c.args.top node c.requires.reached c.in_ok-enter.ensures c.requires.below in
-    let next = dead_next g.F.Row.Ord.cmp net c.track_count.ensures.proper rows c.args.inst.bids.now c.args.limits.steps c.args.limits.budget c.args.top.start (record s { node = node }) is c.in-Some.reason (rw c.in-Some.is at c.dead_over.ensures) in
+    let next = dead_next g.F.Row.Ord.cmp net c.args.inst.proper rows c.args.inst.bids.now c.args.limits.steps c.args.limits.budget c.args.top.start (record s { node = node }) is c.in-Some.reason (rw c.in-Some.is at c.dead_over.ensures) in
     subst (IsReached g.F.Row.Ord.cmp net rows c.args.inst.bids.now c.args.limits.steps c.args.limits.budget) (sym c.in_ok-after-in-Some.ensures) next

@@ -1,0 +1,10 @@
+use Rattle.std.proofs.Common.{◌≡◌, take}
+use Rattle.optra_prices.specs.Claims.{claim_uses}
+use Rattle.optra_prices.specs.Uses.{AddsUses}
+use Rattle.optra_prices.proofs.claims.add_claims.Given as goal
+
+abbrev pub invariant-loop-claim : goal.invariant-loop-claim
+invariant-loop-claim l = record {
+  uses : AddsUses (claim_uses (take l.claim-index l.claims)) l.fn.room.uses.items l.room.uses.items;
+  capacities : l.room.capacities ≡ l.fn.room.capacities;
+}

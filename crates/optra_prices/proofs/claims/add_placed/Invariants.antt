@@ -1,0 +1,10 @@
+use Rattle.std.proofs.Common.{◌≡◌, take}
+use Rattle.optra_prices.specs.Claims.{placed_uses}
+use Rattle.optra_prices.specs.Uses.{AddsUses}
+use Rattle.optra_prices.proofs.claims.add_placed.Given as goal
+
+abbrev pub invariant-loop-place : goal.invariant-loop-place
+invariant-loop-place l = record {
+  uses : AddsUses (placed_uses l.claims (take l.place-index l.places)) l.fn.room.uses.items l.room.uses.items;
+  capacities : l.room.capacities ≡ l.fn.room.capacities;
+}

@@ -1,5 +1,0 @@
-use Rattle.optra_prices.proofs.PutLemmas.{touch_takes}
-use Rattle.optra_prices.proofs.putting.take_touch.Goals as goal
-
-pub returns-clause-uses : goal.returns-clause-uses
-returns-clause-uses c = touch_takes c.args.touch c.args.room.now.uses.items c.take_use.new.uses.items c.take_use.ensures
