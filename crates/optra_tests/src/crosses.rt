@@ -13,6 +13,7 @@ const IC: TypeId = TypeId(0);
 fn touched(rt: &impl Abort, net: &Network, track: u16, depart: u16, k: u32) -> Option<CRow> {
     assert!(rt; depart <= 2879);
     assert!(rt; net.run(TrackId(track), IC, false, false).is_some());
+    net.laws();
     let leg = Leg {
         track: TrackId(track),
         depart,

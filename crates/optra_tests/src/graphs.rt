@@ -1,7 +1,6 @@
 //! Graphs of bids: their arcs counted by hand, and their first walks.
 ghost use Rattle.std.specs.Prelude.{◌≡◌, All};
 ghost use Rattle.optra_bid.specs.Specs.{IsPathOn};
-ghost use Rattle.optra_bid.specs.Instances.{IsInstance};
 
 use crate::instances::{Check, PLAIN, Rows, check_read};
 use optra_bid::Bid;

@@ -120,8 +120,7 @@ fn bids(alloc: Global, net: &Network, rows: &Rows) -> Result<Vec<Bid>, ReadError
 /// A function that owns a network is dear to prove, and the dearer the more it does. So one function owns each that is
 /// read, and lends it to a check.
 pub trait Check {
-    fn check<R: Abort + AllocGlobal>(&self, rt: &R, inst: Instance<'_>) -> Result<(), Fail>
-        requires { IsInstance inst.net.now inst.bids.now };
+    fn check<R: Abort + AllocGlobal>(&self, rt: &R, inst: Instance<'_>) -> Result<(), Fail>;
 }
 
 /// Checks a network and the bids that the tables mean on it.
@@ -132,7 +131,7 @@ fn check_bids<C: Check>(
     check: &C,
 ) -> Result<(), Fail> {
     let bids = bids(rt.alloc(), net, rows)?;
-    check.check(rt, Instance { net, bids: &bids })
+    check.check(rt, Instance::new(net, &bids))
 }
 
 /// Checks what the tables mean.

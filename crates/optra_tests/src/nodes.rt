@@ -4,7 +4,6 @@
 //! and each other 1 minute after the one before. There are three bids: x1 departs at minute 0, y1 at 3 and z1 at 6. Every
 //! two of these use a pair row together, and no two a window minute.
 ghost use Rattle.std.specs.Prelude.{◌≡◌, IfOk, length};
-ghost use Rattle.optra_bid.specs.Instances.{IsInstance};
 ghost use Rattle.optra_node.specs.Nodes.{IsNode};
 
 use crate::decisions::At::{Halt, Out, Pass, Stop, Through};
@@ -385,7 +384,6 @@ fn a_leg_is_let_where_no_decision_is_against_it(rt: HostRuntime) -> Result<(), F
 
 /// Why the node is dead.
 fn reason(alloc: Global, inst: Instance<'_>, node: &Node) -> Result<Option<Dead<HRow>>, NoMemory>
-    requires instance { IsInstance inst.net.now inst.bids.now }
     requires node { IsNode inst.net.now (length inst.bids.now) node.now }
 {
     let mut graphs = FreshGraphs::new(inst.net);
@@ -405,9 +403,7 @@ fn check_dead(
     rt: &(impl Abort + AllocGlobal),
     inst: Instance<'_>,
     case: &DeadCase,
-) -> Result<(), NoMemory>
-    requires { IsInstance inst.net.now inst.bids.now }
-{
+) -> Result<(), NoMemory> {
     let node = node_of(rt, inst, case.decisions)?;
     let overfull = node.overfull(inst, &HeadwayRows::new());
     assert_eq!(rt; overfull, forced_row(case.dead), "{}", case.name);

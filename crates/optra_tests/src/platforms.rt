@@ -22,7 +22,9 @@ fn dwell(action: Action) -> u16
 }
 
 fn leg(track: u16, depart: u16, action: Action) -> Leg
-    ensures { result ≡ record { track = record { 0 = track }; depart = depart; from_halt = true; action = action } }
+    ensures { result
+        ≡ record
+        { track = record { 0 = track }; depart = depart; from_halt = true; action = action } }
 {
     Leg {
         track: TrackId(track),
@@ -44,6 +46,7 @@ fn touched(
     assert!(rt; depart <= 2879);
     assert!(rt; dwell(action) <= 240);
     assert!(rt; net.run(TrackId(track), IC, false, false).is_some());
+    net.laws();
     PlatformRows::new().touched(net, IC, leg(track, depart, action), k)
 }
 
@@ -92,6 +95,7 @@ fn used(rt: &impl Abort, net: &Network, station: u16, minute: u16) -> u32 {
     let action = Action::Halt(5);
     assert!(rt; dwell(action) <= 240);
     assert!(rt; net.run(TrackId(0), IC, false, false).is_some());
+    net.laws();
     let row = PRow {
         station: StationId(station),
         minute,

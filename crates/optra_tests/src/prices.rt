@@ -1,7 +1,6 @@
 //! Dual values, price steps and the price path at two bids for one track, worked by hand. A train uses the five minutes from
 //! its departure on, so both bids of one minute pay five times the price of a minute, and only one of them can run.
 ghost use Rattle.std.specs.Prelude.{◌≡◌, [], IfOk, All, Contains, length};
-ghost use Rattle.optra_bid.specs.Instances.{IsInstance};
 ghost use Rattle.optra_node.specs.Nodes.{IsNode};
 ghost use Rattle.optra_prices.specs.Steps.{AreProper};
 ghost use Rattle.optra_rows.specs.Headways.{headway_rows};
@@ -172,7 +171,6 @@ fn check_node<G: Graphs>(
     node: &Node,
     case: &Case,
 ) -> Result<(), NoMemory>
-    requires instance { IsInstance inst.net.now inst.bids.now }
     requires node { IsNode inst.net.now (length inst.bids.now) node.now }
     requires network { G.network graphs.now ≡ inst.net.now }
     requires held { All (λ bid. Contains (G.held graphs.now) bid.path) inst.bids.now }
@@ -192,7 +190,6 @@ fn check_case<G: Graphs>(
     graphs: &G,
     case: &Case,
 ) -> Result<(), NoMemory>
-    requires instance { IsInstance inst.net.now inst.bids.now }
     requires network { G.network graphs.now ≡ inst.net.now }
     requires held { All (λ bid. Contains (G.held graphs.now) bid.path) inst.bids.now }
 {
@@ -206,7 +203,6 @@ fn check_all<G: Graphs>(
     graphs: &G,
     cases: &[Case],
 ) -> Result<(), NoMemory>
-    requires instance { IsInstance inst.net.now inst.bids.now }
     requires network { G.network graphs.now ≡ inst.net.now }
     requires held { All (λ bid. Contains (G.held graphs.now) bid.path) inst.bids.now }
 {
@@ -220,9 +216,7 @@ fn check_on_graphs(
     rt: &(impl Abort + AllocGlobal),
     inst: Instance<'_>,
     cases: &[Case],
-) -> Result<(), NoMemory>
-    requires { IsInstance inst.net.now inst.bids.now }
-{
+) -> Result<(), NoMemory> {
     let mut graphs = FreshGraphs::new(inst.net);
     graphs.prepare(rt.alloc(), inst.bids)?;
     check_all(rt, inst, &graphs, cases)?;
@@ -262,7 +256,6 @@ fn stepped<G: Graphs>(
     prices: &Prices<HRow>,
     k: u32,
 ) -> Result<Prices<HRow>, NoMemory>
-    requires instance { IsInstance inst.net.now inst.bids.now }
     requires node { IsNode inst.net.now (length inst.bids.now) node.now }
     requires network { G.network graphs.now ≡ inst.net.now }
     requires held { All (λ bid. Contains (G.held graphs.now) bid.path) inst.bids.now }
@@ -293,7 +286,6 @@ fn check_last<G: Graphs>(
     node: &Node,
     prices: &Prices<HRow>,
 ) -> Result<(), NoMemory>
-    requires instance { IsInstance inst.net.now inst.bids.now }
     requires node { IsNode inst.net.now (length inst.bids.now) node.now }
     requires network { G.network graphs.now ≡ inst.net.now }
     requires held { All (λ bid. Contains (G.held graphs.now) bid.path) inst.bids.now }
@@ -310,7 +302,6 @@ fn check_steps<G: Graphs>(
     inst: Instance<'_>,
     graphs: &G,
 ) -> Result<(), NoMemory>
-    requires instance { IsInstance inst.net.now inst.bids.now }
     requires network { G.network graphs.now ≡ inst.net.now }
     requires held { All (λ bid. Contains (G.held graphs.now) bid.path) inst.bids.now }
 {
@@ -332,7 +323,6 @@ fn check_result<G: Graphs>(
     incumbent: Cents,
     want: i64,
 ) -> Result<(), NoMemory>
-    requires instance { IsInstance inst.net.now inst.bids.now }
     requires network { G.network graphs.now ≡ inst.net.now }
     requires held { All (λ bid. Contains (G.held graphs.now) bid.path) inst.bids.now }
 {
@@ -352,7 +342,6 @@ fn check_path<G: Graphs>(
     inst: Instance<'_>,
     graphs: &G,
 ) -> Result<(), NoMemory>
-    requires instance { IsInstance inst.net.now inst.bids.now }
     requires network { G.network graphs.now ≡ inst.net.now }
     requires held { All (λ bid. Contains (G.held graphs.now) bid.path) inst.bids.now }
 {
@@ -362,9 +351,10 @@ fn check_path<G: Graphs>(
     Ok(())
 }
 
-fn check_path_on_graphs(rt: &(impl Abort + AllocGlobal), inst: Instance<'_>) -> Result<(), NoMemory>
-    requires { IsInstance inst.net.now inst.bids.now }
-{
+fn check_path_on_graphs(
+    rt: &(impl Abort + AllocGlobal),
+    inst: Instance<'_>,
+) -> Result<(), NoMemory> {
     let mut graphs = FreshGraphs::new(inst.net);
     graphs.prepare(rt.alloc(), inst.bids)?;
     check_path(rt, inst, &graphs)?;

@@ -1,7 +1,6 @@
 //! Repairs on a track and one back, worked by hand: who is taken first, who departs later or not at all, and that a walk that
 //! doesn't fit as a whole leaves nothing behind.
 ghost use Rattle.std.specs.Prelude.{◌≡◌, ◌≤◌, All, Contains, IfOk, length};
-ghost use Rattle.optra_bid.specs.Instances.{IsInstance};
 ghost use Rattle.optra_walk.specs.Choices.{IsChoice};
 ghost use Rattle.optra_node.specs.Nodes.{IsNode};
 ghost use Rattle.optra_prices.specs.Repairs.{IsRepair};
@@ -103,7 +102,6 @@ fn repaired<'n, P: Repairer<HeadwayRows, FreshGraphs<'n>>>(
     repairer: &P,
     dual: &Dual,
 ) -> Result<Choice, NoMemory>
-    requires instance { IsInstance inst.net.now inst.bids.now }
     requires terms { length dual.now.terms ≡ length inst.bids.now }
     requires replies { IsChoice inst.net.now inst.bids.now dual.now.replies }
 {
@@ -131,9 +129,7 @@ fn check_on(
     inst: Instance<'_>,
     terms: &[Option<i64>],
     want: &[Option<Minute>],
-) -> Result<(), NoMemory>
-    requires { IsInstance inst.net.now inst.bids.now }
-{
+) -> Result<(), NoMemory> {
     let alloc = rt.alloc();
     let dual = dual(alloc, inst.bids, terms)?;
     assert!(rt; dual.terms.len() == inst.bids.len());

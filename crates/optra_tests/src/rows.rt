@@ -47,12 +47,14 @@ fn leg(depart: u16) -> Leg
 fn touched(rt: &impl Abort, net: &Network, kind: TypeId, depart: u16, k: u32) -> Option<HRow> {
     assert!(rt; depart <= 2879);
     assert!(rt; net.run(AB, kind, false, false).is_some());
+    net.laws();
     HeadwayRows::new().touched(net, kind, leg(depart), k)
 }
 
 fn used(rt: &impl Abort, net: &Network, kind: TypeId, depart: u16, row: HRow) -> u32 {
     assert!(rt; depart <= 2879);
     assert!(rt; net.run(AB, kind, false, false).is_some());
+    net.laws();
     HeadwayRows::new().leg_use(net, kind, leg(depart), row)
 }
 
@@ -207,7 +209,9 @@ fn share(rt: &impl Abort, net: &Network, depart: u16) -> bool {
 /// Whether x at 100 and y at a minute are in conflict.
 fn meet(rt: &impl Abort, net: &Network, depart: u16) -> bool {
     assert!(rt; net.run(AB, X, false, false).is_some());
+    net.laws();
     assert!(rt; net.run(AB, Y, false, false).is_some());
+    net.laws();
     let x = TrackUse {
         track: AB,
         kind: X,
@@ -253,14 +257,17 @@ fn fits(
 ) -> bool {
     assert!(rt; depart <= 2879);
     assert!(rt; net.run(AB, kind, false, false).is_some());
+    net.laws();
     load.fits(net, &HeadwayRows::new(), kind, leg(depart))
 }
 
 /// A load of x at 0 alone.
 fn loaded(rt: &impl Abort, alloc: Global, net: &Network) -> Result<Load<HeadwayRows>, NoMemory>
-    ensures { IfOk result (λ load. (row : HRow) → total_of row_cmp load.totals row ≡ use_in net.now X AB 0 row) }
+    ensures { IfOk result (λ load. (row : HRow) → total_of row_cmp load.totals row
+        ≡ use_in net.now X AB 0 row) }
 {
     assert!(rt; net.run(AB, X, false, false).is_some());
+    net.laws();
     let mut load = Load::new(alloc);
     load.add(net, &HeadwayRows::new(), X, leg(0))?;
     Ok(load)
@@ -271,6 +278,7 @@ fn unload(rt: &impl Abort, net: &Network, load: &mut Load<HeadwayRows>)
     requires { (row : HRow) → total_of row_cmp load.old.totals row ≡ use_in net.now X AB 0 row }
 {
     assert!(rt; net.run(AB, X, false, false).is_some());
+    net.laws();
     load.take(net, &HeadwayRows::new(), X, leg(0));
 }
 
@@ -301,6 +309,7 @@ fn doubled() -> Both<HeadwayRows, HeadwayRows> {
 /// The row of both families at a place of those that x uses which departs at 0.
 fn touched_of_both(rt: &impl Abort, net: &Network, k: u32) -> Option<Either<HRow, HRow>> {
     assert!(rt; net.run(AB, X, false, false).is_some());
+    net.laws();
     doubled().touched(net, X, leg(0), k)
 }
 
@@ -344,6 +353,7 @@ fn alike<F: RowFamily>(rt: &impl Abort, net: &Network, rows: &F, first: u16, sec
     assert!(rt; first <= 2879);
     assert!(rt; second <= 2879);
     assert!(rt; net.run(AB, X, false, false).is_some());
+    net.laws();
     rows.use_alike(net, X, leg(first), passing(second))
 }
 

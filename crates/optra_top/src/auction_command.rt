@@ -58,7 +58,8 @@ pub fn next_auction_file(
 
 /// A table's file of this name.
 fn asked(alloc: Global, table: Table, name: &str) -> Result<Option<Asked>, AllocError>
-    ensures { IfOk result (λ next. option_map file_asked next ≡ Some (record { role = table_role table; name = name.now })) }
+    ensures { IfOk result (λ next. option_map file_asked next
+        ≡ Some (record { role = table_role table; name = name.now })) }
 {
     let name = String::from_str(alloc, name)?;
     let role = Role::Table(table);
@@ -78,9 +79,10 @@ pub struct AuctionTables {
 /// Reads the tables, plays the auction with one graph for each path specification, and puts the files of each round where a
 /// prefix is given. It errs exactly where the tables are refused, or by want of memory.
 pub fn reply(alloc: Global, files: &[Got], certs: &Option<PathText>) -> Result<Answer, Fault>
-    ensures ok { IfOk result (λ answer. AuctionReplies certs.now (files_got files.now) (reply_of answer)) }
-    ensures fault { IfErr result (λ fault.
-        EndsReply (λ reply. AuctionReplies certs.now (files_got files.now) reply) fault) }
+    ensures ok { IfOk result (λ answer. AuctionReplies certs.now (files_got files.now)
+        (reply_of answer)) }
+    ensures fault { IfErr result (λ fault. EndsReply (λ reply. AuctionReplies certs.now
+        (files_got files.now) reply) fault) }
 {
     let tables = read_auction(alloc, files)?;
     let AuctionTables {
@@ -111,9 +113,9 @@ fn play_by(
     requires rules { AreRules rules }
     requires actions { AreActions actions.items }
     requires alone { version ≡ Version.First → HasHeadwaysAlone net.now }
-    ensures { IfOk result (λ answer. OfVersion version net.entry.now (λ R family Keeps.
-        IsPlayedOut family Keeps net.entry.now certs.now specs.items rules actions.items
-        answer.status answer.text.items (texts_of answer.puts.items))) }
+    ensures { IfOk result (λ answer. OfVersion version net.entry.now (λ R family Keeps. IsPlayedOut
+        family Keeps net.entry.now certs.now specs.items rules actions.items answer.status
+        answer.text.items (texts_of answer.puts.items))) }
 {
     match version {
         Version::First => {
@@ -129,7 +131,7 @@ fn play_by(
             )
         }
         Version::Second => {
-            let _ = net.track_count();
+            net.laws();
             all_rows_are_told(net);
             play(alloc, net, &all_rows(), specs, rules, actions, certs)
         }
@@ -140,10 +142,12 @@ fn play_by(
 fn read_auction(alloc: Global, files: &[Got]) -> Result<AuctionTables, ReadError>
     ensures read { Gives auction_seen result (auction_of (files_got files.now)) }
     ensures specs { IfOk result (λ tables. AreSpecs tables.specs.items) }
-    ensures paths { IfOk result (λ tables. All (λ spec. IsPathOn tables.net spec.path) tables.specs.items) }
+    ensures paths { IfOk result (λ tables. All (λ spec. IsPathOn tables.net spec.path)
+        tables.specs.items) }
     ensures rules { IfOk result (λ tables. AreRules tables.rules) }
     ensures actions { IfOk result (λ tables. AreActions tables.actions.items) }
-    ensures alone { IfOk result (λ tables. tables.version ≡ Version.First → HasHeadwaysAlone tables.net) }
+    ensures alone { IfOk result (λ tables. tables.version ≡ Version.First
+        → HasHeadwaysAlone tables.net) }
 {
     let tables = read_tables(alloc, files)?;
     let rules_text = table_content(files, Table::Rules);

@@ -40,8 +40,8 @@ pub fn next_check_file(
     cert: &str,
     got: &[Got],
 ) -> Result<Option<Asked>, AllocError>
-    ensures next { IfOk result (λ next.
-        option_map file_asked next ≡ next_check_file net.now bids.now stops.now cert.now (files_got got.now)) }
+    ensures next { IfOk result (λ next. option_map file_asked next
+        ≡ next_check_file net.now bids.now stops.now cert.now (files_got got.now)) }
     ensures few { IfOk result (λ next. IfSome next (λ _. length got.now ≤ MOST_TABLES)) }
 {
     if got.len() == version_in(alloc, got)?.table_count() {
@@ -56,8 +56,8 @@ pub fn next_check_file(
 /// memory: a certificate that can't be read or isn't valid is answered.
 pub fn reply(alloc: Global, files: &[Got]) -> Result<Answer, Fault>
     ensures ok { IfOk result (λ answer. CheckReplies (files_got files.now) (reply_of answer)) }
-    ensures fault { IfErr result (λ fault.
-        EndsReply (λ reply. CheckReplies (files_got files.now) reply) fault) }
+    ensures fault { IfErr result (λ fault. EndsReply (λ reply. CheckReplies (files_got files.now)
+        reply) fault) }
 {
     let tables = read_tables(alloc, files)?;
     let Ok(answer) = answer_to(alloc, &tables, content_of(files, Role::Certificate)) else {
@@ -73,6 +73,7 @@ fn answer_to(alloc: Global, tables: &Tables, bytes: &[u8]) -> Result<Answer, NoM
     ensures { IfOk result (λ answer. PrintsTablesVerdict bytes.now (tables_seen tables.now)
         answer.status answer.text.items (texts_of answer.puts.items)) }
 {
+    tables.net.laws();
     let inst = Instance {
         net: &tables.net,
         bids: &tables.bids,
@@ -98,16 +99,12 @@ fn answer_by<F: RowText>(
     rows: &F,
     bytes: &[u8],
 ) -> Result<Answer, NoMemory>
-    requires instance { IsInstance inst.net.now inst.bids.now }
     requires rule { TellsConflicts inst.net.now inst.bids.now (F.KeepsRule rows.now inst.net.now) }
     requires apart { AreApart (F.texts_of rows.now).kinds }
-    ensures { IfOk result (λ answer. let net = inst.entry.net.now in
-        PrintsVerdict (record {
-          cmp = F.Row.cmp;
-          rows = F.rows_of rows.now net;
-          texts = F.texts_of rows.now;
-        }) (F.KeepsRule rows.now net) bytes.now net (map parts_of inst.entry.bids.now)
-        answer.status answer.text.items (texts_of answer.puts.items)) }
+    ensures { IfOk result (λ answer. let net = inst.entry.net.now in PrintsVerdict
+        (record { cmp = F.Row.cmp; rows = F.rows_of rows.now net; texts = F.texts_of rows.now })
+        (F.KeepsRule rows.now net) bytes.now net (map parts_of inst.entry.bids.now) answer.status
+        answer.text.items (texts_of answer.puts.items)) }
 {
     let view = verdict_on(alloc, inst, rows, bytes)?;
     let text = verdict_text(alloc, view)?;
@@ -123,15 +120,11 @@ pub fn verdict_on<F: RowText>(
     rows: &F,
     bytes: &[u8],
 ) -> Result<VerdictView, NoMemory>
-    requires instance { IsInstance inst.net.now inst.bids.now }
     requires rule { TellsConflicts inst.net.now inst.bids.now (F.KeepsRule rows.now inst.net.now) }
     requires apart { AreApart (F.texts_of rows.now).kinds }
-    ensures { IfOk result (λ view. let net = inst.entry.net.now in
-        IsVerdictOn (record {
-          cmp = F.Row.cmp;
-          rows = F.rows_of rows.now net;
-          texts = F.texts_of rows.now;
-        }) (F.KeepsRule rows.now net) net inst.entry.bids.now bytes.now view) }
+    ensures { IfOk result (λ view. let net = inst.entry.net.now in IsVerdictOn
+        (record { cmp = F.Row.cmp; rows = F.rows_of rows.now net; texts = F.texts_of rows.now })
+        (F.KeepsRule rows.now net) net inst.entry.bids.now bytes.now view) }
 {
     let cert = match read_certificate(alloc, inst, rows, bytes) {
         Ok(cert) => cert,

@@ -22,8 +22,8 @@ pub const MOST_FILES: usize = 16;
 
 /// The file that the command gets after these, or `None` once it has got all.
 pub fn next_file(alloc: Global, command: &Words, got: &[Got]) -> Result<Option<Asked>, AllocError>
-    ensures next { IfOk result (λ next.
-        option_map file_asked next ≡ next_file command.now (files_got got.now)) }
+    ensures next { IfOk result (λ next. option_map file_asked next
+        ≡ next_file command.now (files_got got.now)) }
     ensures few { IfOk result (λ next. IfSome next (λ _. length got.now < MOST_FILES)) }
 {
     match command {

@@ -46,6 +46,7 @@ pub fn reply(alloc: Global, seed: u32, size: u8) -> Result<Answer, Fault>
     let Ok(tables) = read_demo(alloc, seed, size) else {
         return Err(Fault::NoMemory);
     };
+    tables.net.laws();
     let inst = Instance {
         net: &tables.net,
         bids: &tables.bids,
@@ -101,10 +102,10 @@ fn read_made_net(alloc: Global, made: &DemoTables) -> Result<Network, ReadError>
 
 /// Plans the bids on their network, checks the plan's certificate as it is written, and prints how both ended.
 fn answer(alloc: Global, seed: u32, size: u8, inst: Instance<'_>) -> Result<Answer, NoMemory>
-    requires instance { IsInstance inst.net.now inst.bids.now }
     requires alone { HasHeadwaysAlone inst.net.now }
-    ensures { IfOk result (λ answer. PrintsHeadwayDemo seed size (tables_of Version.First inst.entry.net.now inst.entry.bids.now)
-        answer.status answer.text.items (texts_of answer.puts.items)) }
+    ensures { IfOk result (λ answer. PrintsHeadwayDemo seed size
+        (tables_of Version.First inst.entry.net.now inst.entry.bids.now) answer.status
+        answer.text.items (texts_of answer.puts.items)) }
 {
     let rows = HeadwayRows::new();
     headways_tell_conflicts(inst);

@@ -40,21 +40,21 @@ pub fn run<S: Shelf, O: Pen, E: Pen, D: Disk>(
     disk: &mut D,
 ) -> u8
     // What each status says of the command, of the shelf, of the output and of the error line.
-    ensures ends { Ends (asked words.now)
-        (outside_of (S.state shelf.old) (O.state out.old) (E.state err.old) (D.state disk.old))
-        (outside_of (S.state shelf.new) (O.state out.new) (E.state err.new) (D.state disk.new)) result }
+    ensures ends { Ends (asked words.now) (outside_of (S.state shelf.old) (O.state out.old)
+        (E.state err.old) (D.state disk.old)) (outside_of (S.state shelf.new) (O.state out.new)
+        (E.state err.new) (D.state disk.new)) result }
 
     // Words of no form, refused contents and valid input are answered as such.
-    ensures completes { Completes (asked words.now)
-        (outside_of (S.state shelf.old) (O.state out.old) (E.state err.old) (D.state disk.old))
-        (outside_of (S.state shelf.new) (O.state out.new) (E.state err.new) (D.state disk.new)) result }
+    ensures completes { Completes (asked words.now) (outside_of (S.state shelf.old)
+        (O.state out.old) (E.state err.old) (D.state disk.old)) (outside_of (S.state shelf.new)
+        (O.state out.new) (E.state err.new) (D.state disk.new)) result }
 
     // A disk is left as it was, its count included, unless the command calls it.
-    ensures disk { IfSome (asked words.now) (λ command. ¬ (UsesDisk command))
-        → D.state disk.new ≡ D.state disk.old }
+    ensures disk { IfSome (asked words.now) (λ command. ¬ (UsesDisk command)) → D.state disk.new
+        ≡ D.state disk.old }
 
-    ensures statuses { IsFaultStatus result
-        ⊎ IsSomeAnd (asked words.now) (λ command. IsDoneStatus command result) }
+    ensures statuses { IsFaultStatus result ⊎ IsSomeAnd (asked words.now) (λ command. IsDoneStatus
+        command result) }
 {
     match read_words(alloc, words) {
         Ok(command) => carry_out(alloc, &command, shelf, out, err, disk),
@@ -76,12 +76,12 @@ fn carry_out<S: Shelf, O: Pen, E: Pen, D: Disk>(
     disk: &mut D,
 ) -> u8
     requires { HasBudget command.now }
-    ensures ends { Ends (Some command.now)
-        (outside_of (S.state shelf.old) (O.state out.old) (E.state err.old) (D.state disk.old))
-        (outside_of (S.state shelf.new) (O.state out.new) (E.state err.new) (D.state disk.new)) result }
-    ensures completes { Completes (Some command.now)
-        (outside_of (S.state shelf.old) (O.state out.old) (E.state err.old) (D.state disk.old))
-        (outside_of (S.state shelf.new) (O.state out.new) (E.state err.new) (D.state disk.new)) result }
+    ensures ends { Ends (Some command.now) (outside_of (S.state shelf.old) (O.state out.old)
+        (E.state err.old) (D.state disk.old)) (outside_of (S.state shelf.new) (O.state out.new)
+        (E.state err.new) (D.state disk.new)) result }
+    ensures completes { Completes (Some command.now) (outside_of (S.state shelf.old)
+        (O.state out.old) (E.state err.old) (D.state disk.old)) (outside_of (S.state shelf.new)
+        (O.state out.new) (E.state err.new) (D.state disk.new)) result }
     ensures disk { ¬ (UsesDisk command.now) → D.state disk.new ≡ D.state disk.old }
     ensures statuses { IsFaultStatus result ⊎ IsDoneStatus command.now result }
 {
@@ -100,12 +100,14 @@ fn perform<S: Shelf, O: Pen, D: Disk>(
     disk: &mut D,
 ) -> Result<u8, Fault>
     requires { HasBudget command.now }
-    ensures ok { IfOk result (λ status. (err : PenState) → IsDone command.now
-        (outside_of (S.state shelf.old) (O.state out.old) err (D.state disk.old))
-        (outside_of (S.state shelf.new) (O.state out.new) err (D.state disk.new)) status) }
-    ensures fault { IfErr result (λ fault. (err err' : PenState) → EndsBy command.now
-        (outside_of (S.state shelf.old) (O.state out.old) err (D.state disk.old))
-        (outside_of (S.state shelf.new) (O.state out.new) err' (D.state disk.new)) fault) }
+    ensures ok { IfOk result (λ status. (err : PenState)
+        → IsDone command.now (outside_of (S.state shelf.old) (O.state out.old) err
+        (D.state disk.old)) (outside_of (S.state shelf.new) (O.state out.new) err
+        (D.state disk.new)) status) }
+    ensures fault { IfErr result (λ fault. (err err' : PenState)
+        → EndsBy command.now (outside_of (S.state shelf.old) (O.state out.old) err
+        (D.state disk.old)) (outside_of (S.state shelf.new) (O.state out.new) err'
+        (D.state disk.new)) fault) }
     ensures disk { ¬ (UsesDisk command.now) → D.state disk.new ≡ D.state disk.old }
 {
     let files = get_files(alloc, command, shelf)?;

@@ -19,8 +19,8 @@ pub fn get_files<S: Shelf>(alloc: Global, command: &Words, shelf: &mut S) -> Res
     ensures whole { IfOk result (λ files. AreWhole command.now (files_got files.items)) }
     ensures held { IfOk result (λ files. (S.state shelf.old).tells ≡ true
         → HoldsAll (S.state shelf.old) (files_got files.items)) }
-    ensures fault { IfErr result (λ fault.
-        EndsGets command.now (S.state shelf.old) (S.state shelf.new) fault) }
+    ensures fault { IfErr result (λ fault. EndsGets command.now (S.state shelf.old)
+        (S.state shelf.new) fault) }
 {
     let mut files = Vec::new(alloc);
     'gets: while let Some(asked) = next_file(alloc, command, &files)? {
@@ -36,10 +36,11 @@ pub fn get_files<S: Shelf>(alloc: Global, command: &Words, shelf: &mut S) -> Res
 /// Puts files, in order. The first put that isn't `Ok` ends it.
 pub fn put_all<S: Shelf>(shelf: &mut S, files: &[FileText]) -> Result<(), ShelfError>
     ensures leaves { PutLeaves (S.state shelf.old) (S.state shelf.new) }
-    ensures ok { OnOk result ((S.state shelf.new).tells ≡ true
-        → (S.state shelf.new).files ≡ put_in_order (texts_of files.now) (S.state shelf.old).files) }
+    ensures ok { OnOk result ((S.state shelf.new).tells ≡ true → (S.state shelf.new).files
+        ≡ put_in_order (texts_of files.now) (S.state shelf.old).files) }
     ensures only { OnErr result (IsErrOf result ShelfError.Failed) }
-    ensures part { OnErr result (PutPart (S.state shelf.old) (S.state shelf.new) (texts_of files.now)) }
+    ensures part { OnErr result (PutPart (S.state shelf.old) (S.state shelf.new)
+        (texts_of files.now)) }
 {
     for file in files {
         shelf.put(file.name.as_str(), &file.text)?;

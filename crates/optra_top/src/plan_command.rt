@@ -42,10 +42,11 @@ pub fn reply(
     cert: &Option<PathText>,
 ) -> Result<Answer, Fault>
     requires { 1 ≤ limits.budget }
-    ensures ok { IfOk result (λ answer.
-        PlanReplies (plan_asked limits cert.now) (files_got files.now) (reply_of answer)) }
-    ensures fault { IfErr result (λ fault.
-        EndsReply (λ reply. PlanReplies (plan_asked limits cert.now) (files_got files.now) reply) fault) }
+    ensures ok { IfOk result (λ answer. PlanReplies (plan_asked limits cert.now)
+        (files_got files.now) (reply_of answer)) }
+    ensures fault { IfErr result
+        (λ fault. EndsReply (λ reply. PlanReplies (plan_asked limits cert.now) (files_got files.now)
+        reply) fault) }
 {
     let tables = read_tables(alloc, files)?;
     let Ok(answer) = reply_to(alloc, &tables, limits, cert) else {
@@ -64,9 +65,10 @@ fn reply_to(
     requires instance { IsInstance tables.now.net tables.now.bids.items }
     requires alone { tables.now.version ≡ Version.First → HasHeadwaysAlone tables.now.net }
     requires budget { 1 ≤ limits.budget }
-    ensures { IfOk result (λ answer. PrintsTablesPlan (plan_asked limits cert.now) (tables_seen tables.now)
-        answer.status answer.text.items (texts_of answer.puts.items)) }
+    ensures { IfOk result (λ answer. PrintsTablesPlan (plan_asked limits cert.now)
+        (tables_seen tables.now) answer.status answer.text.items (texts_of answer.puts.items)) }
 {
+    tables.net.laws();
     let inst = Instance {
         net: &tables.net,
         bids: &tables.bids,
@@ -93,18 +95,15 @@ fn reply_by<F: RowText>(
     limits: Limits,
     cert: &Option<PathText>,
 ) -> Result<Answer, NoMemory>
-    requires instance { IsInstance inst.net.now inst.bids.now }
     requires budget { 1 ≤ limits.budget }
     requires rule { TellsConflicts inst.net.now inst.bids.now (F.KeepsRule rows.now inst.net.now) }
     requires apart { AreApart (F.texts_of rows.now).kinds }
     requires few { AreFew F.Row.cmp (F.rows_of rows.now inst.net.now) }
-    ensures { IfOk result (λ answer. let net = inst.entry.net.now in
-        PrintsPlan (record {
-          cmp = F.Row.cmp;
-          rows = F.rows_of rows.now net;
-          texts = F.texts_of rows.now;
-        }) (F.KeepsRule rows.now net) (plan_asked limits cert.now) net (map parts_of inst.entry.bids.now)
-        answer.status answer.text.items (texts_of answer.puts.items)) }
+    ensures { IfOk result (λ answer. let net = inst.entry.net.now in PrintsPlan
+        (record { cmp = F.Row.cmp; rows = F.rows_of rows.now net; texts = F.texts_of rows.now })
+        (F.KeepsRule rows.now net) (plan_asked limits cert.now) net
+        (map parts_of inst.entry.bids.now) answer.status answer.text.items
+        (texts_of answer.puts.items)) }
 {
     let plan = plan_by(alloc, inst, rows, limits)?;
     let view = PlanView {
@@ -142,10 +141,10 @@ fn certificate_puts<F: RowText>(
     path: &Option<PathText>,
 ) -> Result<Vec<FileText>, NoMemory>
     requires apart { AreApart (F.texts_of rows.now).kinds }
-    requires writable { IsWritable F.Row.cmp (F.texts_of rows.now) inst.net.now (length inst.bids.now)
-        (F.texts_of rows.now).version certificate.now }
-    ensures { IfOk result (λ puts. texts_of puts.items
-        ≡ certificate_puts (F.texts_of rows.now) inst.entry.net.now path.now certificate.now) }
+    requires writable { IsWritable F.Row.cmp (F.texts_of rows.now) inst.net.now
+        (length inst.bids.now) (F.texts_of rows.now).version certificate.now }
+    ensures { IfOk result (λ puts. texts_of puts.items ≡ certificate_puts (F.texts_of rows.now)
+        inst.entry.net.now path.now certificate.now) }
 {
     let mut puts = Vec::new(alloc);
     if let Some(path) = path {

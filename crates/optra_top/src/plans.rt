@@ -1,6 +1,5 @@
 //! The plan of some bids, by any rows that state the rule.
 ghost use Rattle.std.specs.Prelude.{◌≡◌, ◌⊎◌, ◌≤◌, map, true, All, Contains, IfOk, OnOk};
-ghost use Rattle.optra_bid.specs.Instances.{IsInstance};
 ghost use Rattle.optra_top.specs.Plans.{IsPlanOf, TellsConflicts};
 
 use crate::family_repairer::FamilyRepairer;
@@ -19,12 +18,11 @@ pub fn plan_by<F: RowFamily>(
     rows: &F,
     limits: Limits,
 ) -> Result<Plan<F::Row>, NoMemory>
-    requires instance { IsInstance inst.net.now inst.bids.now }
     requires budget { 1 ≤ limits.budget }
     requires rule { TellsConflicts inst.net.now inst.bids.now (F.KeepsRule rows.now inst.net.now) }
-    ensures { IfOk result (λ plan. let net = inst.entry.net.now in
-        IsPlanOf F.Row.cmp net (F.rows_of rows.now net) (F.KeepsRule rows.now net)
-        inst.entry.bids.now limits.steps limits.budget plan) }
+    ensures { IfOk result (λ plan. let net = inst.entry.net.now in IsPlanOf F.Row.cmp net
+        (F.rows_of rows.now net) (F.KeepsRule rows.now net) inst.entry.bids.now limits.steps
+        limits.budget plan) }
 {
     let mut graphs = FreshGraphs::new(inst.net);
     plan_over(alloc, inst, rows, &mut graphs, limits)
@@ -39,14 +37,14 @@ pub fn plan_over<F: RowFamily, G: Graphs>(
     graphs: &mut G,
     limits: Limits,
 ) -> Result<Plan<F::Row>, NoMemory>
-    requires instance { IsInstance inst.net.now inst.bids.now }
     requires network { G.network graphs.old ≡ inst.net.now }
     requires budget { 1 ≤ limits.budget }
     requires rule { TellsConflicts inst.net.now inst.bids.now (F.KeepsRule rows.now inst.net.now) }
-    ensures plan { IfOk result (λ plan. let net = inst.entry.net.now in
-        IsPlanOf F.Row.cmp net (F.rows_of rows.now net) (F.KeepsRule rows.now net)
-        inst.entry.bids.now limits.steps limits.budget plan) }
-    ensures held { OnOk result (All (λ bid. Contains (G.held graphs.new) bid.path) inst.entry.bids.now) }
+    ensures plan { IfOk result (λ plan. let net = inst.entry.net.now in IsPlanOf F.Row.cmp net
+        (F.rows_of rows.now net) (F.KeepsRule rows.now net) inst.entry.bids.now limits.steps
+        limits.budget plan) }
+    ensures held { OnOk result (All (λ bid. Contains (G.held graphs.new) bid.path)
+        inst.entry.bids.now) }
     ensures others { OnOk result (All (λ path. Contains (G.held graphs.old) path
         ⊎ Contains (map (λ bid. bid.path) inst.entry.bids.now) path) (G.held graphs.new)) }
     ensures kept { OnOk result (G.keeps graphs.old ≡ true

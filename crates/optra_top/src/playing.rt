@@ -2,7 +2,6 @@
 ghost use Rattle.std.specs.Prelude.{◌≡◌, ◌≤◌, ◌++◌, List, length, false, All, IfOk, OnOk, string_bytes};
 ghost use Rattle.std.specs.Fmt.{decimal};
 ghost use Rattle.optra_network.specs.Names.{AllDiffer};
-ghost use Rattle.optra_bid.specs.Instances.{IsInstance};
 ghost use Rattle.optra_bid.specs.Specs.{IsPathOn};
 ghost use Rattle.optra_bid.specs.declared.bids.Bid.{Bid as Planned};
 ghost use Rattle.optra_walk.specs.Choices.{IsChoice};
@@ -69,17 +68,9 @@ fn print_round(
     requires names { names.now ≡ spec_names auction.now.specs }
     requires planned { ArePlanned auction.now plan.inst.bids.now }
     requires choice { IsChoice plan.inst.net.now plan.inst.bids.now plan.choice.now }
-    ensures { IfOk result (λ text. text.items ≡ records_text (round_records plan.entry.inst.net.now (record {
-      round = auction.now.round;
-      outcomes = outcomes.now;
-      bids = plan.entry.inst.bids.now;
-      specs = specs_of names.now auction.now.standing;
-      walks = plan.entry.choice.now;
-      revenue = plan.entry.revenue;
-      bound = plan.entry.bound;
-      nodes = plan.entry.nodes;
-      graphs = graphs;
-    }))) }
+    ensures { IfOk result (λ text. text.items ≡ records_text (round_records plan.entry.inst.net.now
+        (record
+        { round = auction.now.round; outcomes = outcomes.now; bids = plan.entry.inst.bids.now; specs = specs_of names.now auction.now.standing; walks = plan.entry.choice.now; revenue = plan.entry.revenue; bound = plan.entry.bound; nodes = plan.entry.nodes; graphs = graphs }))) }
 {
     let specs = spec_names(alloc, auction, names)?;
     let view = RoundView {
@@ -109,14 +100,14 @@ fn put_round<F: RowText>(
     round: u16,
     puts: &mut Vec<FileText>,
 ) -> Result<(), NoMemory>
-    requires few { length inst.bids.now ≤ 1000 }
     requires paths { All (λ bid. IsPathOn inst.net.now bid.path) inst.bids.now }
     requires differ { AllDiffer (spec_names inst.bids.now) }
     requires apart { AreApart (F.texts_of rows.now).kinds }
-    requires writable { IsWritable F.Row.cmp (F.texts_of rows.now) inst.net.now (length inst.bids.now)
-        (F.texts_of rows.now).version certificate.now }
+    requires writable { IsWritable F.Row.cmp (F.texts_of rows.now) inst.net.now
+        (length inst.bids.now) (F.texts_of rows.now).version certificate.now }
     ensures { OnOk result (texts_of puts.new.items ≡ texts_of puts.old.items
-        ++ files_named (F.texts_of rows.now) inst.entry.net.now prefix.now round inst.entry.bids.now certificate.now) }
+        ++ files_named (F.texts_of rows.now) inst.entry.net.now prefix.now round inst.entry.bids.now
+        certificate.now) }
 {
     let text = bids_text(alloc, inst.net, inst.bids)?;
     let name = file_name(alloc, prefix, round, ".bids.csv")?;
@@ -153,7 +144,8 @@ fn play_round<'n, F: RowText>(
     certs: &Option<PathText>,
     playing: &mut Playing<'n>,
 ) -> Result<(), NoMemory>
-    requires rule { (bids : List Planned) → TellsConflicts net.now bids (F.KeepsRule rows.now net.now) }
+    requires rule { (bids : List Planned) → TellsConflicts net.now bids (F.KeepsRule rows.now
+        net.now) }
     requires apart { AreApart (F.texts_of rows.now).kinds }
     requires few { AreFew F.Row.cmp (F.rows_of rows.now net.now) }
     requires names { names.now ≡ spec_names playing.old.auction.specs }
@@ -161,15 +153,15 @@ fn play_round<'n, F: RowText>(
     requires network { playing.old.graphs.network ≡ net.now }
     requires amounts { All (λ a. HasAmount a.act) playing.old.left.items }
     requires open { playing.old.auction.closed ≡ false }
-    ensures { OnOk result (IsRoundPlayed (record {
-      cmp = F.Row.cmp;
-      rows = F.rows_of rows.now net.now;
-      texts = F.texts_of rows.now;
-    }) (F.KeepsRule rows.now net.now) net.now names.now certs.now playing.old playing.new) }
+    ensures { OnOk result
+        (IsRoundPlayed
+        (record
+        { cmp = F.Row.cmp; rows = F.rows_of rows.now net.now; texts = F.texts_of rows.now })
+        (F.KeepsRule rows.now net.now) net.now names.now certs.now playing.old playing.new) }
 {
     let outcomes = take_round(alloc, playing)?;
     let bids = playing.auction.standing_bids(alloc)?;
-    let inst = Instance { net, bids: &bids };
+    let inst = Instance::new(net, &bids);
     let plan = plan_over(alloc, inst, rows, &mut playing.graphs, ROUND_LIMITS)?;
     let graphs = playing.graphs.builds();
     let view = PlanView {
@@ -194,15 +186,15 @@ fn finish_round<F: RowText>(
     plan: Plan<F::Row>,
     playing: &mut Playing<'_>,
 ) -> Result<(), NoMemory>
-    requires instance { IsInstance inst.net.now inst.bids.now }
     requires differ { AllDiffer (spec_names inst.bids.now) }
     requires planned { ArePlanned playing.old.auction inst.bids.now }
     requires open { playing.old.auction.closed ≡ false }
     requires apart { AreApart (F.texts_of rows.now).kinds }
     requires few { AreFew F.Row.cmp (F.rows_of rows.now inst.net.now) }
-    requires plan { IsPlanOf F.Row.cmp inst.net.now (F.rows_of rows.now inst.net.now) (F.KeepsRule rows.now inst.net.now)
-        inst.bids.now round_steps round_budget plan }
-    ensures { OnOk result (IsRoundClosed (F.texts_of rows.now) inst.entry.net.now certs.now inst.entry.bids.now plan playing.old playing.new) }
+    requires plan { IsPlanOf F.Row.cmp inst.net.now (F.rows_of rows.now inst.net.now)
+        (F.KeepsRule rows.now inst.net.now) inst.bids.now round_steps round_budget plan }
+    ensures { OnOk result (IsRoundClosed (F.texts_of rows.now) inst.entry.net.now certs.now
+        inst.entry.bids.now plan playing.old playing.new) }
 {
     let round = playing.auction.round();
     let is_gap = plan.revenue < plan.bound;
@@ -232,7 +224,8 @@ fn close_round(
     requires choice { IsChoice inst.net.now inst.bids.now choice.now }
     requires planned { ArePlanned playing.old.auction inst.bids.now }
     requires open { playing.old.auction.closed ≡ false }
-    ensures { OnOk result (IsShut inst.entry.net.now inst.entry.bids.now choice.now is_gap playing.old playing.new) }
+    ensures { OnOk result (IsShut inst.entry.net.now inst.entry.bids.now choice.now is_gap
+        playing.old playing.new) }
 {
     let values = values_of(alloc, inst.net, inst.bids, choice)?;
     playing.auction.close_round(&values);
@@ -250,14 +243,14 @@ fn put_files<F: RowText>(
     certificate: &Certificate<F::Row>,
     puts: &mut Vec<FileText>,
 ) -> Result<(), NoMemory>
-    requires few { length inst.bids.now ≤ 1000 }
     requires paths { All (λ bid. IsPathOn inst.net.now bid.path) inst.bids.now }
     requires differ { AllDiffer (spec_names inst.bids.now) }
     requires apart { AreApart (F.texts_of rows.now).kinds }
-    requires writable { IsWritable F.Row.cmp (F.texts_of rows.now) inst.net.now (length inst.bids.now)
-        (F.texts_of rows.now).version certificate.now }
+    requires writable { IsWritable F.Row.cmp (F.texts_of rows.now) inst.net.now
+        (length inst.bids.now) (F.texts_of rows.now).version certificate.now }
     ensures { OnOk result (texts_of puts.new.items ≡ texts_of puts.old.items
-        ++ files_where (F.texts_of rows.now) inst.entry.net.now certs.now round inst.entry.bids.now certificate.now) }
+        ++ files_where (F.texts_of rows.now) inst.entry.net.now certs.now round inst.entry.bids.now
+        certificate.now) }
 {
     match certs {
         Some(prefix) => put_round(alloc, inst, rows, certificate, prefix.text(), round, puts),
@@ -276,18 +269,19 @@ pub fn play<F: RowText>(
     actions: Vec<TimedAct>,
     certs: &Option<PathText>,
 ) -> Result<Answer, NoMemory>
-    requires rule { (bids : List Planned) → TellsConflicts net.now bids (F.KeepsRule rows.now net.now) }
+    requires rule { (bids : List Planned) → TellsConflicts net.now bids (F.KeepsRule rows.now
+        net.now) }
     requires apart { AreApart (F.texts_of rows.now).kinds }
     requires few { AreFew F.Row.cmp (F.rows_of rows.now net.now) }
     requires specs { AreSpecs specs.items }
     requires paths { All (λ spec. IsPathOn net.now spec.path) specs.items }
     requires rules { AreRules rules }
     requires actions { AreActions actions.items }
-    ensures { IfOk result (λ answer. IsPlayedOut (record {
-      cmp = F.Row.cmp;
-      rows = F.rows_of rows.now net.now;
-      texts = F.texts_of rows.now;
-    }) (F.KeepsRule rows.now net.now) net.now certs.now specs.items rules actions.items
+    ensures { IfOk result
+        (λ answer. IsPlayedOut
+        (record
+        { cmp = F.Row.cmp; rows = F.rows_of rows.now net.now; texts = F.texts_of rows.now })
+        (F.KeepsRule rows.now net.now) net.now certs.now specs.items rules actions.items
         answer.status answer.text.items (texts_of answer.puts.items)) }
 {
     let names = names_of(alloc, &specs)?;

@@ -24,8 +24,8 @@ pub fn next_table_file(
     stops: &str,
     got: &[Got],
 ) -> Result<Option<Asked>, AllocError>
-    ensures next { IfOk result (λ next.
-        option_map file_asked next ≡ next_table_file net.now bids.now stops.now (files_got got.now)) }
+    ensures next { IfOk result (λ next. option_map file_asked next
+        ≡ next_table_file net.now bids.now stops.now (files_got got.now)) }
     ensures few { IfOk result (λ next. IfSome next (λ _. length got.now < MOST_TABLES)) }
 {
     let version = version_in(alloc, got)?;
@@ -52,7 +52,8 @@ fn file_name(
     stops: &str,
     table: Table,
 ) -> Result<String, AllocError>
-    ensures { IfOk result (λ name. string_bytes name ≡ table_file_name net.now bids.now stops.now table) }
+    ensures { IfOk result (λ name. string_bytes name ≡ table_file_name net.now bids.now stops.now
+        table) }
 {
     match table {
         Table::Stations => joined(alloc, net, "/stations.csv"),
@@ -89,7 +90,8 @@ pub fn read_tables(alloc: Global, files: &[Got]) -> Result<Tables, ReadError>
     ensures read { Gives tables_seen result (meaning_of (files_got files.now)) }
     ensures instance { IfOk result (λ tables. IsInstance tables.net tables.bids.items) }
     ensures names { IfOk result (λ tables. AllDiffer (map (λ bid. bid.name) tables.bids.items)) }
-    ensures alone { IfOk result (λ tables. tables.version ≡ Version.First → HasHeadwaysAlone tables.net) }
+    ensures alone { IfOk result (λ tables. tables.version ≡ Version.First
+        → HasHeadwaysAlone tables.net) }
 {
     let version = version_in(alloc, files)?;
     let net = read_net(alloc, version, files)?;

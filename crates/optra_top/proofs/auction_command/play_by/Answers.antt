@@ -17,7 +17,7 @@ returns-in-First c =
     c.play.ensures
 
 pub play-requires-in-Second-clause-rule : goal.play-requires-in-Second-clause-rule
-play-requires-in-Second-clause-rule c bids = all-tell c.args.net.now bids c.track_count.ensures.proper
+play-requires-in-Second-clause-rule c bids = all-tell c.args.net.now bids c.laws.ensures
 
 pub returns-in-Second : goal.returns-in-Second
 returns-in-Second c =

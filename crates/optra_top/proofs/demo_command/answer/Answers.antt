@@ -18,7 +18,7 @@ pub write_certificate-requires-clause-writable : goal.write_certificate-requires
 write_certificate-requires-clause-writable c =
     rw c.certificate_of-cert.ensures (
     plan-writable row_cmp headway_texts c.args.inst.net.now (headway_rows c.args.inst.net.now) (KeepsHeadwayRule c.args.inst.net.now) c.args.inst.bids.now 20 5 c.in_ok-plan.plan
-    c.valid_is_writable.ensures c.headway_rows_are_told.ensures.few c.requires.instance.few c.in_ok-plan.ensures
+    c.valid_is_writable.ensures c.headway_rows_are_told.ensures.few c.args.inst.few c.in_ok-plan.ensures
     )
 
 pub returns : goal.returns
@@ -30,7 +30,7 @@ returns c =
     let b : c.certificate_of-cert.result.bound ≡ c.in_ok-plan.plan.bound = ap (λ (cert : Cert HRow). cert.bound) c.certificate_of-cert.ensures in
     let writable : IsWritable row_cmp headway_texts c.args.inst.net.now (length c.args.inst.bids.now) headway_texts.version (certificate_of c.in_ok-plan.plan) =
     plan-writable row_cmp headway_texts c.args.inst.net.now (headway_rows c.args.inst.net.now) (KeepsHeadwayRule c.args.inst.net.now) c.args.inst.bids.now 20 5 c.in_ok-plan.plan
-    c.valid_is_writable.ensures c.headway_rows_are_told.ensures.few c.requires.instance.few c.in_ok-plan.ensures in
+    c.valid_is_writable.ensures c.headway_rows_are_told.ensures.few c.args.inst.few c.in_ok-plan.ensures in
     let text : c.in_ok-bytes.bytes.items ≡ cert_text headway_texts c.args.inst.net.now headway_texts.version (certificate_of c.in_ok-plan.plan) = rw c.certificate_of-cert.ensures at c.in_ok-bytes.ensures in
     let yes : c.in_ok-verdict.verdict ≡ Yes c.in_ok-plan.plan.revenue c.in_ok-plan.plan.bound =
     plan-confirmed c.args.inst.net.now c.args.inst.bids.now c.text_tells_cert.ensures c.text_has_no_fault.ensures 20 5 c.in_ok-plan.plan c.in_ok-bytes.bytes.items c.in_ok-verdict.verdict c.in_ok-plan.ensures writable text

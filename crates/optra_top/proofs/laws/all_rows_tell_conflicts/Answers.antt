@@ -2,4 +2,4 @@ use Rattle.optra_top.proofs.PlanLemmas.{all-tell}
 use Rattle.optra_top.proofs.laws.all_rows_tell_conflicts.Goals as goal
 
 pub returns : goal.returns
-returns c = all-tell c.args.inst.net.now c.args.inst.bids.now c.track_count.ensures.proper
+returns c = all-tell c.args.inst.net.now c.args.inst.bids.now c.args.inst.proper

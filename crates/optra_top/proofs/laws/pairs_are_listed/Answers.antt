@@ -3,4 +3,4 @@ use Rattle.optra_top.proofs.PairLemmas.{pairs_there}
 use Rattle.optra_top.proofs.laws.pairs_are_listed.Goals as goal
 
 pub returns : goal.returns
-returns c = pairs_there c.args.inst.net.now c.args.inst.bids.now c.track_count.ensures.proper
+returns c = pairs_there c.args.inst.net.now c.args.inst.bids.now c.args.inst.proper

@@ -7,7 +7,7 @@ pub certificate_puts-requires-clause-writable : goal.certificate_puts-requires-c
 certificate_puts-requires-clause-writable g c =
     rw c.certificate_of.ensures (
     plan-writable g.F.Row.Ord.cmp (g.F.RowText.texts_of c.args.rows.now) c.args.inst.net.now (g.F.RowFamily.rows_of c.args.rows.now c.args.inst.net.now) (g.F.RowFamily.KeepsRule c.args.rows.now c.args.inst.net.now)
-    c.args.inst.bids.now c.args.limits.steps c.args.limits.budget c.in_ok-plan.plan c.valid_is_writable.ensures c.requires.few c.requires.instance.few c.in_ok-plan.ensures
+    c.args.inst.bids.now c.args.limits.steps c.args.limits.budget c.in_ok-plan.plan c.valid_is_writable.ensures c.requires.few c.args.inst.few c.in_ok-plan.ensures
     )
 
 pub returns : goal.returns
@@ -19,6 +19,6 @@ returns g c = record {
   printed = search (rules, c.in_ok-text.ensures);
   ends = search (rules, c.status-status.ensures);
   writable = plan-writable g.F.Row.Ord.cmp (g.F.RowText.texts_of c.args.rows.now) c.args.inst.net.now (g.F.RowFamily.rows_of c.args.rows.now c.args.inst.net.now) (g.F.RowFamily.KeepsRule c.args.rows.now c.args.inst.net.now)
-      c.args.inst.bids.now c.args.limits.steps c.args.limits.budget c.in_ok-plan.plan c.valid_is_writable.ensures c.requires.few c.requires.instance.few c.in_ok-plan.ensures;
+      c.args.inst.bids.now c.args.limits.steps c.args.limits.budget c.in_ok-plan.plan c.valid_is_writable.ensures c.requires.few c.args.inst.few c.in_ok-plan.ensures;
   put = rw c.certificate_of.ensures at c.in_ok-puts.ensures;
 }
