@@ -13,10 +13,10 @@ use Rattle.optra_network.specs.declared.Times.{Times}
 use Rattle.optra_network.specs.declared.TypeId.{TypeId}
 use Rattle.optra_bid.specs.declared.bids.Bid.{Bid}
 use Rattle.optra_walk.specs.declared.Leg.{Leg}
-use Rattle.optra_walk.specs.Families.{Rows, IsUsable, ListsRows}
+use Rattle.optra_walk.specs.Families.{Rows, IsUsable, ListsRows, total_of}
 use Rattle.optra_node.specs.declared.Decision.{Decision}
 use Rattle.optra_node.specs.Nodes.{IsNode, IsFormedLeg, IsFormedDecision, IsUndecided, DecideApart, uses_at, yes_uses, yes_load}
-use Rattle.optra_node.specs.Summaries.{total_of, AreLoads, AreByBid}
+use Rattle.optra_node.specs.Summaries.{AreLoads, AreByBid}
 use Rattle.optra_node.proofs.NodeLemmas.{child_is_node}
 use Rattle.optra_node.proofs.RowLemmas.{uses_few}
 use Rattle.optra_checker.specs.declared.decision_index.DecisionIndex.{DecisionIndex}

@@ -4,10 +4,10 @@ use Rattle.std.specs.declared.cmp.Ordering.{Ordering}
 use Rattle.std.specs.BTreeMap.{BTreeMap}
 use Rattle.optra_network.specs.Net.{Net}
 use Rattle.optra_bid.specs.declared.bids.Bid.{Bid}
-use Rattle.optra_walk.specs.Families.{Rows}
+use Rattle.optra_walk.specs.Families.{Rows, total_of}
 use Rattle.optra_node.specs.declared.Decision.{Decision}
 use Rattle.optra_node.specs.Nodes.{IsNode}
-use Rattle.optra_node.specs.Summaries.{Summed, total_of, AreLoads, AreByBid}
+use Rattle.optra_node.specs.Summaries.{Summed, AreLoads, AreByBid}
 use Rattle.optra_checker.specs.declared.decision_index.DecisionIndex.{DecisionIndex}
 use Rattle.optra_checker.specs.Keyed.{AreKeyed, bucket_of, yes_part}
 

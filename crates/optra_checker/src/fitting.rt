@@ -3,8 +3,7 @@ ghost use Rattle.std.specs.Prelude.{◌≡◌, ℕ, ◌+◌, ◌<◌, ◌≤◌,
 ghost use Rattle.std.specs.Ordering.{is_eq};
 ghost use Rattle.optra_walk.specs.Walks.{IsWalk};
 ghost use Rattle.optra_walk.specs.Choices.{IsChoice};
-ghost use Rattle.optra_walk.specs.Families.{IsUsable, entries_of, load_of};
-ghost use Rattle.optra_node.specs.Summaries.{total_of};
+ghost use Rattle.optra_walk.specs.Families.{IsUsable, entries_of, load_of, total_of};
 ghost use Rattle.optra_checker.specs.Fits.{AreWithin};
 
 use optra_bid::Bid;

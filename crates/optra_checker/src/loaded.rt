@@ -4,8 +4,7 @@
 //! close to one another, so each look-up begins at the place of the last one.
 ghost use Rattle.std.specs.Prelude.{◌≡◌, ◌<◌, ◌≤◌, ◌↔◌, false, length, slice_index_or, IfOk, IsTrue};
 ghost use Rattle.std.specs.BTreeMap.{keys};
-ghost use Rattle.optra_walk.specs.Families.{IsUsable};
-ghost use Rattle.optra_node.specs.Summaries.{total_of};
+ghost use Rattle.optra_walk.specs.Families.{IsUsable, total_of};
 ghost use Rattle.optra_checker.specs.Loaded.{AreRising, ArePast, IsMissing, KeepsOff};
 
 use optra_network::{Network, NoMemory, TypeId};

@@ -1,9 +1,8 @@
 //! Totals by row, with a decision's uses taken away again.
 ghost use Rattle.std.specs.Prelude.{◌≡◌, ℕ, ◌+◌, ◌≤◌, length, if◌then◌else◌};
 ghost use Rattle.std.specs.Ordering.{is_eq};
-ghost use Rattle.optra_walk.specs.Families.{IsUsable};
+ghost use Rattle.optra_walk.specs.Families.{IsUsable, total_of};
 ghost use Rattle.optra_node.specs.Nodes.{IsFormedDecision, yes_uses};
-ghost use Rattle.optra_node.specs.Summaries.{total_of};
 
 use optra_network::{Network, TypeId};
 use optra_node::{Decision, kind_at, may_use};

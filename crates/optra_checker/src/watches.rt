@@ -3,8 +3,7 @@
 //! it is enough to look at them.
 ghost use Rattle.std.specs.Prelude.{◌≡◌, ◌+◌, ◌<◌, ◌≤◌, ◌^◌, length, map, option_map, All, Contains, IsTrue, IfOk, OnOk};
 ghost use Rattle.optra_node.specs.Certificates.{IsFormedItem};
-ghost use Rattle.optra_node.specs.Summaries.{total_of};
-ghost use Rattle.optra_walk.specs.Families.{IsUsable};
+ghost use Rattle.optra_walk.specs.Families.{IsUsable, total_of};
 ghost use Rattle.optra_checker.specs.Frees.{AreFree};
 ghost use Rattle.optra_checker.specs.Watches.{Spares, AreSplitLoads, IsWatched, AreWatched, AreWatches};
 

@@ -18,8 +18,7 @@ use Rattle.optra_network.specs.declared.TypeId.{TypeId}
 use Rattle.optra_network.proofs.HeadwayLemmas.{below_types}
 use Rattle.optra_network.proofs.MemberLemmas.{In, in_from, contains_from, in_map, in_map_from, in_filter, in_filter_from, in_range}
 use Rattle.optra_network.proofs.ReadLemmas.{headway_range}
-use Rattle.optra_walk.specs.Families.{Ascends, Entry, FitRows, IsUsable, ListsRows, TellsApart, UsesFew}
-use Rattle.optra_walk.specs.Legs.{use_of}
+use Rattle.optra_walk.specs.Families.{Ascends, Entry, FitRows, IsUsable, ListsRows, TellsApart, UsesFew, use_of_entry}
 use Rattle.optra_walk.specs.Choices.{KeepsHeadways}
 use Rattle.optra_walk.specs.Rules.{KeepsCrossing, KeepsCrossings}
 use Rattle.optra_rows.specs.EitherLemmas.{fits_both}
@@ -294,9 +293,6 @@ near_breaks net a b proper after before keeps = go (crossing_of net a.track b.tr
         late : (r : Option ℕ) → crossing_of net b.track a.track b.kind a.kind ≡ r → a.time < b.time + unwrap_or r 0 → IsSomeAnd r (λ back. b.time + back ≤ a.time) → ⊥
         late None f l h = absurd h
         late (Some n) f l h = omega arith
-
-abbrev use_of_entry : Entry → TrackUse
-use_of_entry e = use_of e.0 e.1
 
 abbrev uses_at : Net → CRow → Entry → Bool
 uses_at net row e = uses_row net (use_of_entry e) row

@@ -3,7 +3,7 @@ use Rattle.std.specs.Prelude.{◌≡◌, ◌≢◌, ℕ, ◌+◌, ◌<◌, ◌�
 use Rattle.optra_network.specs.Net.{Net, MayUse, crossing_of, times_of}
 use Rattle.optra_network.specs.declared.TrackUse.{TrackUse}
 use Rattle.optra_walk.specs.Choices.{KeepsHeadways}
-use Rattle.optra_walk.specs.Families.{Entry, Rows, FitRows}
+use Rattle.optra_walk.specs.Families.{Entry, Rows, FitRows, use_of_entry}
 use Rattle.optra_walk.specs.Legs.{use_of}
 use Rattle.optra_walk.specs.Rules.{KeepsCrossing, KeepsCrossings}
 use Rattle.optra_rows.specs.Eithers.{both_rows}
@@ -82,8 +82,8 @@ KeepsOnce net uses =
 
 -- every two uses of different tracks keep their crossing, and no use that lies in a row stands at two places
 pub record KeepsCrossRule (net : Net) (entries : List Entry) : Type 0 where
-  pub crossings : KeepsCrossings net (map (λ e. use_of e.0 e.1) entries)
-  pub once : KeepsOnce net (map (λ e. use_of e.0 e.1) entries)
+  pub crossings : KeepsCrossings net (map use_of_entry entries)
+  pub once : KeepsOnce net (map use_of_entry entries)
 
 -- the uses keep the headways and the crossings
 pub record KeepsTracks (net : Net) (uses : List TrackUse) : Type 0 where
@@ -92,4 +92,4 @@ pub record KeepsTracks (net : Net) (uses : List TrackUse) : Type 0 where
 
 -- legs keep the headways and the crossings exactly where they use no row of the two families above its capacity
 abbrev pub AreBothRules : Net → List Entry → Type 0
-AreBothRules net entries = KeepsTracks net (map (λ e. use_of e.0 e.1) entries) ↔ FitRows (both_rows (headway_rows net) (cross_rows net)) entries
+AreBothRules net entries = KeepsTracks net (map use_of_entry entries) ↔ FitRows (both_rows (headway_rows net) (cross_rows net)) entries

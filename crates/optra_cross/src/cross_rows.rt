@@ -49,9 +49,9 @@ impl RowFamily for CrossRows {
 
     ghost tells_apart = { rows_told_apart };
 
-    ghost lists_rows = { λ f net kind leg p u. rows_listed net (use_of kind leg) p u.may_use u.depart };
+    ghost lists_rows = { λ f net kind leg u. rows_listed net (use_of kind leg) u.proper u.may_use u.depart };
 
-    ghost uses_few = { λ f net kind leg p u. few_crossings net (use_of kind leg) p u.may_use u.depart };
+    ghost uses_few = { λ f net kind leg u. few_crossings net (use_of kind leg) u.proper u.may_use u.depart };
 
     ghost capacity_fits = { λ f net row p is. lit≤ tt };
 

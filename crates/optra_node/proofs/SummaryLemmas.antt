@@ -12,11 +12,11 @@ use Rattle.optra_network.specs.Net.{Net}
 use Rattle.optra_network.specs.declared.TypeId.{TypeId}
 use Rattle.optra_bid.specs.declared.bids.Bid.{Bid}
 use Rattle.optra_walk.specs.declared.Leg.{Leg}
-use Rattle.optra_walk.specs.Families.{Rows}
+use Rattle.optra_walk.specs.Families.{Rows, total_of}
 use Rattle.optra_node.specs.declared.Decision.{Decision}
 use Rattle.optra_node.specs.Nodes.{uses_at, yes_load, others_load, IsFormedDecision, IsBlocked}
 use Rattle.optra_node.specs.Spans.{Lets, IsLetBy, IsStartOk}
-use Rattle.optra_node.specs.Summaries.{is_for, decisions_for, total_of, AreLoads, AreByBid, load_beside, IsBlockedBeside}
+use Rattle.optra_node.specs.Summaries.{is_for, decisions_for, AreLoads, AreByBid, load_beside, IsBlockedBeside}
 
 is_for_same : (bid : ℕ) (d : Decision) → d.bid ≡ bid → is_for bid d ≡ true
 is_for_same bid d e = grind (arith, nat_tests)

@@ -1,12 +1,12 @@
 -- Summaries of nodes: what is held ready for look-ups.
-use Rattle.std.specs.Prelude.{◌≡◌, ℕ, ◌+◌, ◌-◌, ◌<◌, ◌^◌, true, Bool, nat_eq, List, length, filter, Some, slice_get, unwrap_or}
+use Rattle.std.specs.Prelude.{◌≡◌, ℕ, ◌+◌, ◌-◌, ◌<◌, ◌^◌, true, Bool, nat_eq, List, length, filter, Some, slice_get}
 use Rattle.std.specs.declared.cmp.Ordering.{Ordering}
-use Rattle.std.specs.BTreeMap.{BTreeMap, get}
+use Rattle.std.specs.BTreeMap.{BTreeMap}
 use Rattle.optra_network.specs.Net.{Net}
 use Rattle.optra_network.specs.declared.TypeId.{TypeId}
 use Rattle.optra_bid.specs.declared.bids.Bid.{Bid}
 use Rattle.optra_walk.specs.declared.Leg.{Leg}
-use Rattle.optra_walk.specs.Families.{Rows}
+use Rattle.optra_walk.specs.Families.{Rows, total_of}
 use Rattle.optra_node.specs.declared.Decision.{Decision}
 use Rattle.optra_node.specs.Nodes.{IsNode, yes_load}
 
@@ -27,10 +27,6 @@ is_for bid d = nat_eq d.bid bid
 -- the decisions for a bid, in the node's order
 abbrev pub decisions_for : List Decision → ℕ → List Decision
 decisions_for node bid = filter (is_for bid) node
-
--- the total of a row, 0 where none is kept
-abbrev pub total_of : {R : Type 0} → (R → R → Ordering) → BTreeMap R ℕ → R → ℕ
-total_of cmp totals row = unwrap_or (get cmp totals row) 0
 
 -- the totals are how much of each row the yes legs use
 abbrev pub AreLoads : {R : Type 0} → (R → R → Ordering) → Rows R → List Bid → List Decision → BTreeMap R ℕ → Type 0

@@ -1,9 +1,9 @@
 //! Totals by row: how much of each row the yes legs of a node use.
 ghost use Rattle.std.specs.Prelude.{◌≡◌, ◌+◌, ◌<◌, ◌≤◌, ◌^◌, ◌↔◌, true, IsTrue, All, OnOk, IfOk, length, if◌then◌else◌};
 ghost use Rattle.std.specs.Ordering.{is_eq};
-ghost use Rattle.optra_walk.specs.Families.{IsUsable};
+ghost use Rattle.optra_walk.specs.Families.{IsUsable, total_of};
 ghost use Rattle.optra_node.specs.Nodes.{IsFormedLeg, IsFormedDecision, yes_uses, yes_load};
-ghost use Rattle.optra_node.specs.Summaries.{total_of, AreLoads, load_beside, IsBlockedBeside};
+ghost use Rattle.optra_node.specs.Summaries.{AreLoads, load_beside, IsBlockedBeside};
 
 use crate::Decision;
 use crate::loads::{kind_at, may_use, yes_load};

@@ -41,9 +41,9 @@ impl RowFamily for PlatformRows {
 
     ghost tells_apart = { rows_told_apart };
 
-    ghost lists_rows = { λ f net kind leg p u. standing_rows_listed net kind leg p u };
+    ghost lists_rows = { λ f net kind leg u. standing_rows_listed net kind leg u.proper u };
 
-    ghost uses_few = { λ f net kind leg p u. few_halts net kind leg u };
+    ghost uses_few = { λ f net kind leg u. few_halts net kind leg u };
 
     ghost capacity_fits = { λ f net row p is. capacity_low net row p };
 

@@ -8,8 +8,7 @@ use Rattle.optra_network.specs.Partners.{ArePaired, use_at, is_paired, partners_
 use Rattle.optra_network.specs.declared.Partner.{Partner}
 use Rattle.optra_network.specs.declared.TrackId.{TrackId}
 use Rattle.optra_network.specs.declared.TypeId.{TypeId}
-use Rattle.optra_walk.specs.Families.{Entry, Rows}
-use Rattle.optra_walk.specs.Legs.{use_of}
+use Rattle.optra_walk.specs.Families.{Entry, Rows, use_of_entry}
 use Rattle.optra_walk.specs.Choices.{KeepsHeadways}
 use Rattle.optra_rows.specs.declared.HRow.{HRow}
 use Rattle.optra_rows.specs.declared.HRow.TheVariants.{Window, Pair}
@@ -53,7 +52,7 @@ headway_rows net = record { is_row = is_row_of net; capacity = λ _. 1; uses = �
 
 -- the uses at every two different places are compatible
 abbrev pub KeepsHeadwayRule : Net → List Entry → Type 0
-KeepsHeadwayRule net entries = KeepsHeadways net (map (λ e. use_of e.0 e.1) entries)
+KeepsHeadwayRule net entries = KeepsHeadways net (map use_of_entry entries)
 
 -- the row of a use and a partner of it
 abbrev pub pair_of : TrackId → TypeId → ℕ → Partner → HRow

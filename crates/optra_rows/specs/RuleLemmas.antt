@@ -2,7 +2,6 @@
 use Rattle.std.proofs.Common.{◌≡◌, ◌≢◌, ℕ, zero, suc, ◌+◌, ◌<◌, ◌≤◌, ◌⊎◌, ◌↔◌, inl, inr, Bool, true, false, cond, Some, None, Option, IsSomeAnd, List, [], ◌∷◌, ◌++◌, map, slice_get, All, refl, sym, ap, ◌∙◌, subst, arith, count_by}
 use Rattle.std.proofs.lemmas.Bool.{cases_lt, cases_eq, cases_Bool, and_parts}
 use Rattle.std.proofs.lemmas.Option.{slice_get-map, slice_get_within, get_or_from_slice_get}
-use Rattle.std.proofs.lemmas.List.{map-append}
 use Rattle.std.proofs.lemmas.List.Sums.{sum_by-cons}
 use Rattle.std.specs.Option.{option_map}
 use Rattle.optra_network.specs.Net.{Net, IsProper, MayUse, headway_of}
@@ -13,13 +12,11 @@ use Rattle.optra_network.specs.declared.TrackUse.{TrackUse}
 use Rattle.optra_network.proofs.PartnerLemmas.{numbers_of}
 use Rattle.optra_bid.specs.declared.bids.Bid.{Bid}
 use Rattle.optra_walk.specs.declared.Leg.{Leg}
-use Rattle.optra_walk.specs.Families.{Entry, IsUsable, FitRows, entries_of}
-use Rattle.optra_walk.specs.Legs.{use_of}
+use Rattle.optra_walk.specs.Families.{Entry, IsUsable, FitRows, entries_of, use_of_entry}
 use Rattle.optra_walk.specs.Choices.{KeepsHeadways, uses_of}
 use Rattle.optra_rows.specs.declared.HRow.{HRow}
 use Rattle.optra_rows.specs.Headways.{is_row_of, uses_row, headway_rows, KeepsHeadwayRule}
 use Rattle.optra_rows.specs.HeartLemmas.{shares, AreNear, near_from_row}
-use Rattle.optra_rows.specs.ListLemmas.{map-map}
 
 -- ---- a test that holds at most at one place
 module _ {X : Type 0} (p : X → Bool) where
@@ -112,9 +109,6 @@ not_both net a b p ma mb c same near =
     ]
 
 -- ---- the rule
-abbrev use_of_entry : Entry → TrackUse
-use_of_entry e = use_of e.0 e.1
-
 abbrev uses_at : Net → HRow → Entry → Bool
 uses_at net row e = uses_row net e.1.track e.0 e.1.depart row
 
@@ -172,18 +166,7 @@ pub headways_by_rows : (net : Net) (entries : List Entry) → IsProper net → A
 headways_by_rows net entries p all =
     ((λ rule row is_row. fits_from_rule net entries p all rule row), (λ fits. rule_from_fits net entries p all (λ row is_row. fits row is_row)))
 
--- ---- the uses of a choice are those of its legs
-
-pub uses_of_entries : (bids : List Bid) (walks : List (Option (List Leg))) → map use_of_entry (entries_of bids walks) ≡ uses_of bids walks
-uses_of_entries [] walks = refl
-uses_of_entries (bid ∷ bids) [] = refl
-uses_of_entries (bid ∷ bids) (None ∷ walks) = uses_of_entries bids walks
-uses_of_entries (bid ∷ bids) (Some legs ∷ walks) =
-    map-append use_of_entry (map (λ leg. (bid.path.kind, leg)) legs) (entries_of bids walks)
-    ∙ (λ i. map-map (λ leg. (bid.path.kind, leg)) use_of_entry legs i ++ uses_of_entries bids walks i)
-
 -- a choice keeps the headways exactly where its legs use no row more than once
 pub choice_by_rows : (net : Net) (bids : List Bid) (walks : List (Option (List Leg))) → IsProper net → All (λ e. IsUsable net e.0 e.1) (entries_of bids walks)
     → KeepsHeadways net (uses_of bids walks) ↔ FitRows (headway_rows net) (entries_of bids walks)
-choice_by_rows net bids walks p all =
-    subst (λ uses. KeepsHeadways net uses ↔ FitRows (headway_rows net) (entries_of bids walks)) (uses_of_entries bids walks) (headways_by_rows net (entries_of bids walks) p all)
+choice_by_rows net bids walks p all = headways_by_rows net (entries_of bids walks) p all

@@ -61,9 +61,9 @@ impl RowFamily for HeadwayRows {
 
     ghost tells_apart = { rows_told_apart };
 
-    ghost lists_rows = { λ f net kind leg p u. headway_rows_listed net leg.track kind leg.depart p u.may_use u.depart };
+    ghost lists_rows = { λ f net kind leg u. headway_rows_listed net leg.track kind leg.depart u.proper u.may_use u.depart };
 
-    ghost uses_few = { λ f net kind leg p u. few_headways net leg.track kind leg.depart p u.may_use u.depart };
+    ghost uses_few = { λ f net kind leg u. few_headways net leg.track kind leg.depart u.proper u.may_use u.depart };
 
     ghost capacity_fits = { λ f net row p is. lit≤ tt };
 

@@ -56,15 +56,15 @@ impl<A: RowFamily, B: RowFamily> RowFamily for Both<A, B> {
 
     ghost tells_apart = { tell_both_apart A.Row.cmp B.Row.cmp ⟦<Either<A::Row, B::Row> as Ord>⟧.cmp (λ a b. refl) (λ a b. refl) (λ a b. refl) (λ a b. refl) A.tells_apart B.tells_apart };
 
-    ghost lists_rows = { λ f net kind leg p u.
+    ghost lists_rows = { λ f net kind leg u.
         lists_both A.Row.cmp B.Row.cmp ⟦<Either<A::Row, B::Row> as Ord>⟧.cmp (λ a b. refl) (λ a b. refl) (λ a b. refl)
         (A.rows_of f.first net) (B.rows_of f.second net) kind leg
         (A.rows_used f.first net kind leg) (B.rows_used f.second net kind leg)
-        (A.lists_rows f.first net kind leg p u) (B.lists_rows f.second net kind leg p u)
-        (few_together (A.uses_few f.first net kind leg p u) (B.uses_few f.second net kind leg p u) f.few) };
+        (A.lists_rows f.first net kind leg u) (B.lists_rows f.second net kind leg u)
+        (few_together (A.uses_few f.first net kind leg u) (B.uses_few f.second net kind leg u) f.few) };
 
-    ghost uses_few = { λ f net kind leg p u.
-        few_of_both (A.uses_few f.first net kind leg p u) (B.uses_few f.second net kind leg p u) };
+    ghost uses_few = { λ f net kind leg u.
+        few_of_both (A.uses_few f.first net kind leg u) (B.uses_few f.second net kind leg u) };
 
     ghost capacity_fits = { λ f net row p is. caps_fit (A.rows_of f.first net) (B.rows_of f.second net) (λ r. A.capacity_fits f.first net r p) (λ r. B.capacity_fits f.second net r p) row is };
 

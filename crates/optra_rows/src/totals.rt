@@ -2,8 +2,8 @@
 ghost use Rattle.std.specs.Prelude.{OnOk, OnErr, IsSome, IsTrue, if◌then◌else◌, ◌≡◌, ℕ, ◌+◌, ◌<◌, ◌≤◌, ◌^◌, ◌↔◌, length, slice_get, List};
 ghost use Rattle.std.specs.Ordering.{is_eq};
 ghost use Rattle.std.specs.BTreeMap.{get};
-ghost use Rattle.optra_walk.specs.Families.{IsUsable};
-ghost use Rattle.optra_rows.specs.Loads.{total_of, HasRoom};
+ghost use Rattle.optra_walk.specs.Families.{IsUsable, total_of};
+ghost use Rattle.optra_rows.specs.Loads.{HasRoom};
 
 use optra_network::{Network, NoMemory, TypeId};
 use optra_walk::{Leg, RowFamily};

@@ -2,7 +2,7 @@
 ghost use Rattle.std.specs.Prelude.{◌≡◌, IfOk};
 ghost use Rattle.optra_rows.specs.declared.HRow.{HRow};
 ghost use Rattle.optra_rows.specs.Headways.{use_in};
-ghost use Rattle.optra_rows.specs.Loads.{total_of};
+ghost use Rattle.optra_walk.specs.Families.{total_of};
 ghost use Rattle.optra_rows.specs.TouchedLemmas.{row_cmp};
 
 use crate::decisions::AB;

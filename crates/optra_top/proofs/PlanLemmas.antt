@@ -6,11 +6,10 @@ use Rattle.optra_network.specs.Net.{Net, CrossingRow, IsProper, halt_max_of, sam
 use Rattle.optra_network.specs.declared.TrackUse.{TrackUse}
 use Rattle.optra_bid.specs.declared.bids.Bid.{Bid}
 use Rattle.optra_walk.specs.declared.Leg.{Leg}
-use Rattle.optra_walk.specs.Choices.{KeepsHeadways, IsConflictFree, revenue_of, uses_of}
+use Rattle.optra_walk.specs.Choices.{IsConflictFree, revenue_of, uses_of}
 use Rattle.optra_walk.specs.Families.{Rows, Entry, entries_of}
 use Rattle.optra_walk.specs.Rules.{KeepsCrossings, KeepsHalts}
 use Rattle.optra_rows.specs.Headways.{KeepsHeadwayRule}
-use Rattle.optra_rows.specs.RuleLemmas.{uses_of_entries}
 use Rattle.optra_cross.specs.CrossLemmas.{once_from_headways}
 use Rattle.optra_node.specs.Certificates.{IsValid}
 use Rattle.optra_node.specs.Laws.{BoundHolds}
@@ -41,11 +40,11 @@ pub headways-tell : (net : Net) (bids : List Bid) → HasHeadwaysAlone net → T
 headways-tell net bids alone walks choice = (
   (λ rule. record {
     choice = choice;
-    headways = subst (KeepsHeadways net) (uses_of_entries bids walks) rule;
+    headways = rule;
     crossings = no-crossings net (uses_of bids walks) alone.crossings;
     halts = no-limits net (entries_of bids walks) alone.limits;
   }),
-  (λ free. subst (KeepsHeadways net) (sym (uses_of_entries bids walks)) free.headways),
+  (λ free. free.headways),
 )
 
 -- ---- with them
@@ -55,14 +54,11 @@ pub all-tell : (net : Net) (bids : List Bid) → IsProper net → TellsConflicts
 all-tell net bids proper walks choice = (
   (λ rules. record {
     choice = choice;
-    headways = subst (KeepsHeadways net) (uses_of_entries bids walks) rules.0.0;
-    crossings = subst (KeepsCrossings net) (uses_of_entries bids walks) rules.0.1.crossings;
+    headways = rules.0.0;
+    crossings = rules.0.1.crossings;
     halts = rules.1;
   }),
-  (λ free.
-      let headways = subst (KeepsHeadways net) (sym (uses_of_entries bids walks)) free.headways in
-      let crossings = subst (KeepsCrossings net) (sym (uses_of_entries bids walks)) free.crossings in
-      ((headways, record { crossings = crossings; once = once_from_headways net _ proper headways }), free.halts)),
+  (λ free. ((free.headways, record { crossings = free.crossings; once = once_from_headways net (uses_of bids walks) proper free.headways }), free.halts)),
 )
 
 module _ {R : Type 0} (cmp : R → R → Ordering) (net : Net) (rows : Rows R) (Keeps : List Entry → Type 0) (bids : List Bid) (tells : TellsConflicts net bids Keeps) (holds : BoundHolds net rows Keeps bids) where

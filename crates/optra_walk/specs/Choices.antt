@@ -1,5 +1,5 @@
 -- Choices of walks: their uses, their conflicts and their revenue.
-use Rattle.std.specs.Prelude.{◌≡◌, ◌≢◌, ℕ, ℤ, pos, List, [], ◌∷◌, ◌++◌, map, Option, None, Some, slice_get, IfSome}
+use Rattle.std.specs.Prelude.{◌≡◌, ◌≢◌, ℕ, ℤ, pos, List, [], ◌∷◌, map, Option, None, Some, slice_get, IfSome}
 use Rattle.std.specs.Prelude.{◌+ℤ◌, ◌≤ℤ◌}
 use Rattle.std.specs.List.{AllZip}
 use Rattle.optra_network.specs.Net.{Net}
@@ -7,10 +7,9 @@ use Rattle.optra_network.specs.Conflict.{AreCompatible}
 use Rattle.optra_network.specs.declared.TrackUse.{TrackUse}
 use Rattle.optra_bid.specs.declared.bids.Bid.{Bid}
 use Rattle.optra_walk.specs.declared.Leg.{Leg}
-use Rattle.optra_walk.specs.Legs.{use_of}
 use Rattle.optra_walk.specs.Walks.{IsWalk}
 use Rattle.optra_walk.specs.Values.{value_of}
-use Rattle.optra_walk.specs.Families.{entries_of}
+use Rattle.optra_walk.specs.Families.{entries_of, use_of_entry}
 use Rattle.optra_walk.specs.Rules.{KeepsCrossings, KeepsHalts}
 
 -- one entry for each bid, and each entry that is there is a walk of its bid
@@ -19,10 +18,7 @@ IsChoice net bids walks = AllZip (λ bid walk. IfSome walk (IsWalk net bid.path)
 
 -- the uses of all legs of all walks, in one list
 abbrev pub uses_of : List Bid → List (Option (List Leg)) → List TrackUse
-uses_of [] walks = []
-uses_of (bid ∷ bids) [] = []
-uses_of (bid ∷ bids) (None ∷ walks) = uses_of bids walks
-uses_of (bid ∷ bids) (Some legs ∷ walks) = map (use_of bid.path.kind) legs ++ uses_of bids walks
+uses_of bids walks = map use_of_entry (entries_of bids walks)
 
 -- the uses at every two different places of the list are compatible, two of one train included
 abbrev pub KeepsHeadways : Net → List TrackUse → Type 0

@@ -1,16 +1,22 @@
 -- Legs of types, the rows that they use, and what a family says of its rows.
-use Rattle.std.specs.Prelude.{◌≡◌, ℕ, ◌≤◌, ◌<◌, ◌↔◌, Bool, true, List, [], ◌∷◌, ◌++◌, map, length, sum_by, All, Contains, Option, None, Some, ⊤}
+use Rattle.std.specs.Prelude.{◌≡◌, ℕ, ◌≤◌, ◌<◌, ◌↔◌, Bool, true, List, [], ◌∷◌, ◌++◌, map, length, sum_by, All, Contains, Option, None, Some, unwrap_or, ⊤}
+use Rattle.std.specs.BTreeMap.{BTreeMap, get}
 use Rattle.std.specs.declared.cmp.Ordering.{Ordering}
 use Rattle.std.specs.declared.cmp.Ordering.TheVariants.{Less, Equal}
 use Rattle.optra_network.specs.Net.{Net, IsProper, MayUse}
+use Rattle.optra_network.specs.declared.TrackUse.{TrackUse}
 use Rattle.optra_network.specs.declared.TypeId.{TypeId}
 use Rattle.optra_bid.specs.declared.bids.Bid.{Bid}
 use Rattle.optra_walk.specs.declared.Leg.{Leg}
-use Rattle.optra_walk.specs.Legs.{dwell_of}
+use Rattle.optra_walk.specs.Legs.{dwell_of, use_of}
 
 -- a leg of a type
 abbrev pub Entry : Type 0
 Entry = TypeId × Leg
+
+-- the use of a track by a leg of a type
+abbrev pub use_of_entry : Entry → TrackUse
+use_of_entry e = use_of e.0 e.1
 
 -- on a network that Builder::finish made, the type may use the track, and the leg departs by minute 2,879 and dwells at most 240 minutes
 pub record IsUsable (net : Net) (kind : TypeId) (leg : Leg) : Type 0 where
@@ -35,6 +41,10 @@ pub record Rows (R : Type 0) : Type 0 where
 -- two legs of a type use as much of each row, and have the same list of rows
 abbrev pub UseAlike : {R : Type 0} → Rows R → (TypeId → Leg → List R) → TypeId → Leg → Leg → Type 0
 UseAlike {R} rows used kind first second = ((row : R) → rows.uses kind first row ≡ rows.uses kind second row) × (used kind first ≡ used kind second)
+
+-- the total of a row, 0 where none is kept
+abbrev pub total_of : {R : Type 0} → (R → R → Ordering) → BTreeMap R ℕ → R → ℕ
+total_of cmp totals row = unwrap_or (get cmp totals row) 0
 
 -- how much of a row the legs use together
 abbrev pub load_of : {R : Type 0} → Rows R → R → List Entry → ℕ

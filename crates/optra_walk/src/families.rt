@@ -83,11 +83,11 @@ pub trait RowFamily {
 
     /// The rows that a usable leg uses are listed ascending and each once; they are rows of the family, at most 8,192,
     /// and the uses add up to at most 8,192.
-    ghost lists_rows: { (f : Self) (net : Net) (kind : Kind) (leg : Step) → IsProper net → IsUsable net kind leg
+    ghost lists_rows: { (f : Self) (net : Net) (kind : Kind) (leg : Step) → IsUsable net kind leg
         → ListsRows Self.Row.cmp (rows_of f net).is_row ((rows_of f net).uses kind leg) (rows_used f net kind leg) };
 
     /// They are at most `most`, and so are the uses added up.
-    ghost uses_few: { (f : Self) (net : Net) (kind : Kind) (leg : Step) → IsProper net → IsUsable net kind leg
+    ghost uses_few: { (f : Self) (net : Net) (kind : Kind) (leg : Step) → IsUsable net kind leg
         → UsesFew (most f) ((rows_of f net).uses kind leg) (rows_used f net kind leg) };
 
     /// The capacity of a row is at most 65,535.

@@ -4,7 +4,8 @@ use Rattle.std.proofs.lemmas.List.{take_all}
 use Rattle.optra_node.specs.declared.Decision.{Decision}
 use Rattle.optra_node.specs.declared.Item.{Item}
 use Rattle.optra_node.specs.Nodes.{yes_load}
-use Rattle.optra_node.specs.Summaries.{Summed, total_of}
+use Rattle.optra_walk.specs.Families.{total_of}
+use Rattle.optra_node.specs.Summaries.{Summed}
 use Rattle.optra_node.specs.Trees.{placed, root, places}
 use Rattle.optra_node.specs.Certificates.{SplitsUndecided}
 use Rattle.optra_checker.specs.Bounds.{IsItemBound, IsGreatestOf}

@@ -3,10 +3,9 @@ use Rattle.std.specs.Prelude.{All, IsTrue, IfOk, IfSome}
 use Rattle.std.proofs.lemmas.List.{append-nil}
 use Rattle.optra_network.specs.declared.TypeId.{TypeId}
 use Rattle.optra_walk.specs.declared.Leg.{Leg}
-use Rattle.optra_walk.specs.Families.{Entry, IsUsable, load_of, entries_of}
+use Rattle.optra_walk.specs.Families.{Entry, IsUsable, load_of, entries_of, total_of}
 use Rattle.optra_walk.specs.Walks.{IsWalk}
 use Rattle.optra_walk.proofs.UsableLemmas.{walk_usable}
-use Rattle.optra_node.specs.Summaries.{total_of}
 use Rattle.optra_checker.specs.Fits.{AreWithin}
 use Rattle.optra_checker.proofs.fitting.entry_fits.Goals as goal
 

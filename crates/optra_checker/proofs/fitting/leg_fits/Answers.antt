@@ -1,5 +1,5 @@
 use Rattle.std.proofs.Common.{◌≡◌, ◌+◌, ◌≤◌, ◌∙◌, Some, slice_get, length, sym, arith}
-use Rattle.optra_node.specs.Summaries.{total_of}
+use Rattle.optra_walk.specs.Families.{total_of}
 use Rattle.optra_node.proofs.LeastLemmas.{none_past}
 use Rattle.optra_node.proofs.RaiseLemmas.{raised_all, raised_more, still}
 use Rattle.optra_checker.proofs.FitLemmas.{fits_more, fits_all}
@@ -12,7 +12,7 @@ cap-requires g c =
     let net = c.args.net.now in
     let rows = g.F.RowFamily.rows_of f net in
     let used = g.F.RowFamily.rows_used f net c.args.kind c.args.leg in
-    let lists = g.met.F.RowFamily.lists_rows f net c.args.kind c.args.leg c.requires.usable.proper c.requires.usable in
+    let lists = g.met.F.RowFamily.lists_rows f net c.args.kind c.args.leg c.requires.usable in
     used_is_row g.F.Row.Ord.cmp rows.is_row (rows.uses c.args.kind c.args.leg) used c.loop-k.k c.in-Some.row lists (sym c.touched.ensures ∙ c.in-Some.is)
 
 pub loop-k-preserved : goal.loop-k-preserved
@@ -23,7 +23,7 @@ loop-k-preserved g c =
     let cmp = g.F.Row.Ord.cmp in
     let uses = rows.uses c.args.kind c.args.leg in
     let used = g.F.RowFamily.rows_used f net c.args.kind c.args.leg in
-    let lists = g.met.F.RowFamily.lists_rows f net c.args.kind c.args.leg c.requires.usable.proper c.requires.usable in
+    let lists = g.met.F.RowFamily.lists_rows f net c.args.kind c.args.leg c.requires.usable in
     let before = total_of cmp c.args.totals.now in
     let now = total_of cmp c.loop-k.totals in
     let row = c.in-Some.row in
@@ -45,7 +45,7 @@ returns-in_default-clause-added g c =
     let net = c.args.net.now in
     let uses = (g.F.RowFamily.rows_of f net).uses c.args.kind c.args.leg in
     let used = g.F.RowFamily.rows_used f net c.args.kind c.args.leg in
-    let lists = g.met.F.RowFamily.lists_rows f net c.args.kind c.args.leg c.requires.usable.proper c.requires.usable in
+    let lists = g.met.F.RowFamily.lists_rows f net c.args.kind c.args.leg c.requires.usable in
     raised_all g.F.Row.Ord.cmp g.met.F.Row.Ord.total g.met.F.RowFamily.tells_apart used lists.ascending uses (total_of g.F.Row.Ord.cmp c.args.totals.now) lists.used
     (total_of g.F.Row.Ord.cmp c.loop-k.totals) c.loop-k.k (none_past used c.loop-k.k (sym c.touched.ensures ∙ c.in_default.is)) c.loop-k.invariant.raised
 
@@ -57,7 +57,7 @@ returns-in_default-clause-within g c =
     let rows = g.F.RowFamily.rows_of f net in
     let uses = rows.uses c.args.kind c.args.leg in
     let used = g.F.RowFamily.rows_used f net c.args.kind c.args.leg in
-    let lists = g.met.F.RowFamily.lists_rows f net c.args.kind c.args.leg c.requires.usable.proper c.requires.usable in
+    let lists = g.met.F.RowFamily.lists_rows f net c.args.kind c.args.leg c.requires.usable in
     let past = none_past used c.loop-k.k (sym c.touched.ensures ∙ c.in_default.is) in
     let added = raised_all cmp g.met.F.Row.Ord.total g.met.F.RowFamily.tells_apart used lists.ascending uses (total_of cmp c.args.totals.now) lists.used
     (total_of cmp c.loop-k.totals) c.loop-k.k past c.loop-k.invariant.raised in
@@ -69,7 +69,7 @@ returns-clause-added g c =
     let net = c.args.net.now in
     let uses = (g.F.RowFamily.rows_of f net).uses c.args.kind c.args.leg in
     let used = g.F.RowFamily.rows_used f net c.args.kind c.args.leg in
-    let lists = g.met.F.RowFamily.lists_rows f net c.args.kind c.args.leg c.requires.usable.proper c.requires.usable in
+    let lists = g.met.F.RowFamily.lists_rows f net c.args.kind c.args.leg c.requires.usable in
     let few : length used ≤ c.loop-k.k = let few = lists.few in let past = c.loop-k-test.false in omega (arith, few, past) in
     raised_all g.F.Row.Ord.cmp g.met.F.Row.Ord.total g.met.F.RowFamily.tells_apart used lists.ascending uses (total_of g.F.Row.Ord.cmp c.args.totals.now) lists.used
     (total_of g.F.Row.Ord.cmp c.loop-k.totals) c.loop-k.k few c.loop-k.invariant.raised
@@ -82,7 +82,7 @@ returns-clause-within g c =
     let rows = g.F.RowFamily.rows_of f net in
     let uses = rows.uses c.args.kind c.args.leg in
     let used = g.F.RowFamily.rows_used f net c.args.kind c.args.leg in
-    let lists = g.met.F.RowFamily.lists_rows f net c.args.kind c.args.leg c.requires.usable.proper c.requires.usable in
+    let lists = g.met.F.RowFamily.lists_rows f net c.args.kind c.args.leg c.requires.usable in
     let past : length used ≤ c.loop-k.k = let few = lists.few in let past = c.loop-k-test.false in omega (arith, few, past) in
     let added = raised_all cmp g.met.F.Row.Ord.total g.met.F.RowFamily.tells_apart used lists.ascending uses (total_of cmp c.args.totals.now) lists.used
     (total_of cmp c.loop-k.totals) c.loop-k.k past c.loop-k.invariant.raised in

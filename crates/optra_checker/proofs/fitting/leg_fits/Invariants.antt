@@ -1,7 +1,7 @@
 -- The rows so far are raised, and all fit where it says so.
 use Rattle.std.proofs.Common.{◌≡◌, ℕ, ◌+◌, ◌<◌, ◌≤◌, ◌↔◌, Some, slice_get}
 use Rattle.std.specs.Prelude.{IsTrue}
-use Rattle.optra_node.specs.Summaries.{total_of}
+use Rattle.optra_walk.specs.Families.{total_of}
 use Rattle.optra_node.proofs.RaiseLemmas.{IsRaised}
 use Rattle.optra_checker.proofs.fitting.leg_fits.Given as goal
 

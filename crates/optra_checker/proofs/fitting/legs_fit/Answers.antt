@@ -2,8 +2,7 @@ use Rattle.std.proofs.Common.{◌+◌, map, sym, ◌∙◌, ap, refl, arith, fal
 use Rattle.std.proofs.lemmas.List.{take_all}
 use Rattle.optra_walk.specs.declared.Action.TheVariants.{Pass}
 use Rattle.optra_walk.specs.declared.Leg.{Leg}
-use Rattle.optra_walk.specs.Families.{load_of}
-use Rattle.optra_node.specs.Summaries.{total_of}
+use Rattle.optra_walk.specs.Families.{load_of, total_of}
 use Rattle.optra_checker.proofs.AtLemmas.{no_true, not_both}
 use Rattle.optra_checker.proofs.FitLemmas.{within_below, within_same, legs_below}
 use Rattle.optra_checker.proofs.fitting.legs_fit.Goals as goal

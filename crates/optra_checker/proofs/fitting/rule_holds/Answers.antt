@@ -1,7 +1,6 @@
 use Rattle.std.proofs.Common.{◌+◌, ◌<◌, ◌∷◌, [], length, refl, arith}
-use Rattle.optra_walk.specs.Families.{load_of, entries_of}
+use Rattle.optra_walk.specs.Families.{load_of, entries_of, total_of}
 use Rattle.optra_walk.proofs.UsableLemmas.{choice_usable}
-use Rattle.optra_node.specs.Summaries.{total_of}
 use Rattle.optra_checker.proofs.AtLemmas.{no_true, not_both}
 use Rattle.optra_checker.proofs.EarnLemmas.{choice_long, choice_at}
 use Rattle.optra_checker.proofs.FitLemmas.{within_below, within_same, load_at, load_past, within_fits}
@@ -27,7 +26,7 @@ returns-then-not-branch g c =
     let entries = c.args.entries.now in
     let proper = c.laws.ensures in
     let usable = choice_usable net proper bids entries c.requires in
-    let fits = within_fits rows net (λ kind leg u. (g.met.F.RowFamily.lists_rows f net kind leg proper u).are_rows) (entries_of bids entries) usable in
+    let fits = within_fits rows net (λ kind leg u. (g.met.F.RowFamily.lists_rows f net kind leg u).are_rows) (entries_of bids entries) usable in
     let rule = g.met.F.RowFamily.rule_by_rows f net (entries_of bids entries) proper usable in
     let same = choice_long net bids entries c.requires in
     let l = c.bids-test.true in
@@ -65,7 +64,7 @@ returns g c =
     let entries = c.args.entries.now in
     let proper = c.laws.ensures in
     let usable = choice_usable net proper bids entries c.requires in
-    let fits = within_fits rows net (λ kind leg u. (g.met.F.RowFamily.lists_rows f net kind leg proper u).are_rows) (entries_of bids entries) usable in
+    let fits = within_fits rows net (λ kind leg u. (g.met.F.RowFamily.lists_rows f net kind leg u).are_rows) (entries_of bids entries) usable in
     let rule = g.met.F.RowFamily.rule_by_rows f net (entries_of bids entries) proper usable in (
       λ _. rule.1 (fits.0 (within_same rows (λ q. load_of rows q (entries_of bids entries)) (total c.bids.totals)
           (λ q. let r = c.bids.invariant.rest q in let p = load_past rows q bids entries c.bids.i c.bids-test.false in omega arith) c.bids.invariant.within)),

@@ -1,6 +1,5 @@
 use Rattle.std.proofs.Common.{◌≡◌, ◌+◌, drop}
-use Rattle.optra_walk.specs.Families.{load_of, entries_of}
-use Rattle.optra_node.specs.Summaries.{total_of}
+use Rattle.optra_walk.specs.Families.{load_of, entries_of, total_of}
 use Rattle.optra_checker.specs.Fits.{AreWithin}
 use Rattle.optra_checker.proofs.fitting.rule_holds.Given as goal
 

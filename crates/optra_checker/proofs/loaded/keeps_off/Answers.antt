@@ -10,7 +10,7 @@ loop-k-preserved g c =
     let cmp = g.F.Row.Ord.cmp in
     let rows = g.F.RowFamily.rows_of c.args.rows.now c.args.net.now in
     let used = g.F.RowFamily.rows_used c.args.rows.now c.args.net.now c.args.kind c.args.leg in
-    let lists = g.met.F.RowFamily.lists_rows c.args.rows.now c.args.net.now c.args.kind c.args.leg c.requires.usable.proper c.requires.usable in
+    let lists = g.met.F.RowFamily.lists_rows c.args.rows.now c.args.net.now c.args.kind c.args.leg c.requires.usable in
     let row = c.in-Some.row in
     let at : slice_get used c.loop-k.k ≡ Some row = sym c.touched.ensures ∙ c.in-Some.is in
     let fits = c.if-cap-leg_use.false in
@@ -27,14 +27,14 @@ pub cap-requires : goal.cap-requires
 cap-requires g c =
     let rows = g.F.RowFamily.rows_of c.args.rows.now c.args.net.now in
     let used = g.F.RowFamily.rows_used c.args.rows.now c.args.net.now c.args.kind c.args.leg in
-    let lists = g.met.F.RowFamily.lists_rows c.args.rows.now c.args.net.now c.args.kind c.args.leg c.requires.usable.proper c.requires.usable in
+    let lists = g.met.F.RowFamily.lists_rows c.args.rows.now c.args.net.now c.args.kind c.args.leg c.requires.usable in
     used_is_row g.F.Row.Ord.cmp rows.is_row (rows.uses c.args.kind c.args.leg) used c.loop-k.k c.in-Some.row lists (sym c.touched.ensures ∙ c.in-Some.is)
 
 pub returns-in_default : goal.returns-in_default
 returns-in_default g c t =
     let rows = g.F.RowFamily.rows_of c.args.rows.now c.args.net.now in
     let used = g.F.RowFamily.rows_used c.args.rows.now c.args.net.now c.args.kind c.args.leg in
-    let lists = g.met.F.RowFamily.lists_rows c.args.rows.now c.args.net.now c.args.kind c.args.leg c.requires.usable.proper c.requires.usable in
+    let lists = g.met.F.RowFamily.lists_rows c.args.rows.now c.args.net.now c.args.kind c.args.leg c.requires.usable in
     off_all g.F.Row.Ord.cmp rows c.args.kind c.args.loaded.now c.args.leg used c.loop-k.k lists
     (no_more used c.loop-k.k (λ row at. let is = c.in_default.is in let e = c.touched.ensures in cc)) c.loop-k.invariant.seen
 
@@ -42,7 +42,7 @@ pub returns : goal.returns
 returns g c t =
     let rows = g.F.RowFamily.rows_of c.args.rows.now c.args.net.now in
     let used = g.F.RowFamily.rows_used c.args.rows.now c.args.net.now c.args.kind c.args.leg in
-    let lists = g.met.F.RowFamily.lists_rows c.args.rows.now c.args.net.now c.args.kind c.args.leg c.requires.usable.proper c.requires.usable in
+    let lists = g.met.F.RowFamily.lists_rows c.args.rows.now c.args.net.now c.args.kind c.args.leg c.requires.usable in
     let few = lists.few in
     let past = c.loop-k-test.false in
     off_all g.F.Row.Ord.cmp rows c.args.kind c.args.loaded.now c.args.leg used c.loop-k.k lists (omega (arith, few, past)) c.loop-k.invariant.seen

@@ -2,7 +2,7 @@ use Rattle.std.proofs.Common.{◌≡◌, ◌∙◌, sym, ap, subst, Vec, Global}
 use Rattle.std.specs.BTreeMap.{keys, get}
 use Rattle.std.specs.Ordering.{eq_by_cmp}
 use Rattle.std.specs.Set.{is_member}
-use Rattle.optra_node.specs.Summaries.{total_of}
+use Rattle.optra_walk.specs.Families.{total_of}
 use Rattle.optra_checker.specs.Loaded.{AreRising, IsMissing}
 use Rattle.optra_checker.proofs.LoadedLemmas.{keys_rise, none_found, none_kept}
 use Rattle.optra_checker.proofs.ToComeLemmas.{if_ok}

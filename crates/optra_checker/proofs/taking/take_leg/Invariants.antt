@@ -1,4 +1,4 @@
-use Rattle.optra_node.specs.Summaries.{total_of}
+use Rattle.optra_walk.specs.Families.{total_of}
 use Rattle.optra_checker.proofs.LowerLemmas.{IsLowered}
 use Rattle.optra_checker.proofs.taking.take_leg.Given as goal
 

@@ -13,7 +13,7 @@ returns-then-has_yes-clause-best g c b at =
     let rows = g.F.RowFamily.rows_of node.family node.net in
     let used = g.F.RowFamily.rows_used node.family node.net in
     let proper : IsProper node.net = c.laws.ensures in
-    best_yes g.F.Row.Ord.cmp node.net proper rows used (λ kind leg usable. g.met.F.RowFamily.lists_rows node.family node.net kind leg proper usable) node.bids node.node c.args.prices.now c.args.bid b at c.in_ok-best.best (c.in_ok-best.ensures.best b at)
+    best_yes g.F.Row.Ord.cmp node.net proper rows used (λ kind leg usable. g.met.F.RowFamily.lists_rows node.family node.net kind leg usable) node.bids node.node c.args.prices.now c.args.bid b at c.in_ok-best.best (c.in_ok-best.ensures.best b at)
     (sym c.has_yes.ensures ∙ c.if-has_yes.true)
 
 pub returns-else-has_yes-clause-best : goal.returns-else-has_yes-clause-best
@@ -24,5 +24,5 @@ returns-else-has_yes-clause-best g c b at =
     let proper : IsProper node.net = c.laws.ensures in
     let fits : FitsSigned w128 c.or_zero.result = search rules in
     subst (IsGreatest (IsOffer node.net rows node.bids node.node c.args.prices.now c.args.bid b)) (sym (to_z-of_z w128 c.or_zero.result fits))
-    (best_no g.F.Row.Ord.cmp node.net proper rows used (λ kind leg usable. g.met.F.RowFamily.lists_rows node.family node.net kind leg proper usable) node.bids node.node c.args.prices.now c.args.bid b at c.in_ok-best.best (c.in_ok-best.ensures.best b at)
+    (best_no g.F.Row.Ord.cmp node.net proper rows used (λ kind leg usable. g.met.F.RowFamily.lists_rows node.family node.net kind leg usable) node.bids node.node c.args.prices.now c.args.bid b at c.in_ok-best.best (c.in_ok-best.ensures.best b at)
     (sym c.has_yes.ensures ∙ c.if-has_yes.false) c.or_zero.result c.or_zero.ensures.least c.or_zero.ensures.most c.or_zero.ensures.reached)

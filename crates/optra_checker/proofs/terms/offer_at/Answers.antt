@@ -21,8 +21,8 @@ returns-then-is_let_be-clause-best g c b at =
     let is = c.is_let_be.ensures c.if-is_let_be.true in
     let usable = free_usable node.net node.bids c.args.bid free c.requires.free proper is.some in
     let still = let_be_free g.F.Row.Ord.cmp node.net rows used node.bids node.node c.args.prices.now c.args.bid (option_map (λ w. w.items) c.args.watched.now) free.legs.items
-    (λ leg usable. g.met.F.RowFamily.lists_rows node.family node.net (kind_at node.bids c.args.bid) leg proper usable) usable c.requires.watched is in
+    (λ leg usable. g.met.F.RowFamily.lists_rows node.family node.net (kind_at node.bids c.args.bid) leg usable) usable c.requires.watched is in
     let best = stays_best node.net node.bids c.args.bid free c.requires.free rows used node.node c.args.prices.now c.requires.proper is.some still b at in
     subst (IsGreatest (IsOffer node.net rows node.bids node.node c.args.prices.now c.args.bid b)) (sym (to_z-of_z w128 c.or_zero.result fits))
-    (best_no g.F.Row.Ord.cmp node.net proper rows used (λ kind leg usable. g.met.F.RowFamily.lists_rows node.family node.net kind leg proper usable) node.bids node.node c.args.prices.now c.args.bid b at free.best best
+    (best_no g.F.Row.Ord.cmp node.net proper rows used (λ kind leg usable. g.met.F.RowFamily.lists_rows node.family node.net kind leg usable) node.bids node.node c.args.prices.now c.args.bid b at free.best best
     (no_yes c.args.bid node.node is.own) c.or_zero.result c.or_zero.ensures.least c.or_zero.ensures.most c.or_zero.ensures.reached)

@@ -2,9 +2,8 @@ use Rattle.std.proofs.Common.{◌≡◌, ◌+◌, ◌<◌, ◌∙◌, ◌++◌, 
 use Rattle.std.specs.Prelude.{All, option_map}
 use Rattle.std.proofs.lemmas.List.{take_all, map-append}
 use Rattle.optra_walk.specs.declared.Leg.{Leg}
-use Rattle.optra_walk.specs.Families.{IsUsable}
+use Rattle.optra_walk.specs.Families.{IsUsable, total_of}
 use Rattle.optra_network.specs.declared.TypeId.{TypeId}
-use Rattle.optra_node.specs.Summaries.{total_of}
 use Rattle.optra_checker.specs.declared.frees.Free.{Free}
 use Rattle.optra_checker.specs.Watches.{AreWatched, AreWatches}
 use Rattle.optra_checker.proofs.WatchLemmas.{watches_next, kept_usable}

@@ -1,5 +1,5 @@
 use Rattle.std.proofs.Common.{◌∙◌, sym, arith}
-use Rattle.optra_node.specs.Summaries.{total_of}
+use Rattle.optra_walk.specs.Families.{total_of}
 use Rattle.optra_checker.proofs.WatchLemmas.{watched_all, seen_more}
 use Rattle.optra_checker.proofs.watches.watch_leg.Goals as goal
 
@@ -21,7 +21,7 @@ pub returns-clause-watched : goal.returns-clause-watched
 returns-clause-watched g c t =
     let rows = g.F.RowFamily.rows_of c.args.rows.now c.args.net.now in
     let used = g.F.RowFamily.rows_used c.args.rows.now c.args.net.now c.args.kind c.args.leg in
-    let lists = g.met.F.RowFamily.lists_rows c.args.rows.now c.args.net.now c.args.kind c.args.leg c.requires.proper c.requires in
+    let lists = g.met.F.RowFamily.lists_rows c.args.rows.now c.args.net.now c.args.kind c.args.leg c.requires in
     let few = lists.few in
     let past = c.loop-k-test.false in
     watched_all rows c.args.kind g.F.Row.Ord.cmp (total_of g.F.Row.Ord.cmp c.args.loads.now) c.loop-k.watched.items c.args.leg used c.loop-k.k lists (omega (arith, few, past)) c.loop-k.invariant.seen

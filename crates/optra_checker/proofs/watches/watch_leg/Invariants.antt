@@ -1,6 +1,6 @@
 use Rattle.std.proofs.Common.{ℕ, ◌<◌, ◌≤◌, IfSome, slice_get}
 use Rattle.std.specs.Prelude.{Contains}
-use Rattle.optra_node.specs.Summaries.{total_of}
+use Rattle.optra_walk.specs.Families.{total_of}
 use Rattle.optra_checker.proofs.watches.watch_leg.Given as goal
 
 abbrev pub invariant-loop-k : goal.invariant-loop-k

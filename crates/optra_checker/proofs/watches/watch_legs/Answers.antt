@@ -3,7 +3,7 @@ use Rattle.std.specs.Prelude.{All}
 use Rattle.std.proofs.lemmas.List.{take_all}
 use Rattle.optra_walk.specs.declared.Action.TheVariants.{Pass}
 use Rattle.optra_walk.specs.declared.Leg.{Leg}
-use Rattle.optra_node.specs.Summaries.{total_of}
+use Rattle.optra_walk.specs.Families.{total_of}
 use Rattle.optra_checker.specs.Watches.{IsWatched}
 use Rattle.optra_checker.proofs.WatchLemmas.{watched_legs}
 use Rattle.optra_checker.proofs.watches.watch_legs.Goals as goal

@@ -1,6 +1,6 @@
 use Rattle.std.proofs.Common.{take}
 use Rattle.std.specs.Prelude.{All}
-use Rattle.optra_node.specs.Summaries.{total_of}
+use Rattle.optra_walk.specs.Families.{total_of}
 use Rattle.optra_checker.specs.Watches.{IsWatched}
 use Rattle.optra_checker.proofs.watches.watch_legs.Given as goal
 

@@ -25,7 +25,7 @@ returns-then-is_overfull g c =
     let net = c.args.inst.net.now in
     let f = c.args.rows.now in
     let rows = g.F.RowFamily.rows_of f net in
-    let lists = g.met.F.RowFamily.lists_rows f net c.args.kind c.args.leg c.args.inst.proper c.requires.usable in
+    let lists = g.met.F.RowFamily.lists_rows f net c.args.kind c.args.leg c.requires.usable in
     first_over g.F.Row.Ord.cmp g.met.F.Row.Ord.total (g.F.RowFamily.rows_used f net c.args.kind c.args.leg) lists.ascending (rows.uses c.args.kind c.args.leg) lists.used
     (λ row. yes_load rows c.args.inst.bids.now c.args.decisions.now row ≤ rows.capacity row)
     (IsOverfull rows c.args.inst.bids.now c.args.decisions.now)
@@ -37,7 +37,7 @@ returns-in_default g c =
     let net = c.args.inst.net.now in
     let f = c.args.rows.now in
     let rows = g.F.RowFamily.rows_of f net in
-    let lists = g.met.F.RowFamily.lists_rows f net c.args.kind c.args.leg c.args.inst.proper c.requires.usable in
+    let lists = g.met.F.RowFamily.lists_rows f net c.args.kind c.args.leg c.requires.usable in
     none_over g.F.Row.Ord.cmp g.met.F.Row.Ord.total (g.F.RowFamily.rows_used f net c.args.kind c.args.leg) lists.ascending (rows.uses c.args.kind c.args.leg) lists.used
     (λ row. yes_load rows c.args.inst.bids.now c.args.decisions.now row ≤ rows.capacity row)
     (IsOverfull rows c.args.inst.bids.now c.args.decisions.now)
@@ -49,7 +49,7 @@ loop-k-preserved g c =
     let net = c.args.inst.net.now in
     let f = c.args.rows.now in
     let rows = g.F.RowFamily.rows_of f net in
-    let lists = g.met.F.RowFamily.lists_rows f net c.args.kind c.args.leg c.args.inst.proper c.requires.usable in
+    let lists = g.met.F.RowFamily.lists_rows f net c.args.kind c.args.leg c.requires.usable in
     let at = sym c.touched.ensures ∙ c.in-Some.is in
     some_more (λ row. yes_load rows c.args.inst.bids.now c.args.decisions.now row ≤ rows.capacity row) (g.F.RowFamily.rows_used f net c.args.kind c.args.leg) c.loop-k.k c.in-Some.row c.loop-k.invariant at
     (fits rows c.args.inst.bids.now c.args.decisions.now c.in-Some.row c.is_overfull.result (lists.are_rows c.in-Some.row ((lists.used c.in-Some.row).1 (at_contains (g.F.RowFamily.rows_used f net c.args.kind c.args.leg) c.loop-k.k c.in-Some.row at))) c.if-is_overfull.false c.is_overfull.ensures.1)
@@ -59,7 +59,7 @@ returns g c =
     let net = c.args.inst.net.now in
     let f = c.args.rows.now in
     let rows = g.F.RowFamily.rows_of f net in
-    let lists = g.met.F.RowFamily.lists_rows f net c.args.kind c.args.leg c.args.inst.proper c.requires.usable in
+    let lists = g.met.F.RowFamily.lists_rows f net c.args.kind c.args.leg c.requires.usable in
     none_over g.F.Row.Ord.cmp g.met.F.Row.Ord.total (g.F.RowFamily.rows_used f net c.args.kind c.args.leg) lists.ascending (rows.uses c.args.kind c.args.leg) lists.used
     (λ row. yes_load rows c.args.inst.bids.now c.args.decisions.now row ≤ rows.capacity row)
     (IsOverfull rows c.args.inst.bids.now c.args.decisions.now)

@@ -28,7 +28,7 @@ returns g c prices kind leg usable =
     let rows = g.F.RowFamily.rows_used f net kind leg in
     let cmp = g.F.Row.Ord.cmp in
     let total = g.met.F.Row.Ord.total in
-    let lists = g.met.F.RowFamily.lists_rows f net kind leg proper usable in
+    let lists = g.met.F.RowFamily.lists_rows f net kind leg usable in
     by_used_rows (eq_by_cmp cmp)
     (λ a b e. g.met.F.RowFamily.tells_apart a b (equal_is (cmp a b) e))
     (λ a b e same. differ e (ap (eq_by_cmp cmp a) (sym same) ∙ ap is_eq (tied_itself total a)))

@@ -15,7 +15,7 @@ returns-clause-few g c =
       depart = c.requires.formed.depart;
       dwell = c.requires.formed.dwell;
     } in
-    let lists = g.met.F.RowFamily.lists_rows f net kind leg c.args.inst.proper usable in
+    let lists = g.met.F.RowFamily.lists_rows f net kind leg usable in
     let few = uses_few g.F.Row.Ord.cmp (g.F.RowFamily.rows_of f net).is_row ((g.F.RowFamily.rows_of f net).uses kind leg) (g.F.RowFamily.rows_used f net kind leg) lists c.args.row in
     let e = c.leg_use.ensures in
     omega (arith, few, e)

@@ -1,4 +1,4 @@
-use Rattle.optra_node.specs.Summaries.{total_of}
+use Rattle.optra_walk.specs.Families.{total_of}
 use Rattle.optra_node.proofs.RaiseLemmas.{IsRaised}
 use Rattle.optra_node.proofs.totals.add_leg.Given as goal
 

@@ -1,6 +1,6 @@
 use Rattle.std.proofs.Common.{◌≡◌, ◌≤◌, ◌*◌, take}
 use Rattle.optra_node.specs.Nodes.{yes_load}
-use Rattle.optra_node.specs.Summaries.{total_of}
+use Rattle.optra_walk.specs.Families.{total_of}
 use Rattle.optra_node.proofs.totals.loads.Given as goal
 
 abbrev pub invariant-loop-decision : goal.invariant-loop-decision

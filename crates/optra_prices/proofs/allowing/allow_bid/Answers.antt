@@ -44,7 +44,7 @@ allow_table-changed-requires-clause-tells g c =
     let places = c.places-places.result.now in
     let new = c.take_placed.new.room in
     let proper = c.args.inst.proper in
-    let lists = λ (kind : TypeId) (leg : Leg) (usable : IsUsable net kind leg). g.met.F.RowFamily.lists_rows f net kind leg proper usable in
+    let lists = λ (kind : TypeId) (leg : Leg) (usable : IsUsable net kind leg). g.met.F.RowFamily.lists_rows f net kind leg usable in
     let takes = subst (λ (cs : List Claim). TakesUses (placed_uses cs places) old.room.uses.items new.uses.items) c.deref.ensures.value c.take_placed.ensures.uses in
     let room = room_without rows bids numbered node old.claims.items is.claims_are n places c.places-places.ensures old.room new is.room_is takes c.take_placed.ensures.capacities in
     subst (λ (x : Summed g.row.F.Denot). RoomTells (g.F.RowFamily.rows_of x.family x.net) x.bids x.node n new table.graph.now c.args.grouping.now.groups.now table.arcs.items) (sym c.requires.summary)

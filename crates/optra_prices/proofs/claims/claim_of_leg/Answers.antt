@@ -32,7 +32,7 @@ returns-in_default g c =
     let net = c.args.net.now in
     let rows = g.F.RowFamily.rows_of f net in
     let used = g.F.RowFamily.rows_used f net c.args.kind c.args.leg in
-    let lists = g.met.F.RowFamily.lists_rows f net c.args.kind c.args.leg c.requires.usable.proper c.requires.usable in
+    let lists = g.met.F.RowFamily.lists_rows f net c.args.kind c.args.leg c.requires.usable in
     let past : length used ≤ c.loop-k.k = none_past used c.loop-k.k (sym c.touched.ensures ∙ c.in_default.is) in
     claims_all g.F.Row.Ord.cmp c.args.numbering.now.rows.items (rows.uses c.args.kind c.args.leg) used g.met.F.Row.Ord.total g.met.F.RowFamily.tells_apart rows.is_row lists c.loop-k.k c.loop-k.claim past c.loop-k.invariant
 
@@ -42,6 +42,6 @@ returns g c =
     let net = c.args.net.now in
     let rows = g.F.RowFamily.rows_of f net in
     let used = g.F.RowFamily.rows_used f net c.args.kind c.args.leg in
-    let lists = g.met.F.RowFamily.lists_rows f net c.args.kind c.args.leg c.requires.usable.proper c.requires.usable in
+    let lists = g.met.F.RowFamily.lists_rows f net c.args.kind c.args.leg c.requires.usable in
     let past : length used ≤ c.loop-k.k = let few = lists.few in omega arith in
     claims_all g.F.Row.Ord.cmp c.args.numbering.now.rows.items (rows.uses c.args.kind c.args.leg) used g.met.F.Row.Ord.total g.met.F.RowFamily.tells_apart rows.is_row lists c.loop-k.k c.loop-k.claim past c.loop-k.invariant

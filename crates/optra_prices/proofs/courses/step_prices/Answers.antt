@@ -17,7 +17,7 @@ count_uses-requires-clause-groups g c =
     let proper = c.args.inst.proper in
     let s : Setting g.row.F-Row.Denot = setting net (g.F.RowFamily.rows_of f net) (g.F.RowFamily.rows_used f net) c.args.inst.bids.now c.args.node.now in
     subst (All (HasGroups c.args.kept.now.columns.groups)) (sym c.deref.ensures.value)
-    (course_grouped g.F.Row.Ord.cmp g.met.F.Row.Ord.total g.met.F.RowFamily.tells_apart s proper (λ kind leg usable. g.met.F.RowFamily.lists_rows f net kind leg proper usable) c.args.kept.now c.requires.course.is)
+    (course_grouped g.F.Row.Ord.cmp g.met.F.Row.Ord.total g.met.F.RowFamily.tells_apart s proper (λ kind leg usable. g.met.F.RowFamily.lists_rows f net kind leg usable) c.args.kept.now c.requires.course.is)
 
 pub count_uses-requires-clause-counted : goal.count_uses-requires-clause-counted
 count_uses-requires-clause-counted g c =
@@ -64,5 +64,5 @@ returns-clause-step g c =
     let by = to_z w64 (of_z w64 c.step_length-by.result) in
     let is : by ≡ step_length c.args.inst.bids.now c.args.k = to_z-of_z w64 c.step_length-by.result fits ∙ c.step_length-by.ensures.value in
     let low : pos 1 ≤ℤ by = let a = c.step_length-by.ensures.range.0 in omega (arith, ints) in
-    step_made g.F.Row.Ord.cmp g.met.F.Row.Ord.total g.met.F.RowFamily.tells_apart s proper (λ kind leg usable. g.met.F.RowFamily.lists_rows f net kind leg proper usable) kept c.requires.course.is c.requires.course.is.numbering.ordered c.args.k by is low
+    step_made g.F.Row.Ord.cmp g.met.F.Row.Ord.total g.met.F.RowFamily.tells_apart s proper (λ kind leg usable. g.met.F.RowFamily.lists_rows f net kind leg usable) kept c.requires.course.is c.requires.course.is.numbering.ordered c.args.k by is low
     used c.move_prices.new.levels counts.prices.prices counts.prices.capacities counts.levels.use_count uses moves.levels.range moves.prices

@@ -19,7 +19,7 @@ count_uses-requires-clause-groups g c =
     let proper = c.args.inst.proper in
     let s : Setting g.row.F-Row.Denot = setting net (g.F.RowFamily.rows_of f net) (g.F.RowFamily.rows_used f net) c.args.inst.bids.now c.args.node.now in
     subst (All (HasGroups c.args.kept.now.columns.groups)) (sym c.deref.ensures.value)
-    (course_grouped g.F.Row.Ord.cmp g.met.F.Row.Ord.total g.met.F.RowFamily.tells_apart s proper (λ kind leg usable. g.met.F.RowFamily.lists_rows f net kind leg proper usable) c.args.kept.now c.requires.is)
+    (course_grouped g.F.Row.Ord.cmp g.met.F.Row.Ord.total g.met.F.RowFamily.tells_apart s proper (λ kind leg usable. g.met.F.RowFamily.lists_rows f net kind leg usable) c.args.kept.now c.requires.is)
 
 pub count_uses-requires-clause-counted : goal.count_uses-requires-clause-counted
 count_uses-requires-clause-counted g c =
@@ -61,6 +61,6 @@ returns-clause-rows g c =
     (subst (λ (tables : List BidTable). AreUses kept.columns.groups tables (paths_in c.count_uses.new.counted.items) used.uses.items) c.deref.ensures.value counts.counted.uses_are)
     in
     IfOk-weaker c.rows_above.result (λ listed. ListsAbove c.deref-3.result.now used listed.items) (λ listed. AreOverfilled rows c.args.inst.bids.now (replies_at kept) listed.items)
-    (λ listed above. overfilled g.F.Row.Ord.cmp g.met.F.Row.Ord.total g.met.F.RowFamily.tells_apart s proper (λ kind leg usable. g.met.F.RowFamily.lists_rows f net kind leg proper usable) kept c.requires.is used
+    (λ listed above. overfilled g.F.Row.Ord.cmp g.met.F.Row.Ord.total g.met.F.RowFamily.tells_apart s proper (λ kind leg usable. g.met.F.RowFamily.lists_rows f net kind leg usable) kept c.requires.is used
     counts.prices.prices counts.prices.capacities counts.levels.use_count uses listed.items (subst (λ (numbered : List g.row.F-Row.Denot). ListsAbove numbered used listed.items) c.deref-3.ensures.value above))
     c.rows_above.ensures

@@ -44,7 +44,7 @@ returns g c =
     let count = c.requires.kept.is.tables.count_is in
     let l : number < length tables = omega (arith, count, c.requires.number) in
     let at : slice_get tables number ≡ Some table = slice_get_read tables (length tables) number table refl l c.index.ensures in
-    let lists = λ (kind : TypeId) (leg : Leg) (usable : IsUsable net kind leg). g.met.F.RowFamily.lists_rows f net kind leg proper usable in
+    let lists = λ (kind : TypeId) (leg : Leg) (usable : IsUsable net kind leg). g.met.F.RowFamily.lists_rows f net kind leg usable in
     let parts = c.tell_table.new.parts.items in
     on_ok_weaker c.tell_table.result
     (λ told bid t total here there is_room.

@@ -15,7 +15,7 @@ loop-k-preserved g c =
     let net = c.args.net.now in
     let f = c.args.rows.now in
     let rows = g.F.RowFamily.rows_of f net in
-    let lists = g.met.F.RowFamily.lists_rows f net c.args.kind c.args.leg c.requires.usable.proper c.requires.usable in
+    let lists = g.met.F.RowFamily.lists_rows f net c.args.kind c.args.leg c.requires.usable in
     let at = sym c.touched.ensures ∙ c.in-Some.is in
     let number = c.in_ok-place.ensures in
     let old = c.loop-k.named.items in
@@ -46,7 +46,7 @@ returns g c =
     let f = c.args.rows.now in
     let net = c.args.net.now in
     let used = g.F.RowFamily.rows_used f net c.args.kind c.args.leg in
-    let lists = g.met.F.RowFamily.lists_rows f net c.args.kind c.args.leg c.requires.usable.proper c.requires.usable in
+    let lists = g.met.F.RowFamily.lists_rows f net c.args.kind c.args.leg c.requires.usable in
     let past : length used ≤ c.loop-k.k = let few = lists.few in omega arith in
     record {
       rows = c.loop-k.invariant.rows;

@@ -19,7 +19,7 @@ loop-k-preserved g c =
     let cmp = g.F.Row.Ord.cmp in
     let total = g.met.F.Row.Ord.total in
     let apart = g.met.F.RowFamily.tells_apart in
-    let lists = g.met.F.RowFamily.lists_rows f net c.args.kind c.args.leg c.requires.proper c.requires in
+    let lists = g.met.F.RowFamily.lists_rows f net c.args.kind c.args.leg c.requires in
     let k = c.loop-k.k in
     let row = c.in-Some.row in
     let at = sym c.touched.ensures ∙ c.in-Some.is in
@@ -37,7 +37,7 @@ returns-in_default g c =
     let cmp = g.F.Row.Ord.cmp in
     let total = g.met.F.Row.Ord.total in
     let apart = g.met.F.RowFamily.tells_apart in
-    let lists = g.met.F.RowFamily.lists_rows f net c.args.kind c.args.leg c.requires.proper c.requires in
+    let lists = g.met.F.RowFamily.lists_rows f net c.args.kind c.args.leg c.requires in
     let past : length used ≤ c.loop-k.k = none_past used c.loop-k.k (sym c.touched.ensures ∙ c.in_default.is) in
     adds_same cmp total apart rows.is_row c.args.held.now c.loop-k.held _ uses
     (λ q. ap (λ xs. part_of cmp uses xs q) (take_all c.loop-k.k used past) ∙ part_all cmp total apart rows.is_row uses used lists.ascending lists.used q) c.loop-k.invariant
@@ -52,7 +52,7 @@ returns g c =
     let cmp = g.F.Row.Ord.cmp in
     let total = g.met.F.Row.Ord.total in
     let apart = g.met.F.RowFamily.tells_apart in
-    let lists = g.met.F.RowFamily.lists_rows f net c.args.kind c.args.leg c.requires.proper c.requires in
+    let lists = g.met.F.RowFamily.lists_rows f net c.args.kind c.args.leg c.requires in
     let past : length used ≤ c.loop-k.k = let few = lists.few in omega arith in
     adds_same cmp total apart rows.is_row c.args.held.now c.loop-k.held _ uses
     (λ q. ap (λ xs. part_of cmp uses xs q) (take_all c.loop-k.k used past) ∙ part_all cmp total apart rows.is_row uses used lists.ascending lists.used q) c.loop-k.invariant

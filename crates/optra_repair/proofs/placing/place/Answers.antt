@@ -46,7 +46,7 @@ returns-then-has_room_for_path-clause-given g c =
     (λ given put bid total placed at within room totals.
     let best = subst (λ (walk : Option (List Leg)). IsBestAllowed net rows bids node n bid walk) (reply_some t path (c.is_no_path.ensures.some c.if-is_no_path.false)) (c.best_allowed-best.ensures.best bid t at there) in
     let each = (c.has_room_for_path.ensures bid t total at there room).0 c.if-has_room_for_path.true in
-    let worthiest = best_worthiest net rows bids node n bid placed total within totals proper (λ leg usable. (g.met.F.RowFamily.lists_rows f net bid.path.kind leg proper usable).are_rows) (walk_of t path) best each in
+    let worthiest = best_worthiest net rows bids node n bid placed total within totals proper (λ leg usable. (g.met.F.RowFamily.lists_rows f net bid.path.kind leg usable).are_rows) (walk_of t path) best each in
     put_given net rows bids node n bid placed total within totals _ (walk_of t path) given worthiest (put bid t total at there within room))
     c.put.ensures.put
 

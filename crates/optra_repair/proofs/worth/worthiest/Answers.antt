@@ -40,7 +40,7 @@ returns-clause-worthiest g c =
     let same = one_graph c.args.kept.now c.args.number graph t c.graph_of-graph.ensures.table there in
     subst (λ (t : Timed). IsWorthiest net rows c.args.inst.bids.now c.args.node.now placed c.args.number bid (walk_found t found path)) same
     (worth_worthiest net proper rows c.args.inst.bids.now c.tests_tell_allowed.ensures c.args.node.now c.args.number bid graph (c.graph_of-graph.ensures.graph bid at) total c.tell_parts.new.parts.items
-    (c.in_ok-tell_parts.ensures bid graph total at c.graph_of-graph.ensures.table room) (λ leg usable. (g.met.F.RowFamily.lists_rows f net bid.path.kind leg proper usable).are_rows) within placed totals (walk_found graph found path)
+    (c.in_ok-tell_parts.ensures bid graph total at c.graph_of-graph.ensures.table room) (λ leg usable. (g.met.F.RowFamily.lists_rows f net bid.path.kind leg usable).are_rows) within placed totals (walk_found graph found path)
     (found_walk graph c.tell_parts.new.parts.items found path (subst (λ (parts : List ArcPart). IsWorthPath graph parts found path) c.deref.ensures.value is))))
     c.worth_path.ensures
 

@@ -1,6 +1,6 @@
 use Rattle.std.proofs.Common.{◌≡◌, ℕ, ◌<◌, IfSome, IsSome, slice_get}
 use Rattle.std.specs.BTreeMap.{get}
-use Rattle.optra_rows.specs.Loads.{total_of}
+use Rattle.optra_walk.specs.Families.{total_of}
 use Rattle.optra_rows.proofs.totals.keep_all.Given as goal
 
 abbrev pub invariant-loop-k : goal.invariant-loop-k

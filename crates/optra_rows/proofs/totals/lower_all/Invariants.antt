@@ -1,4 +1,4 @@
-use Rattle.optra_rows.specs.Loads.{total_of}
+use Rattle.optra_walk.specs.Families.{total_of}
 use Rattle.optra_rows.proofs.RaiseLemmas.{IsLowered}
 use Rattle.optra_rows.proofs.totals.lower_all.Given as goal
 

@@ -1,6 +1,6 @@
 use Rattle.std.proofs.Common.{◌<◌, IsSome}
 use Rattle.std.specs.BTreeMap.{get}
-use Rattle.optra_rows.specs.Loads.{total_of}
+use Rattle.optra_walk.specs.Families.{total_of}
 use Rattle.optra_rows.proofs.RaiseLemmas.{IsRaised}
 use Rattle.optra_rows.proofs.totals.raise_all.Given as goal
 

@@ -18,7 +18,7 @@ returns-then-not-let_by g c =
     let rows = g.F.RowFamily.rows_of self.family self.net in
     let used = g.F.RowFamily.rows_used self.family self.net in
     let proper = c.requires.usable.proper in
-    let lists = g.met.F.RowFamily.lists_rows self.family self.net kind leg proper c.requires.usable in
+    let lists = g.met.F.RowFamily.lists_rows self.family self.net kind leg c.requires.usable in
     same_from_decides false (may_have_leg self.net rows used self.bids self.node bid kind leg)
     ((λ t. absurd (no_true t)), (λ h. absurd (not_both c.let_by.result c.if-not-let_by.true (c.let_by.ensures.1 h.let_by))))
     (leg_tested self.net kind g.F.Row.Ord.cmp rows used self.bids self.node bid leg lists)
@@ -33,7 +33,7 @@ returns-then-keeps_off g c =
     let rows = g.F.RowFamily.rows_of self.family self.net in
     let used = g.F.RowFamily.rows_used self.family self.net in
     let proper = c.requires.usable.proper in
-    let lists = g.met.F.RowFamily.lists_rows self.family self.net kind leg proper c.requires.usable in
+    let lists = g.met.F.RowFamily.lists_rows self.family self.net kind leg c.requires.usable in
     let free = off_free cmp rows kind c.args.loaded.now leg (used kind leg) self.bids self.node bid c.requires.all (c.keeps_off.ensures c.if-keeps_off.true) in
     same_from_decides c.keeps_off.result (may_have_leg self.net rows used self.bids self.node bid kind leg)
     ((λ t. record { let_by = c.let_by.ensures.0 c.if-not-let_by.false; free = free }), (λ h. c.if-keeps_off.true))
@@ -48,7 +48,7 @@ returns-else-keeps_off g c =
     let rows = g.F.RowFamily.rows_of self.family self.net in
     let used = g.F.RowFamily.rows_used self.family self.net in
     let proper = c.requires.usable.proper in
-    let lists = g.met.F.RowFamily.lists_rows self.family self.net kind leg proper c.requires.usable in
+    let lists = g.met.F.RowFamily.lists_rows self.family self.net kind leg c.requires.usable in
     same_from_decides c.has_room.result (may_have_leg self.net rows used self.bids self.node bid kind leg)
     ((λ t. record { let_by = c.let_by.ensures.0 c.if-not-let_by.false; free = c.has_room.ensures.0 t }), (λ h. c.has_room.ensures.1 h.free))
     (leg_tested self.net kind g.F.Row.Ord.cmp rows used self.bids self.node bid leg lists)

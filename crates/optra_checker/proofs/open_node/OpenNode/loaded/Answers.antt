@@ -1,5 +1,6 @@
 use Rattle.std.proofs.Common.{◌≡◌, ◌∙◌, sym, subst, Vec, Global}
-use Rattle.optra_node.specs.Summaries.{Summed, total_of}
+use Rattle.optra_walk.specs.Families.{total_of}
+use Rattle.optra_node.specs.Summaries.{Summed}
 use Rattle.optra_checker.specs.Loaded.{AreLoaded, IsMissing}
 use Rattle.optra_checker.proofs.ToComeLemmas.{if_ok}
 use Rattle.optra_checker.proofs.open_node.OpenNode.loaded.Goals as goal

@@ -22,7 +22,7 @@ invariant_of-before g c =
     let proper = inside.inst.proper in
     let formed = (behind net (length bids) before d (subst (IsNode net (length bids)) is c.self.invariant.is_node)).is_node.formed in
     let few =
-    totals_few g.F.Row.Ord.cmp net proper rows (g.F.RowFamily.rows_used f net) (λ kind leg usable. g.met.F.RowFamily.lists_rows f net kind leg proper usable)
+    totals_few g.F.Row.Ord.cmp net proper rows (g.F.RowFamily.rows_used f net) (λ kind leg usable. g.met.F.RowFamily.lists_rows f net kind leg usable)
     (λ kind leg row not. g.met.F.RowFamily.unusable_uses_none f net kind leg row not) bids before formed in
     open_pop g.F.Row.Ord.cmp net rows bids d node before inside.totals c.take_decision.new.totals lists earlier inside.index c.take_off.new.self is c.self.invariant few c.take_decision.ensures
     (c.drop_own.ensures (length bids) before (subst (λ n. AreByBid (length bids) n lists) is c.self.invariant.by_bid))

@@ -21,6 +21,6 @@ returns g c =
     let rows = g.F.RowFamily.rows_of self.family self.net in
     let used = g.F.RowFamily.rows_used self.family self.net in
     let proper = c.requires.usable.proper in
-    let lists = g.met.F.RowFamily.lists_rows self.family self.net kind c.args.leg proper c.requires.usable in
+    let lists = g.met.F.RowFamily.lists_rows self.family self.net kind c.args.leg c.requires.usable in
     same_from_decides c.leg_ok.result (may_have_leg self.net rows used self.bids self.node c.args.bid kind c.args.leg) c.leg_ok.ensures
     (leg_tested self.net kind g.F.Row.Ord.cmp rows used self.bids self.node c.args.bid c.args.leg lists)

@@ -1,5 +1,5 @@
 use Rattle.std.proofs.Common.{ℕ, ◌<◌, ◌≤◌, ◌+◌, IfSome, slice_get}
-use Rattle.optra_rows.specs.Loads.{total_of}
+use Rattle.optra_walk.specs.Families.{total_of}
 use Rattle.optra_rows.proofs.totals.Load.fits.Given as goal
 
 abbrev pub invariant-loop-k : goal.invariant-loop-k
