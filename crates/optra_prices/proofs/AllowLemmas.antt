@@ -29,7 +29,7 @@ use Rattle.optra_prices.specs.Standings.{Covers, IsArcTable, HoldArcs, IsBidTabl
 use Rattle.optra_prices.specs.Uses.{AddsUses, TakesUses}
 use Rattle.optra_prices.specs.declared.claims.Claim.{Claim}
 use Rattle.optra_prices.specs.declared.rooms.Told.{Told}
-use Rattle.optra_prices.specs.declared.numbering.ArcTerm.{ArcTerm}
+use Rattle.optra_prices.specs.ArcTerms.{ArcTerm}
 use Rattle.optra_prices.specs.declared.numbering.BidTable.{BidTable}
 use Rattle.optra_prices.specs.declared.numbering.Groups.{Groups}
 use Rattle.optra_prices.specs.declared.numbering.Touch.{Touch}

@@ -5,7 +5,7 @@ use Rattle.std.proofs.lemmas.Int.{ints}
 use Rattle.optra_dag.specs.Paths.{Graph, IsFirstBest}
 use Rattle.optra_prices.specs.Arcs.{IsFound}
 use Rattle.optra_prices.specs.Tables.{allows_by, weight_by}
-use Rattle.optra_prices.specs.declared.numbering.ArcTerm.{ArcTerm}
+use Rattle.optra_prices.specs.ArcTerms.{ArcTerm}
 
 pub found_path : (g : Graph) (allows : ℕ → Bool) (weight : ℕ → ℤ) (forced : Bool) (best path : List ℕ) (sum term : ℤ) → IsFirstBest g allows weight sum best → (forced ≡ true) ⊎ (pos 0 <ℤ sum) → path ≡ best → term ≡ sum
     → IsFound g allows weight forced path term false

@@ -13,7 +13,7 @@ use Rattle.optra_prices.specs.Makings.{IsGroupOf, IsHead, IsMaking, Grows}
 use Rattle.optra_prices.specs.Standings.{Covers, IsMost}
 use Rattle.optra_prices.specs.declared.making.Head.{Head}
 use Rattle.optra_prices.specs.declared.making.Making.{Making}
-use Rattle.optra_prices.specs.declared.numbering.ArcTerm.{ArcTerm}
+use Rattle.optra_prices.specs.ArcTerms.{ArcTerm}
 use Rattle.optra_prices.specs.declared.numbering.Groups.{Groups}
 use Rattle.optra_prices.specs.declared.numbering.Touch.{Touch}
 use Rattle.optra_prices.proofs.NumberLemmas.{touches_kept, extends_more}

@@ -13,7 +13,7 @@ use Rattle.optra_prices.specs.Columns.{IsColumns}
 use Rattle.optra_prices.specs.Tables.{IsGroupPrice, AreUpTo, AreWeighedTo, weight_by, narrow_weight_by, no_arc}
 use Rattle.optra_prices.specs.Standings.{IsMost}
 use Rattle.optra_prices.specs.declared.columns.Columns.{Columns}
-use Rattle.optra_prices.specs.declared.numbering.ArcTerm.{ArcTerm}
+use Rattle.optra_prices.specs.ArcTerms.{ArcTerm}
 use Rattle.optra_prices.specs.declared.numbering.Groups.{Groups}
 
 module _ (g : Graph) (allows : ℕ → Bool) (weight weight' : ℕ → ℤ) (same : (k : ℕ) → k < length g.arcs → weight' k ≡ weight k) where

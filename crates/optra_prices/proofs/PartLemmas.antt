@@ -17,7 +17,7 @@ use Rattle.optra_prices.specs.Parts.{no_part, part_at, IsPart, AreParts, IsPartO
 use Rattle.optra_prices.specs.Rooms.{IsRoom, HasRoomFor, HasRoomForAll, IsFreeCopy}
 use Rattle.optra_prices.specs.Tables.{group_at}
 use Rattle.optra_prices.specs.Terms.{setting, AreBidArcs}
-use Rattle.optra_prices.specs.declared.numbering.ArcTerm.{ArcTerm}
+use Rattle.optra_prices.specs.ArcTerms.{ArcTerm}
 use Rattle.optra_prices.specs.declared.numbering.Touch.{Touch}
 use Rattle.optra_prices.specs.declared.parts.ArcPart.{ArcPart}
 use Rattle.optra_prices.specs.declared.rooms.Room.{Room}

@@ -13,7 +13,7 @@ use Rattle.optra_prices.specs.Rankings.{renumbered, AreNumbersOf, Renumbers}
 use Rattle.optra_prices.specs.Tables.{AreTouches, group_at, uses_in_all, AreGroups}
 use Rattle.optra_prices.specs.Terms.{AreTerms, AreArcs}
 use Rattle.optra_prices.specs.Standings.{HoldArcs}
-use Rattle.optra_prices.specs.declared.numbering.ArcTerm.{ArcTerm}
+use Rattle.optra_prices.specs.ArcTerms.{ArcTerm}
 use Rattle.optra_prices.specs.declared.numbering.BidTable.{BidTable}
 use Rattle.optra_prices.specs.declared.numbering.Groups.{Groups}
 use Rattle.optra_prices.specs.declared.numbering.Touch.{Touch}

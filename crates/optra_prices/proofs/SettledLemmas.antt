@@ -17,7 +17,7 @@ use Rattle.optra_prices.specs.Replies.{IsReply, IsValuation}
 use Rattle.optra_prices.specs.Tables.{AreTouches, group_at, group_price, AreGroupPrices, allows_by, weight_by, no_arc}
 use Rattle.optra_prices.specs.Terms.{Setting, AreBidArcs}
 use Rattle.optra_prices.specs.Standings.{Stands, Agrees, AreTables, AllStand, replies_of, terms_of, value_of, valuation_of}
-use Rattle.optra_prices.specs.declared.numbering.ArcTerm.{ArcTerm}
+use Rattle.optra_prices.specs.ArcTerms.{ArcTerm}
 use Rattle.optra_prices.specs.declared.numbering.BidTable.{BidTable}
 use Rattle.optra_prices.specs.declared.numbering.Groups.{Groups}
 use Rattle.optra_prices.specs.declared.numbering.Standing.{Standing}

@@ -7,7 +7,7 @@ use Rattle.optra_dag.specs.Paths.{Graph, IsForward, IsWeight, LeadsToEnd, to_of,
 use Rattle.optra_prices.specs.Arcs.{IsArcValue, IsFound}
 use Rattle.optra_prices.specs.Tables.{IsGroupPrice, allows_by, weight_by, no_arc}
 use Rattle.optra_prices.specs.Standings.{Stands, IsSound, IsTermSize}
-use Rattle.optra_prices.specs.declared.numbering.ArcTerm.{ArcTerm}
+use Rattle.optra_prices.specs.ArcTerms.{ArcTerm}
 use Rattle.optra_prices.specs.declared.numbering.BidTable.{BidTable}
 use Rattle.optra_prices.specs.declared.numbering.Standing.{Standing}
 

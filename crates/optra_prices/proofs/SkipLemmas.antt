@@ -10,7 +10,7 @@ use Rattle.optra_prices.specs.Holders.{HaveNotFallen, groups_of}
 use Rattle.optra_prices.specs.Standings.{Stands, IsSound}
 use Rattle.optra_prices.specs.Tables.{allows_by, weight_by, no_arc}
 use Rattle.optra_prices.specs.declared.columns.Mark.{Mark}
-use Rattle.optra_prices.specs.declared.numbering.ArcTerm.{ArcTerm}
+use Rattle.optra_prices.specs.ArcTerms.{ArcTerm}
 use Rattle.optra_prices.specs.declared.numbering.BidTable.{BidTable}
 use Rattle.optra_prices.specs.declared.numbering.Standing.{Standing}
 

@@ -27,7 +27,7 @@ use Rattle.optra_prices.specs.Tables.{IsTouch, group_at}
 use Rattle.optra_prices.specs.Tellings.{IsRowOf, TellsMoved}
 use Rattle.optra_prices.specs.Terms.{Setting, setting}
 use Rattle.optra_prices.specs.declared.arc_tables.ArcTables.{ArcTables}
-use Rattle.optra_prices.specs.declared.numbering.ArcTerm.{ArcTerm}
+use Rattle.optra_prices.specs.ArcTerms.{ArcTerm}
 use Rattle.optra_prices.specs.declared.numbering.BidTable.{BidTable}
 use Rattle.optra_prices.specs.declared.numbering.Groups.{Groups}
 use Rattle.optra_prices.specs.declared.numbering.Touch.{Touch}

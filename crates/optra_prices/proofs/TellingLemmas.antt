@@ -23,7 +23,7 @@ use Rattle.optra_prices.specs.declared.claims.Claim.{Claim}
 use Rattle.optra_prices.specs.declared.index.Index.{Index}
 use Rattle.optra_prices.specs.declared.columns.Columns.{Columns}
 use Rattle.optra_prices.specs.declared.columns.Mark.TheVariants.{Still, Due}
-use Rattle.optra_prices.specs.declared.numbering.ArcTerm.{ArcTerm}
+use Rattle.optra_prices.specs.ArcTerms.{ArcTerm}
 use Rattle.optra_prices.specs.declared.numbering.BidTable.{BidTable}
 use Rattle.optra_prices.specs.declared.numbering.Groups.{Groups}
 use Rattle.optra_prices.specs.declared.numbering.Touch.{Touch}

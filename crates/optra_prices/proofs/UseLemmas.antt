@@ -12,7 +12,7 @@ use Rattle.optra_prices.specs.Keepings.{AreBrought}
 use Rattle.optra_prices.specs.Tables.{allows_by, group_at, no_arc}
 use Rattle.optra_prices.specs.Standings.{Stands, IsSound}
 use Rattle.optra_prices.specs.Uses.{touch_uses, arc_touches, path_uses, all_uses, paths_of, paths_in, AreEmpty, AreUses, AreCounted, AddsUses, TakesUses, CountsPath, HasGroups}
-use Rattle.optra_prices.specs.declared.numbering.ArcTerm.{ArcTerm}
+use Rattle.optra_prices.specs.ArcTerms.{ArcTerm}
 use Rattle.optra_prices.specs.declared.numbering.BidTable.{BidTable}
 use Rattle.optra_prices.specs.declared.numbering.Groups.{Groups}
 use Rattle.optra_prices.specs.declared.numbering.Standing.{Standing}

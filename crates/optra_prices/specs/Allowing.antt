@@ -14,7 +14,7 @@ use Rattle.optra_prices.specs.Rooms.{HasRoomForAll}
 use Rattle.optra_prices.specs.Tables.{AreGroups, group_at}
 use Rattle.optra_prices.specs.Standings.{IsArcTable, IsBidTable}
 use Rattle.optra_prices.specs.Terms.{Setting}
-use Rattle.optra_prices.specs.declared.numbering.ArcTerm.{ArcTerm}
+use Rattle.optra_prices.specs.ArcTerms.{ArcTerm}
 use Rattle.optra_prices.specs.declared.numbering.BidTable.{BidTable}
 use Rattle.optra_prices.specs.declared.numbering.Groups.{Groups}
 use Rattle.optra_prices.specs.declared.rooms.Room.{Room}

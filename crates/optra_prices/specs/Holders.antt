@@ -6,7 +6,7 @@ use Rattle.optra_prices.specs.declared.columns.Mark.{Mark}
 use Rattle.optra_prices.specs.declared.columns.Mark.TheVariants.{Fell}
 use Rattle.optra_prices.specs.declared.holders.Held.{Held}
 use Rattle.optra_prices.specs.declared.index.Index.{Index}
-use Rattle.optra_prices.specs.declared.numbering.ArcTerm.{ArcTerm}
+use Rattle.optra_prices.specs.ArcTerms.{ArcTerm}
 use Rattle.optra_prices.specs.declared.numbering.BidTable.{BidTable}
 
 -- the groups of arcs, one after the other

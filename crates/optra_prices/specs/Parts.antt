@@ -12,7 +12,7 @@ use Rattle.optra_prices.specs.Arcs.{start_value, leg_value, IsArcValue}
 use Rattle.optra_prices.specs.Rooms.{IsRoom, HasRoomForAll}
 use Rattle.optra_prices.specs.Tables.{group_at}
 use Rattle.optra_prices.specs.declared.arc_tables.ArcTables.{ArcTables}
-use Rattle.optra_prices.specs.declared.numbering.ArcTerm.{ArcTerm}
+use Rattle.optra_prices.specs.ArcTerms.{ArcTerm}
 use Rattle.optra_prices.specs.declared.numbering.BidTable.{BidTable}
 use Rattle.optra_prices.specs.declared.numbering.Touch.{Touch}
 use Rattle.optra_prices.specs.declared.parts.ArcPart.{ArcPart}

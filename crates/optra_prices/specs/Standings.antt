@@ -17,7 +17,7 @@ use Rattle.optra_prices.specs.Replies.{Valuation}
 use Rattle.optra_prices.specs.Arcs.{IsFound, IsArcValue, path_reply}
 use Rattle.optra_prices.specs.Tables.{IsNumbering, AreGroups, allows_by, weight_by}
 use Rattle.optra_prices.specs.Terms.{Setting, AreArcs, AreBidArcs}
-use Rattle.optra_prices.specs.declared.numbering.ArcTerm.{ArcTerm}
+use Rattle.optra_prices.specs.ArcTerms.{ArcTerm}
 use Rattle.optra_prices.specs.declared.numbering.BidTable.{BidTable}
 use Rattle.optra_prices.specs.declared.numbering.Groups.{Groups}
 use Rattle.optra_prices.specs.declared.numbering.Standing.{Standing}

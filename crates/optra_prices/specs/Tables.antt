@@ -12,7 +12,7 @@ use Rattle.optra_dag.specs.NarrowSums.{IsWithin}
 use Rattle.optra_node.specs.Duals.{sum_of}
 use Rattle.optra_prices.specs.Arcs.{IsArcValue}
 use Rattle.optra_prices.specs.declared.numbering.Touch.{Touch}
-use Rattle.optra_prices.specs.declared.numbering.ArcTerm.{ArcTerm}
+use Rattle.optra_prices.specs.ArcTerms.{ArcTerm}
 
 -- the rows ascend, each of which stands with its number
 abbrev pub AreUp : {R : Type 0} → (R → R → Ordering) → List (R × ℕ) → Type 0

@@ -13,7 +13,7 @@ use Rattle.optra_prices.specs.declared.arc_tables.ArcTables.{ArcTables}
 use Rattle.optra_prices.specs.declared.columns.Columns.{Columns}
 use Rattle.optra_prices.specs.declared.columns.Mark.{Mark}
 use Rattle.optra_prices.specs.declared.columns.Mark.TheVariants.{Still}
-use Rattle.optra_prices.specs.declared.numbering.ArcTerm.{ArcTerm}
+use Rattle.optra_prices.specs.ArcTerms.{ArcTerm}
 use Rattle.optra_prices.specs.declared.numbering.BidTable.{BidTable}
 use Rattle.optra_prices.specs.declared.numbering.Groups.{Groups}
 

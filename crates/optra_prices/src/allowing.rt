@@ -10,11 +10,12 @@ ghost use Rattle.optra_prices.specs.Rooms.{IsDecided};
 ghost use Rattle.optra_prices.specs.Standings.{AreTables, HoldArcs};
 ghost use Rattle.optra_prices.specs.Allowing.{AreAtUnlessTold, AreToldAnew, IsTableAnew, IsLetMark, RoomTells, IsTableFor};
 
+use crate::arc_term::ArcTerm;
 use crate::claims::{add_placed, take_placed};
 use crate::decided::Decided;
 use crate::grouping::either;
 use crate::marking::has_yes;
-use crate::numbering::{ArcTerm, BidTable, Groups, Numbering};
+use crate::numbering::{BidTable, Groups, Numbering};
 use crate::owning::Owned;
 use crate::rooms::{Room, Told, tell_group};
 use optra_graph::TimeGraph;
@@ -56,10 +57,10 @@ fn set_allowed(arc: &mut ArcTerm, allowed: bool) -> bool
     ensures allowed { arc.new.allowed ≡ allowed }
     ensures same { result ≡ false → arc.new ≡ arc.old }
 {
-    if arc.allowed == allowed {
+    if arc.allowed() == allowed {
         return false;
     }
-    arc.allowed = allowed;
+    arc.allow(allowed);
     true
 }
 
@@ -87,7 +88,7 @@ fn allow_arcs<F: RowFamily>(
     let mut changed = false;
     for k in 0..graph.dag().arcs() {
         let arc = &mut arcs[k as usize];
-        last = tell_group(room, groups, arc.group, last);
+        last = tell_group(room, groups, arc.group(), last);
         let allowed = let_arc(summary, number, graph, k, has_own, last.has_room);
         let other = set_allowed(arc, allowed);
         changed = either(changed, other);

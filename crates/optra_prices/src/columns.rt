@@ -37,7 +37,7 @@ pub(crate) struct Columns {
     /// How the prices of the groups have moved.
     pub(crate) marks: Vec<Mark>,
     /// The groups that are marked.
-    pub(crate) due: Vec<u32>,
+    pub(crate) due: Vec<usize>,
     /// No group has cost more.
     pub(crate) highest: i64,
 }
@@ -63,7 +63,7 @@ pub(crate) fn new_columns(alloc: Global, groups: Groups) -> Result<Columns, NoMe
 }
 
 /// Lists a group that is marked from now on.
-fn list_group(due: &mut Vec<u32>, mark: Mark, g: u32) -> Result<(), NoMemory>
+fn list_group(due: &mut Vec<usize>, mark: Mark, g: usize) -> Result<(), NoMemory>
     ensures here { OnOk result (mark ≡ Still → Contains due.new.items g) }
     ensures kept { OnOk result (All (Contains due.new.items) due.old.items) }
 {
@@ -74,23 +74,26 @@ fn list_group(due: &mut Vec<u32>, mark: Mark, g: u32) -> Result<(), NoMemory>
 }
 
 /// Makes a group due.
-fn mark_group(marks: &mut Vec<Mark>, due: &mut Vec<u32>, g: u32) -> Result<(), NoMemory>
+fn mark_group(marks: &mut Vec<Mark>, due: &mut Vec<usize>, g: usize) -> Result<(), NoMemory>
     requires listed { AreListed marks.old.items due.old.items }
     ensures listed { OnOk result (AreListed marks.new.items due.new.items) }
     ensures keeps { OnOk result (KeepsMarks marks.old.items marks.new.items) }
     ensures here { OnOk result (g < length marks.old.items → mark_at marks.new.items g ≡ Due) }
 {
-    let place = g as usize;
-    if place >= marks.len() {
+    if g >= marks.len() {
         return Ok(());
     }
-    list_group(due, marks[place], g)?;
-    marks[place] = Mark::Due;
+    list_group(due, marks[g], g)?;
+    marks[g] = Mark::Due;
     Ok(())
 }
 
 /// Makes groups due.
-fn mark_groups(marks: &mut Vec<Mark>, due: &mut Vec<u32>, groups: &[u32]) -> Result<(), NoMemory>
+fn mark_groups(
+    marks: &mut Vec<Mark>,
+    due: &mut Vec<usize>,
+    groups: &[usize],
+) -> Result<(), NoMemory>
     requires listed { AreListed marks.old.items due.old.items }
     ensures listed { OnOk result (AreListed marks.new.items due.new.items) }
     ensures marks { OnOk result (MarksGroups groups.now marks.old.items marks.new.items) }
@@ -102,7 +105,7 @@ fn mark_groups(marks: &mut Vec<Mark>, due: &mut Vec<u32>, groups: &[u32]) -> Res
 }
 
 /// Makes the groups that touch a row due.
-pub(crate) fn mark_row(columns: &mut Columns, row: u32) -> Result<(), NoMemory>
+pub(crate) fn mark_row(columns: &mut Columns, row: usize) -> Result<(), NoMemory>
     requires columns { IsColumns columns.old.groups columns.old }
     ensures columns { OnOk result (IsColumns columns.old.groups columns.new) }
     ensures row { OnOk result (MarksRow row columns.old columns.new) }
@@ -116,10 +119,10 @@ pub(crate) fn mark_row(columns: &mut Columns, row: u32) -> Result<(), NoMemory>
 }
 
 /// The mark of a group.
-pub(crate) fn mark_at(marks: &[Mark], g: u32) -> Mark
+pub(crate) fn mark_at(marks: &[Mark], g: usize) -> Mark
     ensures { result ≡ mark_at marks.now g }
 {
-    marks.get(g as usize).copied().unwrap_or(Mark::Still)
+    marks.get(g).copied().unwrap_or(Mark::Still)
 }
 
 /// How a price has moved.
@@ -136,19 +139,18 @@ fn mark_of(old: i64, new: i64) -> Mark
 }
 
 /// Prices a group anew where it is due.
-fn reprice_group(columns: &mut Columns, prices: &[i64], g: u32)
+fn reprice_group(columns: &mut Columns, prices: &[i64], g: usize)
     requires columns { IsColumns columns.old.groups columns.old }
     requires prices { All IsRowPrice prices.now }
     ensures columns { IsColumns columns.old.groups columns.new }
     ensures repriced { Reprices prices.now g columns.old columns.new }
 {
-    let place = g as usize;
-    if place >= columns.grouped.len() || columns.marks[place] != Mark::Due {
+    if g >= columns.grouped.len() || columns.marks[g] != Mark::Due {
         return;
     }
-    let price = price_at(prices, &columns.groups, place);
-    columns.marks[place] = mark_of(columns.grouped[place], price);
-    columns.grouped[place] = price;
+    let price = price_at(prices, &columns.groups, g);
+    columns.marks[g] = mark_of(columns.grouped[g], price);
+    columns.grouped[g] = price;
     columns.highest = columns.highest.max(price);
 }
 
@@ -170,17 +172,16 @@ pub(crate) fn reprice(columns: &mut Columns, prices: &[i64])
 }
 
 /// Takes the mark of a group away.
-fn still_group(marks: &mut Vec<Mark>, g: u32)
+fn still_group(marks: &mut Vec<Mark>, g: usize)
     ensures { marks.new.items ≡ slice_set marks.old.items g Still }
 {
-    let place = g as usize;
-    if place < marks.len() {
-        marks[place] = Mark::Still;
+    if g < marks.len() {
+        marks[g] = Mark::Still;
     }
 }
 
 /// Takes the marks of groups away.
-fn still_groups(marks: &mut Vec<Mark>, groups: &[u32])
+fn still_groups(marks: &mut Vec<Mark>, groups: &[usize])
     ensures count { length marks.new.items ≡ length marks.old.items }
     ensures still { (g : ℕ) → (mark_at marks.new.items g ≡ Still)
         ⊎ ((mark_at marks.new.items g ≡ mark_at marks.old.items g) × (Contains groups.now g → ⊥)) }

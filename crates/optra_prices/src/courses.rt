@@ -199,7 +199,7 @@ pub(crate) fn go_back<F: RowFamily>(
     rows: &F,
     node: &Node,
     kept: &mut ArcTables<'_, F::Row>,
-    prices: &[(u32, i64)],
+    prices: &[(usize, i64)],
 ) -> Result<(), NoMemory>
     requires prices { All (IsMove (length kept.old.numbering.rows.items)) prices.now }
     requires course { IsCourse F.Row.cmp (setting inst.net.now (F.rows_of rows.now inst.net.now)

@@ -20,7 +20,7 @@ use std::alloc::Global;
 /// The best candidate so far: its prices above zero by the rows' numbers, and its dual value.
 #[derive(Drop)]
 pub(crate) struct Best {
-    pub(crate) prices: Vec<(u32, i64)>,
+    pub(crate) prices: Vec<(usize, i64)>,
     pub(crate) value: i128,
 }
 

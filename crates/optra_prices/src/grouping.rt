@@ -29,12 +29,12 @@ pub(crate) fn group(groups: &Groups, g: usize) -> &[Touch]
 }
 
 /// The price of a row by its number.
-fn row_price(prices: &[i64], row: u32) -> i64
+fn row_price(prices: &[i64], row: usize) -> i64
     requires { All IsRowPrice prices.now }
     ensures value { result ≡ slice_index_or prices.now row (pos 0) }
     ensures range { IsRowPrice result }
 {
-    prices.get(row as usize).copied().unwrap_or(0)
+    prices.get(row).copied().unwrap_or(0)
 }
 
 /// A price times uses.

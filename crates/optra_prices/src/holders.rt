@@ -4,43 +4,42 @@ ghost use Rattle.optra_prices.specs.Columns.{IsColumns, mark_at};
 ghost use Rattle.optra_prices.specs.Holders.{AreHolders, HoldsGroup, HoldsArcs, TellsHolders, TellsGroup, TellsFallen};
 ghost use Rattle.optra_prices.specs.Indexes.{IsIndex};
 
+use crate::arc_term::ArcTerm;
 use crate::columns::{Columns, Mark, mark_at};
 use crate::index::{Index, inverted, items_of};
-use crate::numbering::{ArcTerm, BidTable};
+use crate::numbering::BidTable;
 use optra_network::NoMemory;
 use std::alloc::Global;
 
 /// The groups of bids, one bid after the other, and for each group the number of the last bid that has it, from 1.
 #[derive(Drop)]
 pub(crate) struct Held {
-    pub(crate) groups: Vec<u32>,
+    pub(crate) groups: Vec<usize>,
     pub(crate) last: Vec<u32>,
 }
 
 /// Makes room for the group with this number.
-fn make_room(last: &mut Vec<u32>, group: u32) -> Result<(), NoMemory>
+fn make_room(last: &mut Vec<u32>, group: usize) -> Result<(), NoMemory>
     ensures within { OnOk result (group < length last.new.items) }
     ensures same { OnOk result ((g : ℕ) → slice_index last.new.items g
         ≡ slice_index last.old.items g) }
 {
-    let count = group as usize + 1;
-    if count <= last.len() {
+    if group < last.len() {
         return Ok(());
     }
-    last.resize(count, 0)
+    last.resize(group.saturating_add(1), 0)
 }
 
 /// Adds a group to those of the bid with this number, from 1. None is added twice.
-fn hold_group(held: &mut Held, group: u32, bid: u32) -> Result<(), NoMemory>
+fn hold_group(held: &mut Held, group: usize, bid: u32) -> Result<(), NoMemory>
     ensures { OnOk result (HoldsGroup bid group held.old held.new) }
 {
     make_room(&mut held.last, group)?;
-    let place = group as usize;
-    if held.last[place] == bid {
+    if held.last[group] == bid {
         return Ok(());
     }
     held.groups.push(group)?;
-    held.last[place] = bid;
+    held.last[group] = bid;
     Ok(())
 }
 
@@ -49,7 +48,7 @@ fn hold_arcs(held: &mut Held, bid: u32, arcs: &[ArcTerm]) -> Result<(), NoMemory
     ensures { OnOk result (HoldsArcs bid arcs.now held.old held.new) }
 {
     for arc in arcs {
-        hold_group(held, arc.group, bid)?;
+        hold_group(held, arc.group(), bid)?;
     }
     Ok(())
 }
@@ -73,17 +72,16 @@ pub(crate) fn find_holders(alloc: Global, tables: &[BidTable<'_>]) -> Result<Ind
 }
 
 /// Tells a bid.
-pub(crate) fn tell_bid(fallen: &mut Vec<bool>, bid: u32)
+pub(crate) fn tell_bid(fallen: &mut Vec<bool>, bid: usize)
     ensures { fallen.new.items ≡ slice_set fallen.old.items bid true }
 {
-    let place = bid as usize;
-    if place < fallen.len() {
-        fallen[place] = true;
+    if bid < fallen.len() {
+        fallen[bid] = true;
     }
 }
 
 /// Tells the bids that have the group.
-pub(crate) fn tell_holders(holders: &Index, g: u32, fallen: &mut Vec<bool>)
+pub(crate) fn tell_holders(holders: &Index, g: usize, fallen: &mut Vec<bool>)
     requires { IsIndex holders.now }
     ensures { TellsHolders holders.now g fallen.old.items fallen.new.items }
 {
@@ -93,7 +91,7 @@ pub(crate) fn tell_holders(holders: &Index, g: u32, fallen: &mut Vec<bool>)
 }
 
 /// Tells the bids that have the group, where its price fell.
-fn tell_group(marks: &[Mark], holders: &Index, g: u32, fallen: &mut Vec<bool>)
+fn tell_group(marks: &[Mark], holders: &Index, g: usize, fallen: &mut Vec<bool>)
     requires { IsIndex holders.now }
     ensures { TellsGroup marks.now holders.now g fallen.old.items fallen.new.items }
 {

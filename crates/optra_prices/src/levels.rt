@@ -23,7 +23,7 @@ pub(crate) struct Levels {
     /// How much of rows the paths use that were counted last.
     pub(crate) uses: Vec<u64>,
     /// The rows with a price or with more uses than capacity, and maybe others; none twice.
-    pub(crate) active: Vec<u32>,
+    pub(crate) active: Vec<usize>,
     /// Whether a row is active.
     pub(crate) listed: Vec<bool>,
     /// The price of all capacity.
@@ -102,29 +102,28 @@ pub(crate) fn push_level(levels: &mut Levels, capacity: u32) -> Result<(), NoMem
 }
 
 /// Makes a row active, before it gets a price or more uses than capacity.
-fn wake(levels: &mut Levels, number: u32) -> Result<(), NoMemory>
+fn wake(levels: &mut Levels, number: usize) -> Result<(), NoMemory>
     requires levels { IsLevels levels.old }
     requires within { number < length levels.old.prices.items }
     ensures levels { OnOk result (IsLevels levels.new) }
     ensures wakes { OnOk result (Wakes number levels.old levels.new) }
 {
-    let place = number as usize;
-    if levels.listed[place] {
+    if levels.listed[number] {
         return Ok(());
     }
     levels.active.push(number)?;
-    levels.listed[place] = true;
+    levels.listed[number] = true;
     Ok(())
 }
 
 /// Makes a row active that is to have more uses than capacity.
-fn wake_above(levels: &mut Levels, number: u32, uses: u64) -> Result<(), NoMemory>
+fn wake_above(levels: &mut Levels, number: usize, uses: u64) -> Result<(), NoMemory>
     requires levels { IsLevels levels.old }
     requires within { number < length levels.old.prices.items }
     ensures levels { OnOk result (IsLevels levels.new) }
     ensures wakes { OnOk result (WakesAbove number uses levels.old levels.new) }
 {
-    if uses > u64::from(levels.capacities[number as usize]) {
+    if uses > u64::from(levels.capacities[number]) {
         wake(levels, number)?;
     }
     Ok(())
@@ -134,7 +133,7 @@ fn wake_above(levels: &mut Levels, number: u32, uses: u64) -> Result<(), NoMemor
 pub(crate) fn set_price(
     levels: &mut Levels,
     columns: &mut Columns,
-    number: u32,
+    number: usize,
     price: i64,
 ) -> Result<(), NoMemory>
     requires levels { IsLevels levels.old }
@@ -152,15 +151,14 @@ pub(crate) fn set_price(
     ensures active { OnOk result (is_listed levels.old number ≡ true → levels.new.active
         ≡ levels.old.active) }
 {
-    let place = number as usize;
-    let old = levels.prices[place];
+    let old = levels.prices[number];
     if old == price {
         return Ok(());
     }
     wake(levels, number)?;
     mark_row(columns, number)?;
-    levels.capacity = capacity_after(levels.capacity, old, price, levels.capacities[place]);
-    levels.prices[place] = price;
+    levels.capacity = capacity_after(levels.capacity, old, price, levels.capacities[number]);
+    levels.prices[number] = price;
     Ok(())
 }
 
@@ -172,7 +170,7 @@ fn rest_row(levels: &mut Levels, k: usize) -> usize
     ensures levels { IsLevels levels.new }
     ensures rests { Rests k result levels.old levels.new }
 {
-    let place = levels.active[k] as usize;
+    let place = levels.active[k];
     if levels.prices[place] != 0 || levels.uses[place] > u64::from(levels.capacities[place]) {
         return k + 1;
     }
@@ -206,19 +204,18 @@ fn move_row(
 }
 
 /// The next price of a row by a step of this length.
-fn next_price_at(levels: &Levels, number: u32, by: i64) -> i64
+fn next_price_at(levels: &Levels, number: usize, by: i64) -> i64
     requires levels { IsLevels levels.now }
     requires by { IsBetween (pos 1) (pos 1000000000000) by }
     requires within { number < length levels.now.prices.items }
     ensures value { result ≡ next_at by levels.now number }
     ensures range { IsRowPrice result }
 {
-    let place = number as usize;
     next_price(
         by,
-        levels.prices[place],
-        levels.uses[place],
-        levels.capacities[place],
+        levels.prices[number],
+        levels.uses[number],
+        levels.capacities[number],
     )
 }
 
@@ -267,14 +264,14 @@ pub(crate) fn zero_prices(levels: &mut Levels, columns: &mut Columns) -> Result<
 }
 
 /// The prices of all rows that are active.
-pub(crate) fn copy_prices(moves: &mut Vec<(u32, i64)>, levels: &Levels) -> Result<(), NoMemory>
+pub(crate) fn copy_prices(moves: &mut Vec<(usize, i64)>, levels: &Levels) -> Result<(), NoMemory>
     requires { IsLevels levels.now }
     ensures { OnOk result (HoldsPrices levels.now moves.new.items) }
 {
     moves.clear();
     for k in 0..levels.active.len() {
         let number = levels.active[k];
-        moves.push((number, levels.prices[number as usize]))?;
+        moves.push((number, levels.prices[number]))?;
     }
     Ok(())
 }
@@ -283,7 +280,7 @@ pub(crate) fn copy_prices(moves: &mut Vec<(u32, i64)>, levels: &Levels) -> Resul
 pub(crate) fn set_prices(
     levels: &mut Levels,
     columns: &mut Columns,
-    moves: &[(u32, i64)],
+    moves: &[(usize, i64)],
 ) -> Result<(), NoMemory>
     requires levels { IsLevels levels.old }
     requires columns { IsColumns columns.old.groups columns.old }
@@ -311,7 +308,7 @@ pub(crate) fn add_touch(levels: &mut Levels, touch: Touch) -> Result<(), NoMemor
         levels.new.uses.items) }
     ensures prices { OnOk result (KeepsPrices levels.old levels.new) }
 {
-    let place = touch.row as usize;
+    let place = touch.row;
     if place >= levels.uses.len() {
         return Ok(());
     }
@@ -330,7 +327,7 @@ pub(crate) fn take_touch(levels: &mut Levels, touch: Touch)
     ensures uses { TakesUses (touch_use touch) levels.old.uses.items levels.new.uses.items }
     ensures prices { KeepsPrices levels.old levels.new }
 {
-    let place = touch.row as usize;
+    let place = touch.row;
     if place < levels.uses.len() {
         levels.uses[place] = levels.uses[place].saturating_sub(u64::from(touch.uses));
     }

@@ -10,6 +10,7 @@ use std::marker::Model;
 
 mod allowing;
 mod arc_tables;
+mod arc_term;
 mod claims;
 mod columns;
 mod courses;

@@ -98,7 +98,7 @@ fn price_by(prices: &[i64], number: usize) -> i64
 /// The list of prices above zero.
 pub(crate) fn list_prices<R: Copy>(
     alloc: Global,
-    order: &[(R, u32)],
+    order: &[(R, usize)],
     prices: &[i64],
 ) -> Result<Vec<(R, i64)>, NoMemory>
     requires { All IsRowPrice prices.now }
@@ -106,7 +106,7 @@ pub(crate) fn list_prices<R: Copy>(
 {
     let mut entries = Vec::new(alloc);
     for entry in order {
-        push_price(&mut entries, entry.0, price_by(prices, entry.1 as usize))?;
+        push_price(&mut entries, entry.0, price_by(prices, entry.1))?;
     }
     Ok(entries)
 }

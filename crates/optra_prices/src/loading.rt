@@ -17,7 +17,7 @@ pub(crate) fn arc_touches<'a>(groups: &'a Groups, table: &BidTable<'_>, k: u32) 
     requires { HasGroups groups.now table.now }
     ensures { result.now ≡ arc_touches groups.now table.now k }
 {
-    group(groups, group_of(&table.arcs, k) as usize)
+    group(groups, group_of(&table.arcs, k))
 }
 
 /// Adds what a group uses.

@@ -13,7 +13,7 @@ use crate::ranking::number_rows;
 use crate::touching::push_touches;
 use optra_network::{Network, NoMemory, TypeId};
 use optra_walk::{Action, Leg, RowFamily};
-use std::alloc::{AllocError, Global};
+use std::alloc::Global;
 
 /// How many guesses are kept.
 const PLACES: usize = 1_048_576;
@@ -32,7 +32,7 @@ const SPREAD: usize = 7_919;
 pub(crate) struct Head {
     pub(crate) kind: TypeId,
     pub(crate) leg: Leg,
-    pub(crate) group: u32,
+    pub(crate) group: usize,
 }
 
 /// Rows and groups while they are made, the legs that made groups, and by the places of legs which of these may have
@@ -114,7 +114,7 @@ fn head_group<F: RowFamily>(
     head: u32,
     kind: TypeId,
     leg: Leg,
-) -> Option<u32>
+) -> Option<usize>
     requires making { IsMaking net.now (F.rows_of rows.now net.now) (F.rows_used rows.now net.now)
         making.now }
     requires usable { IsUsable net.now kind leg }
@@ -137,16 +137,14 @@ fn new_group<F: RowFamily>(
     groups: &mut Groups,
     kind: TypeId,
     leg: Leg,
-) -> Result<u32, NoMemory>
+) -> Result<usize, NoMemory>
     requires usable { IsUsable net.now kind leg }
     requires rows { All (λ row. (F.rows_of rows.now net.now).is_row row ≡ true) named.old.items }
     requires groups { AreGroups groups.old.starts.items groups.old.touches.items }
     ensures { IfOk result (FindsGroup (F.rows_of rows.now net.now) (F.rows_used rows.now net.now)
         kind leg named.old.items named.new.items groups.old groups.new) }
 {
-    let Ok(number) = u32::try_from(groups.starts.len() - 1) else {
-        return Err(AllocError);
-    };
+    let number = groups.starts.len() - 1;
     push_touches(net, rows, named, &mut groups.touches, kind, leg)?;
     groups.starts.push(groups.touches.len())?;
     Ok(number)
@@ -159,7 +157,7 @@ fn guessed_group<F: RowFamily>(
     making: &mut Making<F::Row>,
     kind: TypeId,
     leg: Leg,
-) -> Option<u32>
+) -> Option<usize>
     requires making { IsMaking net.now (F.rows_of rows.now net.now) (F.rows_used rows.now net.now)
         making.old }
     requires usable { IsUsable net.now kind leg }
@@ -220,7 +218,7 @@ pub(crate) fn leg_group<F: RowFamily>(
     making: &mut Making<F::Row>,
     kind: TypeId,
     leg: Leg,
-) -> Result<u32, NoMemory>
+) -> Result<usize, NoMemory>
     requires making { IsMaking net.now (F.rows_of rows.now net.now) (F.rows_used rows.now net.now)
         making.old }
     requires usable { IsUsable net.now kind leg }

@@ -1,17 +1,18 @@
 //! Rows by number, and what the arcs of bids' graphs add and touch.
+use crate::arc_term::ArcTerm;
 use optra_graph::TimeGraph;
 
 /// A row by its number, and how much of it is used.
 #[derive(Clone, Copy)]
 pub(crate) struct Touch {
-    pub(crate) row: u32,
+    pub(crate) row: usize,
     pub(crate) uses: u32,
 }
 
 /// Rows by number, and the same rows ascending, each with its number.
 #[derive(Drop)]
 pub(crate) struct Numbering<R: Copy + Ord> {
-    pub(crate) order: Vec<(R, u32)>,
+    pub(crate) order: Vec<(R, usize)>,
     pub(crate) rows: Vec<R>,
 }
 
@@ -20,15 +21,6 @@ pub(crate) struct Numbering<R: Copy + Ord> {
 pub(crate) struct Groups {
     pub(crate) starts: Vec<usize>,
     pub(crate) touches: Vec<Touch>,
-}
-
-/// What an arc adds apart from the prices of rows, in thousandths of a cent, the group of rows that it touches, and
-/// whether it may be taken.
-#[derive(Clone, Copy)]
-pub(crate) struct ArcTerm {
-    pub(crate) value: i64,
-    pub(crate) group: u32,
-    pub(crate) allowed: bool,
 }
 
 /// The arcs of a bid's graph at a node, a number that none of their values exceeds in size, and whether the bid has a yes

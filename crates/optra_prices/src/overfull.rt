@@ -17,13 +17,12 @@ use optra_walk::{Instance, RowFamily};
 use std::alloc::Global;
 
 /// Whether more is used of the row with this number than its capacity.
-fn is_above(levels: &Levels, number: u32) -> bool
+fn is_above(levels: &Levels, number: usize) -> bool
     requires levels { IsLevels levels.now }
     requires within { number < length levels.now.prices.items }
     ensures { IsTrue result ↔ IsAbove levels.now number }
 {
-    let place = number as usize;
-    levels.uses[place] > u64::from(levels.capacities[place])
+    levels.uses[number] > u64::from(levels.capacities[number])
 }
 
 /// The rows of which more is used than their capacity.
@@ -40,7 +39,7 @@ fn rows_above<R: Copy + Ord>(
     for k in 0..levels.active.len() {
         let number = levels.active[k];
         if is_above(levels, number) {
-            listed.push(numbered[number as usize])?;
+            listed.push(numbered[number])?;
         }
     }
     Ok(listed)

@@ -7,7 +7,8 @@ ghost use Rattle.optra_prices.specs.Parts.{AreParts, ArePartsOf, IsTableGraph, I
 ghost use Rattle.optra_prices.specs.Tables.{AreGroups};
 
 use crate::arc_tables::ArcTables;
-use crate::numbering::{ArcTerm, BidTable, Groups};
+use crate::arc_term::ArcTerm;
+use crate::numbering::{BidTable, Groups};
 use crate::putting::{add_arcs, are_arcs_within, has_room_for_each, take_arcs};
 use crate::rooms::{Room, Told, free_copy, tell_group};
 use optra_graph::TimeGraph;
@@ -24,13 +25,13 @@ pub struct ArcPart {
 }
 
 /// The part of an arc, with whether there is room for what it touches.
-fn part_of(arc: ArcTerm, has_room: bool) -> ArcPart
-    ensures value { result.value ≡ arc.value }
-    ensures allowed { result.allowed ≡ (arc.allowed && has_room) }
+fn part_of(arc: &ArcTerm, has_room: bool) -> ArcPart
+    ensures value { result.value ≡ arc.now.value }
+    ensures allowed { result.allowed ≡ (arc.now.allowed && has_room) }
 {
     ArcPart {
-        value: arc.value,
-        allowed: arc.allowed && has_room,
+        value: arc.value(),
+        allowed: arc.allowed() && has_room,
     }
 }
 
@@ -54,8 +55,8 @@ fn tell_table(
         has_room: true,
     };
     for k in 0..table.arcs.len() {
-        let arc = table.arcs[k];
-        last = tell_group(room, groups, arc.group, last);
+        let arc = &table.arcs[k];
+        last = tell_group(room, groups, arc.group(), last);
         parts.push(part_of(arc, last.has_room))?;
     }
     Ok(())

@@ -47,10 +47,10 @@ pub(crate) fn free_copy(alloc: Global, room: &Room) -> Result<Room, NoMemory>
 }
 
 /// Adds uses of the row with this number. More than 2^64 uses are refused as want of memory; no legs come near it.
-fn add_use(uses: &mut Vec<u64>, number: u32, by: u32) -> Result<(), NoMemory>
+fn add_use(uses: &mut Vec<u64>, number: usize, by: u32) -> Result<(), NoMemory>
     ensures { OnOk result (ChangesUse number (λ used. used + by) uses.old.items uses.new.items) }
 {
-    let Some(used) = uses.get_mut(number as usize) else {
+    let Some(used) = uses.get_mut(number) else {
         return Ok(());
     };
     let Some(more) = used.checked_add(u64::from(by)) else {
@@ -61,10 +61,10 @@ fn add_use(uses: &mut Vec<u64>, number: u32, by: u32) -> Result<(), NoMemory>
 }
 
 /// Takes away uses of the row with this number.
-fn take_use(uses: &mut Vec<u64>, number: u32, by: u32)
+fn take_use(uses: &mut Vec<u64>, number: usize, by: u32)
     ensures { ChangesUse number (λ used. used - by) uses.old.items uses.new.items }
 {
-    let Some(used) = uses.get_mut(number as usize) else {
+    let Some(used) = uses.get_mut(number) else {
         return;
     };
     *used = used.saturating_sub(u64::from(by));
@@ -110,12 +110,11 @@ pub(crate) fn take_touches(room: &mut Room, touches: &[Touch])
 }
 
 /// Whether no more is used of the row with this number than there is.
-fn is_number_within(room: &Room, number: u32) -> bool
+fn is_number_within(room: &Room, number: usize) -> bool
     ensures { IsTrue result ↔ IsNumberWithin room.now number }
 {
-    let place = number as usize;
-    let used = room.uses.get(place).copied().unwrap_or(0);
-    let capacity = room.capacities.get(place).copied().unwrap_or(0);
+    let used = room.uses.get(number).copied().unwrap_or(0);
+    let capacity = room.capacities.get(number).copied().unwrap_or(0);
     used <= u64::from(capacity)
 }
 
@@ -135,7 +134,7 @@ pub(crate) fn are_touches_within(room: &Room, touches: &[Touch]) -> bool
 fn has_room_for(room: &Room, touch: Touch) -> bool
     ensures { IsTrue result ↔ HasRoomFor room.now touch }
 {
-    let number = touch.row as usize;
+    let number = touch.row;
     let used = room.uses.get(number).copied().unwrap_or(0);
     let capacity = room.capacities.get(number).copied().unwrap_or(0);
     match capacity.checked_sub(touch.uses) {
@@ -159,12 +158,12 @@ pub(crate) fn has_room(room: &Room, touches: &[Touch]) -> bool
 /// A group of rows that arcs touch, and whether there is room for it.
 #[derive(Clone, Copy)]
 pub(crate) struct Told {
-    pub(crate) group: u32,
+    pub(crate) group: usize,
     pub(crate) has_room: bool,
 }
 
 /// Whether there is room for a group: what was told last, where that was of the same group, as neighbouring arcs mostly are.
-pub(crate) fn tell_group(room: &Room, groups: &Groups, number: u32, last: Told) -> Told
+pub(crate) fn tell_group(room: &Room, groups: &Groups, number: usize, last: Told) -> Told
     requires groups { AreGroups groups.now.starts.items groups.now.touches.items }
     requires within { number + 1 < length groups.now.starts.items }
     requires last { IsTold room.now groups.now last }
@@ -176,6 +175,6 @@ pub(crate) fn tell_group(room: &Room, groups: &Groups, number: u32, last: Told) 
     }
     Told {
         group: number,
-        has_room: has_room(room, group(groups, number as usize)),
+        has_room: has_room(room, group(groups, number)),
     }
 }

@@ -6,8 +6,8 @@ ghost use Rattle.optra_prices.specs.Arcs.{IsFound};
 ghost use Rattle.optra_prices.specs.Standings.{IsMost};
 ghost use Rattle.optra_prices.specs.Tables.{allows_by, weight_by, AreUpTo, AreWeighedTo, IsGroupPrice};
 
+use crate::arc_term::ArcTerm;
 use crate::group_prices::GroupPrices;
-use crate::numbering::ArcTerm;
 use optra_dag::{
     Buffers, Dag, FAR, NARROW_ROOM, NarrowWeight, Weight, first_best_in, is_narrow, narrow_best_in,
 };
@@ -31,13 +31,13 @@ impl Weight for Weights<'_> {
     ghost weight = { λ w k. weight_by w.arcs.now w.grouped.now k };
 
     fn allowed(&self, arc: u32) -> bool {
-        self.arcs[arc as usize].allowed
+        self.arcs[arc as usize].allowed()
     }
 
     fn of(&self, arc: u32) -> i128 {
-        let term = self.arcs[arc as usize];
-        let price = self.grouped.get(term.group as usize).copied().unwrap_or(0);
-        i128::from(term.value) - i128::from(price)
+        let term = &self.arcs[arc as usize];
+        let price = self.grouped.get(term.group()).copied().unwrap_or(0);
+        i128::from(term.value()) - i128::from(price)
     }
 }
 
@@ -52,12 +52,12 @@ impl NarrowWeight for Weights<'_> {
     ghost weight = { λ w k. narrow_weight_by w.arcs.now w.grouped.now k };
 
     fn of(&self, arc: u32) -> i64 {
-        let term = self.arcs[arc as usize];
-        if !term.allowed {
+        let term = &self.arcs[arc as usize];
+        if !term.allowed() {
             return FAR;
         }
-        let price = self.grouped.get(term.group as usize).copied().unwrap_or(0);
-        term.value.wrapping_sub(price)
+        let price = self.grouped.get(term.group()).copied().unwrap_or(0);
+        term.value().wrapping_sub(price)
     }
 }
 

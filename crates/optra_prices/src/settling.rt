@@ -6,9 +6,10 @@ ghost use Rattle.optra_prices.specs.Keepings.{KeepsStanding};
 ghost use Rattle.optra_prices.specs.Tables.{AreUpTo, no_arc};
 ghost use Rattle.optra_prices.specs.Standings.{Stands, IsCopy, IsSound};
 
+use crate::arc_term::ArcTerm;
 use crate::columns::{Mark, mark_at};
 use crate::group_prices::GroupPrices;
-use crate::numbering::{ArcTerm, BidTable, Standing};
+use crate::numbering::{BidTable, Standing};
 use crate::searching::search_bid;
 use optra_dag::Buffers;
 use optra_network::NoMemory;
@@ -100,11 +101,11 @@ pub(crate) fn renew_where(
 }
 
 /// The group of an arc.
-pub(crate) fn group_of(arcs: &[ArcTerm], k: u32) -> u32
+pub(crate) fn group_of(arcs: &[ArcTerm], k: u32) -> usize
     ensures { result ≡ (slice_index_or arcs.now k no_arc).group }
 {
     match arcs.get(k as usize) {
-        Some(arc) => arc.group,
+        Some(arc) => arc.group(),
         None => 0,
     }
 }

@@ -9,8 +9,9 @@ ghost use Rattle.optra_prices.specs.Makings.{IsMaking, Grows};
 ghost use Rattle.optra_prices.specs.Standings.{Covers, IsMost};
 ghost use Rattle.optra_prices.specs.Terms.{IsTerm, AreArcs};
 
+use crate::arc_term::ArcTerm;
 use crate::making::{Making, leg_group};
-use crate::numbering::{ArcTerm, BidTable};
+use crate::numbering::BidTable;
 use crate::weighing::{leg_value, start_value};
 use optra_bid::Bid;
 use optra_graph::TimeGraph;
@@ -31,24 +32,16 @@ fn start_term(bid: &Bid, minute: Minute) -> ArcTerm
     ensures range { IsArcValue result.value }
     ensures group { result.group ≡ 0 }
 {
-    ArcTerm {
-        value: start_value(bid, minute),
-        group: 0,
-        allowed: false,
-    }
+    ArcTerm::new(start_value(bid, minute), 0, false)
 }
 
 /// The arc of a leg, which touches the rows of a group.
-fn leg_term(net: &Network, bid: &Bid, leg: Leg, group: u32) -> ArcTerm
+fn leg_term(net: &Network, bid: &Bid, leg: Leg, group: usize) -> ArcTerm
     ensures value { result.value ≡ leg_value net.now bid.now leg }
     ensures range { IsArcValue result.value }
     ensures group { result.group ≡ group }
 {
-    ArcTerm {
-        value: leg_value(net, bid, leg),
-        group,
-        allowed: false,
-    }
+    ArcTerm::new(leg_value(net, bid, leg), group, false)
 }
 
 /// The arc at a place, with a group for its leg.
@@ -118,7 +111,7 @@ pub(crate) fn bid_table<'g, F: RowFamily>(
     arcs.reserve_exact(count as usize)?;
     for k in 0..count {
         let term = term_at(net, rows, bid, graph, making, k)?;
-        most = widened(most, term.value);
+        most = widened(most, term.value());
         arcs.push(term)?;
     }
     Ok(BidTable {

@@ -66,7 +66,7 @@ fn tell_own(told: &mut Vec<bool>, decisions: &[Decision])
     ensures own { TellsOwn decisions.now told.new.items }
 {
     for decision in decisions {
-        tell_bid(told, decision.bid);
+        tell_bid(told, decision.bid as usize);
     }
 }
 

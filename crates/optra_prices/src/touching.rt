@@ -6,16 +6,13 @@ ghost use Rattle.optra_prices.specs.Tables.{Extends, AddsTouches};
 use crate::numbering::Touch;
 use optra_network::{Network, NoMemory, TypeId};
 use optra_walk::{Leg, RowFamily};
-use std::alloc::AllocError;
 
-/// Names the row once more, and tells its place. There is room for 4,294,967,296 names.
-fn name_row<R: Copy>(named: &mut Vec<R>, row: R) -> Result<u32, NoMemory>
+/// Names the row once more, and tells its place.
+fn name_row<R: Copy>(named: &mut Vec<R>, row: R) -> Result<usize, NoMemory>
     ensures more { OnOk result (named.new.items ≡ named.old.items ++ row ∷ []) }
     ensures place { IfOk result (λ n. slice_get named.new.items n ≡ Some row) }
 {
-    let Ok(place) = u32::try_from(named.len()) else {
-        return Err(AllocError);
-    };
+    let place = named.len();
     named.push(row)?;
     Ok(place)
 }

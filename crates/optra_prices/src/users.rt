@@ -10,7 +10,7 @@ use optra_network::NoMemory;
 use std::alloc::Global;
 
 /// The rows that are touched.
-fn touched_rows(alloc: Global, touches: &[Touch]) -> Result<Vec<u32>, NoMemory>
+fn touched_rows(alloc: Global, touches: &[Touch]) -> Result<Vec<usize>, NoMemory>
     ensures { IfOk result (λ rows. rows.items ≡ rows_touched touches.now) }
 {
     let mut rows = Vec::with_capacity(alloc, touches.len())?;

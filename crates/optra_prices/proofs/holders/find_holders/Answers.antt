@@ -6,7 +6,7 @@ use Rattle.std.specs.declared.result.Result.{Result}
 use Rattle.std.specs.declared.result.Result.TheVariants.{Ok, Err}
 use Rattle.optra_prices.specs.Holders.{AreHolders, HoldsArcs}
 use Rattle.optra_prices.specs.Indexes.{AreSpans, IsIndex, Inverts}
-use Rattle.optra_prices.specs.declared.numbering.ArcTerm.{ArcTerm}
+use Rattle.optra_prices.specs.ArcTerms.{ArcTerm}
 use Rattle.optra_prices.proofs.HolderLemmas.{listed_none, listed_more, holders_all}
 use Rattle.optra_prices.proofs.holders.find_holders.Goals as goal
 

@@ -1,7 +1,7 @@
 use Rattle.std.proofs.Common.{ℕ, ◌+◌, ◌<◌, List, length, sym, ap, ◌∙◌, subst}
 use Rattle.std.specs.Prelude.{slice_index_or}
 use Rattle.optra_prices.specs.Tables.{no_arc}
-use Rattle.optra_prices.specs.declared.numbering.ArcTerm.{ArcTerm}
+use Rattle.optra_prices.specs.ArcTerms.{ArcTerm}
 use Rattle.optra_prices.proofs.UseLemmas.{arc_grouped}
 use Rattle.optra_prices.proofs.loading.arc_touches.Goals as goal
 

@@ -2,7 +2,7 @@ use Rattle.std.proofs.Common.{refl, List, ℕ, subst}
 use Rattle.std.specs.Prelude.{All, slice_index_or}
 use Rattle.optra_prices.specs.Columns.{HasNotRisen}
 use Rattle.optra_prices.specs.Tables.{no_arc}
-use Rattle.optra_prices.specs.declared.numbering.ArcTerm.{ArcTerm}
+use Rattle.optra_prices.specs.ArcTerms.{ArcTerm}
 use Rattle.optra_prices.proofs.SkipLemmas.{stands_still}
 use Rattle.optra_prices.proofs.settling.update.Goals as goal
 
