@@ -25,7 +25,7 @@ loop-k-preserved g c =
     let at : slice_get arcs k ≡ Some arc = slice_get_read arcs (length arcs) k arc refl within c.index_mut-arc.ensures.value in
     let before : slice_get old k ≡ Some arc = sym (inv.told.left k (omega arith)) ∙ at in
     let told = c.tell_group-last.ensures in
-    let mark = arc_mark s.net rows s.bids s.node c.args.number c.args.room.now t c.args.groups.now old c.requires.tells k arc c.tell_group-last.result c.let_arc-allowed.result before told.group told.told c.let_arc-allowed.ensures in
+    let mark = arc_mark s.net rows s.bids s.node c.args.number c.args.room.now t c.args.groups.now old c.requires.tells k arc c.tell_group-last.result c.let_arc-allowed.result before (told.group ∙ c.group.ensures) told.told c.let_arc-allowed.ensures in
     let put = c.set_allowed-other.ensures in
     record {
       told = told_more s.net rows s.bids s.node c.args.number t k old arcs arc after inv.told at

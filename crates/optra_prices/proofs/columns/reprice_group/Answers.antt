@@ -13,23 +13,23 @@ use Rattle.optra_prices.specs.declared.columns.Mark.{Mark}
 use Rattle.optra_prices.specs.declared.columns.Mark.TheVariants.{Still, Due}
 use Rattle.optra_prices.proofs.ColumnLemmas.{not_due, past_due, tells_by, mark_set, mark_apart, listed_more, most_set, high_max}
 use Rattle.optra_prices.proofs.ValueOfLemmas.{set_at, set_elsewhere}
-use Rattle.optra_prices.proofs.columns.reprice_group.Goals.{then-place-len-via-then-place-len, then-place-len-via-else-place-len+then-ne}
+use Rattle.optra_prices.proofs.columns.reprice_group.Goals.{then-g-len-via-then-g-len, then-g-len-via-else-g-len+then-ne}
 use Rattle.optra_prices.proofs.columns.reprice_group.Goals as goal
 
 not_false : (b : Bool) → false ≡ not b → b ≡ true
 not_false true e = refl
 not_false false e = cc
 
-pub returns-then-place-len-clause-repriced : goal.returns-then-place-len-clause-repriced
-returns-then-place-len-clause-repriced c =
+pub returns-then-g-len-clause-repriced : goal.returns-then-g-len-clause-repriced
+returns-then-g-len-clause-repriced c =
     let columns = c.args.columns.now in
     let marks = columns.marks.items in
     let g = c.args.g in
     let count = c.requires.columns.mark_count in
-    elim c.then-place-len.branch [
-      | then-place-len-via-then-place-len w ↦ not_due c.args.prices.now g columns (past_due columns g (grind (arith, c.len.ensures, w.if-place-len.true)))
-      | then-place-len-via-else-place-len+then-ne w ↦ not_due c.args.prices.now g columns (λ due.
-          let within : g < length marks = grind (arith, c.len.ensures, w.if-place-len.false) in
+    elim c.then-g-len.branch [
+      | then-g-len-via-then-g-len w ↦ not_due c.args.prices.now g columns (past_due columns g (grind (arith, c.len.ensures, w.if-g-len.true)))
+      | then-g-len-via-else-g-len+then-ne w ↦ not_due c.args.prices.now g columns (λ due.
+          let within : g < length marks = grind (arith, c.len.ensures, w.if-g-len.false) in
           let here = get_or_read marks g w.index.result.now within w.index.ensures Still ∙ due in
           let test : true ≡ false = w.if-ne.ensures ∙ ap (λ (mark : Mark). not (sameb the_type mark Due)) here in
           cc)
@@ -43,7 +43,7 @@ returns-clause-columns c =
     let grouped = columns.grouped.items in
     let g = c.args.g in
     let count = is.mark_count in
-    let within : g < length marks = grind (arith, c.len.ensures, c.if-place-len.false) in
+    let within : g < length marks = grind (arith, c.len.ensures, c.if-g-len.false) in
     let due : mark_at marks g ≡ Due = sym (get_or_read marks g c.index.result.now within c.index.ensures Still) ∙ same_true the_type (search rules) _ _ (not_false _ c.if-ne.ensures) in
     let price = to_z w64 (of_z w64 c.price_at-price.result) in
     let f1 : FitsSigned w64 c.price_at-price.result = search rules in
@@ -72,7 +72,7 @@ returns-clause-repriced c =
     let grouped = columns.grouped.items in
     let g = c.args.g in
     let count = is.mark_count in
-    let within : g < length grouped = grind (arith, c.len.ensures, c.if-place-len.false) in
+    let within : g < length grouped = grind (arith, c.len.ensures, c.if-g-len.false) in
     let marked : g < length marks = omega arith in
     let due : mark_at marks g ≡ Due = sym (get_or_read marks g c.index.result.now marked c.index.ensures Still) ∙ same_true the_type (search rules) _ _ (not_false _ c.if-ne.ensures) in
     let price = to_z w64 (of_z w64 c.price_at-price.result) in

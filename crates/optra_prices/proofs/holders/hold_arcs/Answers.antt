@@ -1,5 +1,6 @@
 -- One more group has the bid.
-use Rattle.std.proofs.Common.{◌≤◌, length, arith}
+use Rattle.std.proofs.Common.{ℕ, ◌≤◌, length, subst, arith}
+use Rattle.optra_prices.specs.Holders.{HoldsGroup}
 use Rattle.optra_prices.proofs.HolderLemmas.{holds_none, holds_more, holds_all}
 use Rattle.optra_prices.proofs.holders.hold_arcs.Goals as goal
 
@@ -7,7 +8,9 @@ pub loop-arc-init : goal.loop-arc-init
 loop-arc-init c = holds_none c.args.bid c.args.arcs.now c.args.held.now
 
 pub loop-arc-preserved : goal.loop-arc-preserved
-loop-arc-preserved c = holds_more c.loop-arc.arc-index c.args.bid c.args.arcs.now c.args.held.now c.loop-arc.held c.hold_group.new.held c.loop-arc.invariant c.in_ok-hold_group.ensures
+loop-arc-preserved c =
+    holds_more c.loop-arc.arc-index c.args.bid c.args.arcs.now c.args.held.now c.loop-arc.held c.hold_group.new.held c.loop-arc.invariant
+    (subst (λ (g : ℕ). HoldsGroup c.args.bid g c.loop-arc.held c.hold_group.new.held) c.group.ensures c.in_ok-hold_group.ensures)
 
 pub returns : goal.returns
 returns c =

@@ -30,10 +30,10 @@ loop-k-preserved g c =
     let kept = terms_kept net rows used bid t old.named.items numbered old.groups.starts.items starts old.groups.touches.items touches arcs is.grows.extends is.grows.keeps inv.terms in
     let here = subst (λ k. IsTerm net rows used bid t numbered starts touches k term) (sym inv.count) is.term in
     let pushed = c.in_ok-push.ensures.items in
-    let fits : FitsSigned w64 term.value = search rules in
+    let fits : FitsSigned w64 c.value.result = search rules in
     let size = c.widened-most.result in
     let size_fits : FitsSigned w64 size = search rules in
-    let value = subst (IsBetween (neg_ℤ size) size) (to_z-of_z w64 term.value fits) c.widened-most.ensures.value in
+    let value = subst (IsBetween (neg_ℤ size) size) (to_z-of_z w64 c.value.result fits ∙ c.value.ensures) c.widened-most.ensures.value in
     record {
       making = is.making;
       grows = grows_more _ old new inv.grows is.grows;
