@@ -13,6 +13,7 @@ mod arc_tables;
 mod arc_term;
 mod claims;
 mod columns;
+mod counts;
 mod courses;
 pub mod deads;
 mod decided;

@@ -22,7 +22,7 @@ fn is_above(levels: &Levels, number: usize) -> bool
     requires within { number < length levels.now.prices.items }
     ensures { IsTrue result ↔ IsAbove levels.now number }
 {
-    levels.uses[number] > u64::from(levels.capacities[number])
+    !levels.uses.is_at_most(number, levels.capacities[number])
 }
 
 /// The rows of which more is used than their capacity.
