@@ -23,12 +23,12 @@ loop-minute-init c = record {
 pub place-place-requires-clause-placed : goal.place-place-requires-clause-placed
 place-place-requires-clause-placed c = let t = start_timely c.args.net.now c.args.bid.now.path c.args.layout c.requires.setting c.loop-minute.minute (omega arith) (omega arith) in rw c.make_start.ensures t.placed
 
-pub loop-minute-preserved-then-not-kept-flags-place : goal.loop-minute-preserved-then-not-kept-flags-place
-loop-minute-preserved-then-not-kept-flags-place c =
+pub loop-minute-preserved-then-not-kept-place : goal.loop-minute-preserved-then-not-kept-place
+loop-minute-preserved-then-not-kept-place c =
     let e : c.place-place.result ≡ place_of c.args.layout (start_state c.args.bid.now.path c.loop-minute.minute) = c.place-place.ensures.value ∙ ap (place_of c.args.layout) c.make_start.ensures in
     let i = c.loop-minute.invariant in
     record {
-      starts = starts_skip c.args.bid.now.path c.args.layout c.args.kept.flags.now c.loop-minute.minute c.loop-minute.dag.arcs c.loop-minute.minutes.items (ap (is_set c.args.kept.flags.now) (sym e) ∙ c.if-not-kept-flags-place.true) i.starts;
+      starts = starts_skip c.args.bid.now.path c.args.layout c.args.kept.flags.now c.loop-minute.minute c.loop-minute.dag.arcs c.loop-minute.minutes.items (ap (is_set c.args.kept.flags.now) (sym e) ∙ c.if-not-kept-place.true) i.starts;
       ends = i.ends;
       few = let f = i.few in omega arith;
       end = omega arith;
@@ -67,7 +67,7 @@ loop-minute-preserved c =
     let is : IsKeptStart c.args.bid.now.path c.args.layout c.args.kept.flags.now c.loop-minute.minute = record {
       within = (omega arith, omega arith);
       timely = start_timely c.args.net.now c.args.bid.now.path c.args.layout c.requires.setting c.loop-minute.minute (omega arith) (omega arith);
-      kept = ap (is_set c.args.kept.flags.now) (sym e) ∙ c.if-not-kept-flags-place.false;
+      kept = ap (is_set c.args.kept.flags.now) (sym e) ∙ c.if-not-kept-place.false;
     } in
     let p = starts_push c.args.bid.now.path c.args.layout c.args.kept.flags.now c.loop-minute.minute c.loop-minute.dag.arcs c.loop-minute.minutes.items is i.starts in
     record {
