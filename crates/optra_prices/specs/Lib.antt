@@ -6,6 +6,7 @@ pub mod Deads
 pub mod Marks
 pub mod Laws
 pub mod Repairs
+pub mod Bounds
 pub mod Arcs
 pub mod Tables
 pub mod Terms
