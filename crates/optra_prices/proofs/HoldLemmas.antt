@@ -17,6 +17,7 @@ use Rattle.std.proofs.lemmas.List.Elements.{All-nil, All-cons}
 use Rattle.std.proofs.lemmas.Map.{NonePasses}
 use Rattle.std.proofs.lemmas.Map.Entries.{none_past_head}
 use Rattle.std.proofs.lemmas.Map.Keys.{sorted_tail, IsDistinct-from_sorted}
+use Rattle.std.proofs.lemmas.Nat.{mul-le}
 use Rattle.std.proofs.lemmas.Option.{none-some, same_Some}
 use Rattle.optra_bid.specs.declared.bids.Bid.{Bid}
 use Rattle.optra_walk.specs.declared.Leg.{Leg}
@@ -29,7 +30,7 @@ use Rattle.optra_node.proofs.LoadLemmas.{contains_cases}
 use Rattle.std.proofs.Math.IntN.{*ℤ-zero, pos-*ℤ-pos, pos-*ℤ-negsuc}
 use Rattle.std.proofs.Math.Nat.{mul-zero}
 use Rattle.optra_prices.specs.Steps.{price_within, next_price}
-use Rattle.optra_prices.specs.Holdings.{Holds, Adds, entries_one, stepped, more_used, Bumps, part_of}
+use Rattle.optra_prices.specs.Holdings.{Holds, Adds, entries_one, stepped, held_use, more_used, Bumps, part_of}
 use Rattle.optra_prices.specs.declared.holding.Held.{Held}
 use Rattle.optra_prices.proofs.NumberLemmas.{take_push}
 use Rattle.optra_node.specs.Certificates.{AreAscending}
@@ -41,28 +42,28 @@ module _ {R : Type 0} (cmp : R → R → Ordering) (total : IsTotalOrder cmp) (a
   pub holds_same : (price : R → ℤ) (used used' : R → ℕ) (m : BTreeMap R Held) → ((row : R) → used row ≡ used' row) → Holds cmp is_row price used m → Holds cmp is_row price used' m
   holds_same price used used' m same h row = by (get cmp m row) (h row)
     where
-      by : (o : Option Held) → MatchOption o ((price row ≡ pos 0) × (used row ≡ 0)) (λ held. (is_row row ≡ true) × (held.price ≡ price row) × (held.used ≡ used row))
-          → MatchOption o ((price row ≡ pos 0) × (used' row ≡ 0)) (λ held. (is_row row ≡ true) × (held.price ≡ price row) × (held.used ≡ used' row))
+      by : (o : Option Held) → MatchOption o ((price row ≡ pos 0) × (used row ≡ 0)) (λ held. (is_row row ≡ true) × (held.price ≡ price row) × (held.used ≡ held_use (used row)))
+          → MatchOption o ((price row ≡ pos 0) × (used' row ≡ 0)) (λ held. (is_row row ≡ true) × (held.price ≡ price row) × (held.used ≡ held_use (used' row)))
       by None (p, u) = (p, sym (same row) ∙ u)
-      by (Some held) (r, p, u) = (r, p, u ∙ same row)
+      by (Some held) (r, p, u) = (r, p, u ∙ ap held_use (same row))
 
   -- uses of one row
   pub adds_one : (old new : BTreeMap R Held) (row : R) (uses : ℕ) → is_row row ≡ true → Bumps cmp row uses old new
       → Adds cmp is_row (λ q. cond (eq_by_cmp cmp row q) uses 0) old new
   adds_one old new row uses is updates price used h q =
-      subst (λ o. MatchOption o ((price q ≡ pos 0) × (used q + cond (eq_by_cmp cmp row q) uses 0 ≡ 0)) (λ held. (is_row q ≡ true) × (held.price ≡ price q) × (held.used ≡ used q + cond (eq_by_cmp cmp row q) uses 0))) (sym (updates q)) (by (is_at (cmp row) q) refl)
+      subst (λ o. MatchOption o ((price q ≡ pos 0) × (used q + cond (eq_by_cmp cmp row q) uses 0 ≡ 0)) (λ held. (is_row q ≡ true) × (held.price ≡ price q) × (held.used ≡ held_use (used q + cond (eq_by_cmp cmp row q) uses 0)))) (sym (updates q)) (by (is_at (cmp row) q) refl)
     where
-      at_row : (o : Option Held) → MatchOption o ((price row ≡ pos 0) × (used row ≡ 0)) (λ held. (is_row row ≡ true) × (held.price ≡ price row) × (held.used ≡ used row)) → row ≡ q
-          → (is_row q ≡ true) × ((more_used o uses).price ≡ price q) × ((more_used o uses).used ≡ used q + uses)
+      at_row : (o : Option Held) → MatchOption o ((price row ≡ pos 0) × (used row ≡ 0)) (λ held. (is_row row ≡ true) × (held.price ≡ price row) × (held.used ≡ held_use (used row))) → row ≡ q
+          → (is_row q ≡ true) × ((more_used o uses).price ≡ price q) × ((more_used o uses).used ≡ held_use (used q + uses))
       at_row None (p, u) e = (ap is_row (sym e) ∙ is, sym p ∙ ap price e, let v = ap used e in omega arith)
       at_row (Some held) (r, p, u) e = (ap is_row (sym e) ∙ is, p ∙ ap price e, let v = ap used e in omega arith)
 
-      other : (o : Option Held) → MatchOption o ((price q ≡ pos 0) × (used q ≡ 0)) (λ held. (is_row q ≡ true) × (held.price ≡ price q) × (held.used ≡ used q))
-          → MatchOption o ((price q ≡ pos 0) × (used q + 0 ≡ 0)) (λ held. (is_row q ≡ true) × (held.price ≡ price q) × (held.used ≡ used q + 0))
+      other : (o : Option Held) → MatchOption o ((price q ≡ pos 0) × (used q ≡ 0)) (λ held. (is_row q ≡ true) × (held.price ≡ price q) × (held.used ≡ held_use (used q)))
+          → MatchOption o ((price q ≡ pos 0) × (used q + 0 ≡ 0)) (λ held. (is_row q ≡ true) × (held.price ≡ price q) × (held.used ≡ held_use (used q + 0)))
       other None (p, u) = (p, omega arith)
       other (Some held) (r, p, u) = (r, p, omega arith)
 
-      by : (b : Bool) → is_at (cmp row) q ≡ b → MatchOption (cond b (Some (more_used (get cmp old row) uses)) (get cmp old q)) ((price q ≡ pos 0) × (used q + cond b uses 0 ≡ 0)) (λ held. (is_row q ≡ true) × (held.price ≡ price q) × (held.used ≡ used q + cond b uses 0))
+      by : (b : Bool) → is_at (cmp row) q ≡ b → MatchOption (cond b (Some (more_used (get cmp old row) uses)) (get cmp old q)) ((price q ≡ pos 0) × (used q + cond b uses 0 ≡ 0)) (λ held. (is_row q ≡ true) × (held.price ≡ price q) × (held.used ≡ held_use (used q + cond b uses 0)))
       by true e = at_row (get cmp old row) (h row) (apart row q (equal_is (cmp row q) e))
       by false e = other (get cmp old q) (h q)
 
@@ -193,6 +194,26 @@ falling n used room l = by (room - used) refl ∙ refl
         let some : pos used -ℤ pos room ≡ negsuc d = omega (arith, ints) in
         ap (λ (z : ℤ). pos n *ℤ z) some ∙ pos-*ℤ-negsuc n d ∙ ap (λ (k : ℕ). neg_ℤ (pos (n * k))) (sym e)
 
+-- a number that is at least 2^64 - 1 gives the price that 2^64 - 1 gives
+high_within : (z : ℤ) → pos 2000000000000 ≤ℤ z → price_within z ≡ pos 2000000000000
+high_within z l = omega (arith, ints, clamps)
+
+next_highest : (n used room : ℕ) (price : ℤ) → 1 ≤ n → 18446744073709551615 ≤ used → room ≤ 65535 → pos 0 ≤ℤ price → next_price (pos n) price used room ≡ pos 2000000000000
+next_highest n used room price one many small low =
+    let e = rising n used room (omega arith) in
+    let m = mul-le 1 (used - room) n (used - room) one (omega arith) in
+    high_within (price +ℤ pos n *ℤ (pos used -ℤ pos room)) (omega (arith, ints))
+
+pub next_held_use : (by price : ℤ) (used room : ℕ) → pos 1 ≤ℤ by → pos 0 ≤ℤ price → room ≤ 65535 → next_price by price (held_use used) room ≡ next_price by price used room
+next_held_use (negsuc n) price used room one low small = absurd (omega (arith, ints))
+next_held_use (pos n) price used room one low small = elim (cases_lt 18446744073709551615 used) as (λ _. next_price (pos n) price (held_use used) room ≡ next_price (pos n) price used room) [
+  | inl many ↦
+      let least : 1 ≤ n = omega (arith, ints) in
+      ap (λ (u : ℕ). next_price (pos n) price u room) (let e : held_use used ≡ 18446744073709551615 = omega arith in e)
+      ∙ next_highest n 18446744073709551615 room price least (omega arith) small low ∙ sym (next_highest n used room price least (omega arith) small low)
+  | inr few ↦ ap (λ (u : ℕ). next_price (pos n) price u room) (let e : held_use used ≡ used = omega arith in e)
+]
+
 low_within : (z : ℤ) → z ≤ℤ pos 0 → price_within z ≡ pos 0
 low_within z l = omega (arith, ints, clamps)
 
@@ -253,7 +274,7 @@ module _ {R : Type 0} (cmp : R → R → Ordering) (total : IsTotalOrder cmp) (a
       → ((q : R) → get cmp new q ≡ cond (is_at (cmp e.0) q) (Some held) (get cmp old q)) → Holds cmp is_row (price_of (eq_by_cmp cmp) (take i entries)) (λ row. 0) old
       → Holds cmp is_row (price_of (eq_by_cmp cmp) (take (i + 1) entries)) (λ row. 0) new
   holds_price entries i e old new held up at is price used updates h q =
-      subst (λ o. MatchOption o ((price_of (eq_by_cmp cmp) (take (i + 1) entries) q ≡ pos 0) × (◌≡◌ {A = ℕ} 0 0)) (λ held. (is_row q ≡ true) × (held.price ≡ price_of (eq_by_cmp cmp) (take (i + 1) entries) q) × (◌≡◌ {A = ℕ} held.used 0))) (sym (updates q)) (by (is_at (cmp e.0) q) refl)
+      subst (λ o. MatchOption o ((price_of (eq_by_cmp cmp) (take (i + 1) entries) q ≡ pos 0) × (◌≡◌ {A = ℕ} 0 0)) (λ held. (is_row q ≡ true) × (held.price ≡ price_of (eq_by_cmp cmp) (take (i + 1) entries) q) × (◌≡◌ {A = ℕ} held.used (held_use 0)))) (sym (updates q)) (by (is_at (cmp e.0) q) refl)
     where
       whole : price_of (eq_by_cmp cmp) (take (i + 1) entries) q ≡ price_of (eq_by_cmp cmp) (take i entries) q +ℤ cond (eq_by_cmp cmp q e.0) e.1 (pos 0)
       whole =
@@ -264,12 +285,12 @@ module _ {R : Type 0} (cmp : R → R → Ordering) (total : IsTotalOrder cmp) (a
       turned = (eq_by_cmp_equiv total).symm q e.0
 
       other : (o : Option Held) → price_of (eq_by_cmp cmp) (take (i + 1) entries) q ≡ price_of (eq_by_cmp cmp) (take i entries) q
-          → MatchOption o ((price_of (eq_by_cmp cmp) (take i entries) q ≡ pos 0) × (◌≡◌ {A = ℕ} 0 0)) (λ held. (is_row q ≡ true) × (held.price ≡ price_of (eq_by_cmp cmp) (take i entries) q) × (◌≡◌ {A = ℕ} held.used 0))
-          → MatchOption o ((price_of (eq_by_cmp cmp) (take (i + 1) entries) q ≡ pos 0) × (◌≡◌ {A = ℕ} 0 0)) (λ held. (is_row q ≡ true) × (held.price ≡ price_of (eq_by_cmp cmp) (take (i + 1) entries) q) × (◌≡◌ {A = ℕ} held.used 0))
+          → MatchOption o ((price_of (eq_by_cmp cmp) (take i entries) q ≡ pos 0) × (◌≡◌ {A = ℕ} 0 0)) (λ held. (is_row q ≡ true) × (held.price ≡ price_of (eq_by_cmp cmp) (take i entries) q) × (◌≡◌ {A = ℕ} held.used (held_use 0)))
+          → MatchOption o ((price_of (eq_by_cmp cmp) (take (i + 1) entries) q ≡ pos 0) × (◌≡◌ {A = ℕ} 0 0)) (λ held. (is_row q ≡ true) × (held.price ≡ price_of (eq_by_cmp cmp) (take (i + 1) entries) q) × (◌≡◌ {A = ℕ} held.used (held_use 0)))
       other None s (p, u) = (s ∙ p, u)
       other (Some held) s (r, p, u) = (r, p ∙ sym s, u)
 
-      by : (b : Bool) → is_at (cmp e.0) q ≡ b → MatchOption (cond b (Some held) (get cmp old q)) ((price_of (eq_by_cmp cmp) (take (i + 1) entries) q ≡ pos 0) × (◌≡◌ {A = ℕ} 0 0)) (λ held. (is_row q ≡ true) × (held.price ≡ price_of (eq_by_cmp cmp) (take (i + 1) entries) q) × (◌≡◌ {A = ℕ} held.used 0))
+      by : (b : Bool) → is_at (cmp e.0) q ≡ b → MatchOption (cond b (Some held) (get cmp old q)) ((price_of (eq_by_cmp cmp) (take (i + 1) entries) q ≡ pos 0) × (◌≡◌ {A = ℕ} 0 0)) (λ held. (is_row q ≡ true) × (held.price ≡ price_of (eq_by_cmp cmp) (take (i + 1) entries) q) × (◌≡◌ {A = ℕ} held.used (held_use 0)))
       by true tie =
           let same : e.0 ≡ q = apart e.0 q (equal_is (cmp e.0 q) tie) in
           let back : cmp q e.0 ≡ Equal = equal_is (cmp q e.0) (turned ∙ tie) in

@@ -11,6 +11,7 @@ use Rattle.std.proofs.lemmas.Nat.{mul-le}
 use Rattle.std.proofs.Math.IntN.{pos-*ℤ-pos, zero-*ℤ}
 use Rattle.optra_bid.specs.Specs.{IsBetween}
 use Rattle.optra_node.proofs.LoadLemmas.{contains_cases, contains_head, contains_later}
+use Rattle.optra_prices.specs.Counts.{Numbers}
 use Rattle.optra_prices.specs.Levels.{IsLevels, IsIdle, IsLeft, StandOnce, AreUnused, IsMove, GoesOn, MovesRow, MovesTo, HoldsPrices, moved_by, price_of, use_of, capacity_of, is_listed}
 use Rattle.optra_prices.specs.Listings.{capacity_below}
 use Rattle.optra_prices.specs.Tables.{IsRowPrice}
@@ -26,7 +27,7 @@ product_range (pos p) capacity h small =
     subst (IsBetween (pos 0) (pos 131070000000000000)) (sym (pos-*ℤ-pos p capacity)) (omega (arith, ints), omega (arith, ints))
 product_range (negsuc p) capacity h small = absurd (let low = h.0 in omega (arith, ints))
 
-small_at : (capacities : List ℕ) (k : ℕ) → All (λ capacity. capacity ≤ 65535) capacities → slice_index capacities k ≤ 65535
+pub small_at : (capacities : List ℕ) (k : ℕ) → All (λ capacity. capacity ≤ 65535) capacities → slice_index capacities k ≤ 65535
 small_at [] k small = omega arith
 small_at (c ∷ capacities) zero small = small 0 0 (omega arith)
 small_at (c ∷ capacities) (suc k) small = small_at capacities k (All-tail (λ (capacity : ℕ). capacity ≤ 65535) c capacities small)
@@ -437,7 +438,7 @@ covers_priced prices uses capacities active k x has covers n l = elim (cases_eq 
 ]
 
 -- or when a row has another use, unless it was idle, isn't active and is used above its capacity now
-pub used_levels : (old : Levels) (uses : Vec ℕ Global) (k x : ℕ) → IsLevels old → k < length old.prices.items → uses.items ≡ set old.uses.items k x → (IsIdle old k → (x ≤ capacity_of old k) ⊎ Contains old.active.items k)
+pub used_levels : (old : Levels) (uses : Numbers) (k x : ℕ) → IsLevels old → k < length old.prices.items → uses.items ≡ set old.uses.items k x → (IsIdle old k → (x ≤ capacity_of old k) ⊎ Contains old.active.items k)
     → IsLevels (record old { uses = uses })
 used_levels old uses k x is l e active = record {
   use_count = ap length e ∙ length-set old.uses.items k x ∙ is.use_count;
@@ -473,6 +474,38 @@ used_levels old uses k x is l e active = record {
       ]
       | inr has ↦ inr has
     ]
+
+-- or when no row has more uses
+pub less_levels : (old : Levels) (uses : Numbers) → IsLevels old → length uses.items ≡ length old.uses.items → ((n : ℕ) → slice_index uses.items n ≤ use_of old n) → IsLevels (record old { uses = uses })
+less_levels old uses is count less = record {
+  use_count = count ∙ is.use_count;
+  capacity_count = is.capacity_count;
+  mark_count = is.mark_count;
+  range = is.range;
+  small = is.small;
+  capacity_is = is.capacity_is;
+  within = is.within;
+  once = is.once;
+  marked = is.marked;
+  found = is.found;
+  covers = λ n m. elim (is.covers n m) as (λ _. IsIdle (record old { uses = uses }) n ⊎ Contains old.active.items n) [
+    | inl idle ↦ inl (idle.0, let l = less n in let few = idle.1 in omega arith)
+    | inr has ↦ inr has
+  ];
+}
+
+-- one use that is less than before
+pub less_set : (uses : List ℕ) (k x n : ℕ) → x ≤ get_or uses k 0 → get_or (set uses k x) n 0 ≤ get_or uses n 0
+less_set [] k x n less = omega arith
+less_set (u ∷ uses) zero x zero less = less
+less_set (u ∷ uses) zero x (suc n) less = omega arith
+less_set (u ∷ uses) (suc k) x zero less = omega arith
+less_set (u ∷ uses) (suc k) x (suc n) less = less_set uses k x n less
+
+pub none_at : (count n : ℕ) → slice_index (replicate count 0) n ≡ 0
+none_at zero n = refl
+none_at (suc count) zero = refl
+none_at (suc count) (suc n) = none_at count n
 
 -- ---- prices that are copied
 pub prices_held : (l : Levels) → IsLevels l → HoldsPrices l (map (λ (n : ℕ). (n, price_of l n)) l.active.items)

@@ -33,6 +33,7 @@ pub mod LevelLemmas
 pub mod ColumnLemmas
 pub mod PathLemmas
 pub mod UseLemmas
+pub mod CountLemmas
 pub mod CourseLemmas
 pub mod StepCourseLemmas
 pub mod OverfullLemmas

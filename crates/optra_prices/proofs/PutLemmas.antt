@@ -15,7 +15,7 @@ use Rattle.optra_graph.specs.Timed.{IsRoute, IsLegArc, leg_at, walk_of}
 use Rattle.optra_prices.specs.Arcs.{path_reply}
 use Rattle.optra_prices.specs.Holdings.{entries_one}
 use Rattle.optra_prices.specs.Parts.{HasRoom, legs_load, HaveRoomFor, KeepsWithin}
-use Rattle.optra_prices.specs.Rooms.{IsRoom, ChangesUse, IsNumberWithin, HasRoomForAll}
+use Rattle.optra_prices.specs.Rooms.{IsRoom, IsNumberWithin, HasRoomForAll}
 use Rattle.optra_prices.specs.Tables.{IsNumbering, IsTouch, no_arc, number_in}
 use Rattle.optra_prices.specs.Terms.{Setting, AreBidArcs}
 use Rattle.optra_prices.specs.Uses.{touch_use, touch_uses, arc_touches, path_uses, AddsUses, TakesUses}
@@ -29,27 +29,6 @@ use Rattle.optra_prices.proofs.ListLemmas.{all_at}
 use Rattle.optra_prices.proofs.LoadingLemmas.{numbered_load, unnumbered_load, arc_there, leg_touches, usable}
 use Rattle.optra_prices.proofs.RoomLemmas.{zip_all, room_tells, room_adds, room_takes}
 use Rattle.optra_prices.proofs.PartLemmas.{room_for_none}
-
--- a change of one use is what its touch adds
-pub touch_adds : (touch : Touch) (old new : List ℕ) → ChangesUse touch.row (λ used. used + touch.uses) old new → AddsUses (touch_use touch) old new
-touch_adds touch old new changes = record {
-  count = changes.count;
-  each = λ n l. changes.each n l ∙ by (nat_eq touch.row n) (get_or old n 0);
-}
-  where
-    by : (b : Bool) (u : ℕ) → cond b (u + touch.uses) u ≡ u + cond b touch.uses 0
-    by true u = refl
-    by false u = omega arith
-
-pub touch_takes : (touch : Touch) (old new : List ℕ) → ChangesUse touch.row (λ used. used - touch.uses) old new → TakesUses (touch_use touch) old new
-touch_takes touch old new changes = record {
-  count = changes.count;
-  each = λ n l. changes.each n l ∙ by (nat_eq touch.row n) (get_or old n 0);
-}
-  where
-    by : (b : Bool) (u : ℕ) → cond b (u - touch.uses) u ≡ u - cond b touch.uses 0
-    by true u = refl
-    by false u = omega arith
 
 path_within_at : (Q : ℕ → Type 0) (groups : Groups) (table : BidTable) (path : List ℕ) (n : ℕ) → All (λ k. All (λ touch. Q touch.row) (arc_touches groups table k)) path → 0 < path_uses groups table path n → Q n
 path_within_at Q groups table path n all some =

@@ -25,9 +25,10 @@ use Rattle.optra_node.specs.Duals.{PriceList, IsPrice, ArePrices, price_of}
 use Rattle.optra_node.specs.Certificates.{AreAscending}
 use Rattle.optra_node.proofs.LoadLemmas.{all_head, all_tail}
 use Rattle.optra_prices.specs.Steps.{IsStep, step_length, price_within, next_price, reply_load}
-use Rattle.optra_prices.specs.Holdings.{Holds, stepped, next_held}
+use Rattle.optra_prices.specs.Holdings.{Holds, held_use, stepped, next_held}
 use Rattle.optra_prices.specs.declared.holding.Held.{Held}
-use Rattle.optra_prices.proofs.HoldLemmas.{next_of, stepped_price, next_none, next_low, next_high, rising, falling}
+use Rattle.optra_prices.proofs.PriceListLemmas.{price_of-cons}
+use Rattle.optra_prices.proofs.HoldLemmas.{next_of, stepped_price, next_none, next_low, next_high, next_held_use, rising, falling}
 
 -- a length is at most the greatest base in thousandths of a cent
 pub length_within : (most : ℤ) (parts : ℕ) → IsBetween (pos 0) (pos 1000000000) most → IsBetween (pos 1) (pos 1000000000000) (int_max (pos 1) (int_div_euclid (most *ℤ pos 1000) (pos parts)))
@@ -115,10 +116,24 @@ entry_held {R} cmp total is_row price used m ordered holds k d l =
     let e = get_or m.entries k d in
     let at : slice_get m.entries k ≡ Some e = slice_get-get_or m.entries k d l in
     let found : get cmp m e.0 ≡ Some e.1 = btree_map_get_place total m k e.0 e.1 ordered at in
-    let h = subst (λ o. MatchOption o ((price e.0 ≡ pos 0) × (used e.0 ≡ 0)) (λ held. (is_row e.0 ≡ true) × (held.price ≡ price e.0) × (held.used ≡ used e.0))) found (holds e.0) in
+    let h = subst (λ o. MatchOption o ((price e.0 ≡ pos 0) × (used e.0 ≡ 0)) (λ held. (is_row e.0 ≡ true) × (held.price ≡ price e.0) × (held.used ≡ held_use (used e.0)))) found (holds e.0) in
     (h.0, h.1)
 
-module _ {R : Type 0} (cmp : R → R → Ordering) (total : IsTotalOrder cmp) (apart : TellsApart cmp) (rows : Rows R) (bids : List Bid) (replies : List (Option (List Leg))) (k : ℕ) (old : PriceList R) where
+-- what a list of prices charges for a row is not below 0
+price_least : {R : Type 0} (cmp : R → R → Ordering) (rows : Rows R) (prices : PriceList R) (row : R) → ArePrices rows prices → pos 0 ≤ℤ price_of (eq_by_cmp cmp) prices row
+price_least cmp rows [] row are = omega (arith, ints)
+price_least cmp rows (e ∷ prices) row are =
+    let rest = price_least cmp rows prices row (all_tail (IsPrice rows) e prices are) in
+    let here = charged (eq_by_cmp cmp row e.0) (all_head (IsPrice rows) e prices are).least in
+    let whole = price_of-cons cmp e prices row in
+    omega (arith, ints)
+  where
+    charged : (b : Bool) → pos 1 ≤ℤ e.1 → pos 0 ≤ℤ cond b e.1 (pos 0)
+    charged true least = omega (arith, ints)
+    charged false least = omega (arith, ints)
+
+module _ {R : Type 0} (cmp : R → R → Ordering) (total : IsTotalOrder cmp) (apart : TellsApart cmp) (rows : Rows R) (bids : List Bid) (replies : List (Option (List Leg))) (k : ℕ) (old : PriceList R) (are : ArePrices rows old)
+    (capacities : (row : R) → rows.is_row row ≡ true → rows.capacity row ≤ 65535) where
   -- the list that is made is the step
   pub made_step : (length : ℤ) (m : BTreeMap R Held) → length ≡ step_length bids k → pos 1 ≤ℤ length → IsOrdered cmp m
       → Holds cmp rows.is_row (price_of (eq_by_cmp cmp) old) (λ row. 0 + load_of rows row (entries_of bids replies)) m
@@ -136,11 +151,12 @@ module _ {R : Type 0} (cmp : R → R → Ordering) (total : IsTotalOrder cmp) (a
   }
     where
       by : (row : R) (o : Option Held)
-          → MatchOption o ((price_of (eq_by_cmp cmp) old row ≡ pos 0) × (0 + load_of rows row (entries_of bids replies) ≡ 0)) (λ held. (rows.is_row row ≡ true) × (held.price ≡ price_of (eq_by_cmp cmp) old row) × (held.used ≡ 0 + load_of rows row (entries_of bids replies)))
+          → MatchOption o ((price_of (eq_by_cmp cmp) old row ≡ pos 0) × (0 + load_of rows row (entries_of bids replies) ≡ 0)) (λ held. (rows.is_row row ≡ true) × (held.price ≡ price_of (eq_by_cmp cmp) old row) × (held.used ≡ held_use (0 + load_of rows row (entries_of bids replies))))
           → next_of cmp total apart rows.is_row (next_held rows length) row o ≡ next_price length (price_of (eq_by_cmp cmp) old row) (reply_load rows bids replies row) (rows.capacity row)
       by row None (p, u) =
           let zero_load : reply_load rows bids replies row ≡ 0 = omega arith in
           sym (ap (λ (z : ℤ). next_price length z (reply_load rows bids replies row) (rows.capacity row)) p ∙ ap (λ (n : ℕ). next_price length (pos 0) n (rows.capacity row)) zero_load ∙ next_none length (rows.capacity row) low)
       by row (Some held) (r, p, u) =
-          let load : held.used ≡ reply_load rows bids replies row = omega arith in
+          let load : held.used ≡ held_use (reply_load rows bids replies row) = u ∙ ap held_use (omega arith) in
           ap (λ (z : ℤ). next_price length z held.used (rows.capacity row)) p ∙ ap (λ (n : ℕ). next_price length (price_of (eq_by_cmp cmp) old row) n (rows.capacity row)) load
+          ∙ next_held_use length (price_of (eq_by_cmp cmp) old row) (reply_load rows bids replies row) (rows.capacity row) low (price_least cmp rows old row are) (capacities row r)

@@ -1,8 +1,9 @@
 -- Uses of rows by their numbers, added one after the other.
-use Rattle.std.proofs.Common.{◌≡◌, ℕ, zero, suc, ◌+◌, ◌≤◌, ◌<◌, Bool, false, List, [], ◌∷◌, length, take, drop, set, get_or, replicate, Vec, Global, Some, slice_get, refl, sym, ap, ◌∙◌, subst, arith, inl, inr}
+use Rattle.std.proofs.Common.{◌≡◌, ℕ, zero, suc, ◌+◌, ◌-◌, ◌≤◌, ◌<◌, Bool, false, cond, List, [], ◌∷◌, length, take, drop, set, get_or, replicate, Vec, Global, Some, slice_get, refl, sym, ap, ◌∙◌, subst, arith, inl, inr}
 use Rattle.std.specs.Prelude.{All, ℤ, slice_index, slice_index_or}
 use Rattle.std.proofs.lemmas.Bool.{cases_lt, cases_eq}
-use Rattle.std.proofs.lemmas.List.{get_or_past, get_or-set_same, get_or-set_other}
+use Rattle.std.proofs.lemmas.Bool.Decides.{eqb_tells}
+use Rattle.std.proofs.lemmas.List.{length-set, get_or_past, get_or-set_same, get_or-set_other}
 use Rattle.std.proofs.lemmas.List.Elements.{All-nil, All-cons}
 use Rattle.std.proofs.lemmas.List.Sums.{sum_by-cons, sum_by-take-drop, sum_by_more}
 use Rattle.std.proofs.lemmas.Option.{none-some, same_Some, slice_get_within, slice_get-get_or}
@@ -11,12 +12,44 @@ use Rattle.optra_prices.specs.Holders.{groups_of}
 use Rattle.optra_prices.specs.Keepings.{AreBrought}
 use Rattle.optra_prices.specs.Tables.{allows_by, group_at, no_arc}
 use Rattle.optra_prices.specs.Standings.{Stands, IsSound}
-use Rattle.optra_prices.specs.Uses.{touch_uses, arc_touches, path_uses, all_uses, paths_of, paths_in, AreEmpty, AreUses, AreCounted, AddsUses, TakesUses, CountsPath, HasGroups}
+use Rattle.optra_prices.specs.Uses.{touch_use, touch_uses, arc_touches, path_uses, all_uses, paths_of, paths_in, AreEmpty, AreUses, AreCounted, AddsUses, TakesUses, CountsPath, HasGroups}
 use Rattle.optra_prices.specs.declared.numbering.ArcTerm.{ArcTerm}
 use Rattle.optra_prices.specs.declared.numbering.BidTable.{BidTable}
 use Rattle.optra_prices.specs.declared.numbering.Groups.{Groups}
 use Rattle.optra_prices.specs.declared.numbering.Standing.{Standing}
+use Rattle.optra_prices.specs.declared.numbering.Touch.{Touch}
 use Rattle.optra_prices.proofs.StandLemmas.{set_other, set_length}
+
+-- one use that is set to more, or to less, is what its touch adds or takes
+pub touch_adds : (touch : Touch) (old new : List ℕ) → new ≡ set old touch.row (get_or old touch.row 0 + touch.uses) → AddsUses (touch_use touch) old new
+touch_adds touch old new is = record {
+  count = ap length is ∙ length-set old touch.row _;
+  each = λ n l. ap (λ (xs : List ℕ). get_or xs n 0) is ∙ elim (eqb_tells touch.row n) as (λ _. get_or (set old touch.row (get_or old touch.row 0 + touch.uses)) n 0 ≡ get_or old n 0 + touch_use touch n) [
+    | inl (test, same) ↦
+        let used = ap (λ (b : Bool). cond b touch.uses 0) test in
+        subst (λ (m : ℕ). get_or (set old touch.row (get_or old touch.row 0 + touch.uses)) m 0 ≡ get_or old m 0 + touch_use touch n) same
+        (get_or-set_same old touch.row _ 0 (omega arith) ∙ ap (λ (m : ℕ). get_or old touch.row 0 + m) (sym used))
+    | inr (test, other) ↦
+        let used = ap (λ (b : Bool). cond b touch.uses 0) test in
+        let before = get_or-set_other old touch.row n (get_or old touch.row 0 + touch.uses) 0 (λ e. other (sym e)) in
+        omega arith
+  ];
+}
+
+pub touch_takes : (touch : Touch) (old new : List ℕ) → new ≡ set old touch.row (get_or old touch.row 0 - touch.uses) → TakesUses (touch_use touch) old new
+touch_takes touch old new is = record {
+  count = ap length is ∙ length-set old touch.row _;
+  each = λ n l. ap (λ (xs : List ℕ). get_or xs n 0) is ∙ elim (eqb_tells touch.row n) as (λ _. get_or (set old touch.row (get_or old touch.row 0 - touch.uses)) n 0 ≡ get_or old n 0 - touch_use touch n) [
+    | inl (test, same) ↦
+        let used = ap (λ (b : Bool). cond b touch.uses 0) test in
+        subst (λ (m : ℕ). get_or (set old touch.row (get_or old touch.row 0 - touch.uses)) m 0 ≡ get_or old m 0 - touch_use touch n) same
+        (get_or-set_same old touch.row _ 0 (omega arith) ∙ ap (λ (m : ℕ). get_or old touch.row 0 - m) (sym used))
+    | inr (test, other) ↦
+        let used = ap (λ (b : Bool). cond b touch.uses 0) test in
+        let before = get_or-set_other old touch.row n (get_or old touch.row 0 - touch.uses) 0 (λ e. other (sym e)) in
+        omega arith
+  ];
+}
 
 -- uses and more uses
 pub adds_on : (old mid new : List ℕ) (extra more whole : ℕ → ℕ) → ((n : ℕ) → extra n + more n ≡ whole n) → AddsUses extra old mid → AddsUses more mid new → AddsUses whole old new

@@ -1,5 +1,5 @@
 -- The price of each row and how much of it is used, in a map.
-use Rattle.std.specs.Prelude.{◌≡◌, ℕ, ◌+◌, Bool, true, cond, List, [], ◌∷◌, map, sum_by, Option, None, Some, MatchOption}
+use Rattle.std.specs.Prelude.{◌≡◌, ℕ, ◌+◌, min, Bool, true, cond, List, [], ◌∷◌, map, sum_by, Option, None, Some, MatchOption}
 use Rattle.std.specs.Prelude.{ℤ, pos}
 use Rattle.std.specs.Int.{is_positive}
 use Rattle.std.specs.BTreeMap.{BTreeMap, get, is_at}
@@ -12,10 +12,14 @@ use Rattle.optra_node.specs.Duals.{PriceList}
 use Rattle.optra_prices.specs.Steps.{next_price}
 use Rattle.optra_prices.specs.declared.holding.Held.{Held}
 
--- a row that is in the map is one of the family, with its price and its use; one that is not has neither
+-- what is held of a use, which is at most 2^64 - 1
+abbrev pub held_use : ℕ → ℕ
+held_use used = min used 18446744073709551615
+
+-- a row that is in the map is one of the family, with its price and what is held of its use; one that is not has neither
 abbrev pub Holds : {R : Type 0} → (R → R → Ordering) → (R → Bool) → (R → ℤ) → (R → ℕ) → BTreeMap R Held → Type 0
 Holds {R} cmp is_row price used m =
-    (row : R) → MatchOption (get cmp m row) ((price row ≡ pos 0) × (used row ≡ 0)) (λ held. (is_row row ≡ true) × (held.price ≡ price row) × (held.used ≡ used row))
+    (row : R) → MatchOption (get cmp m row) ((price row ≡ pos 0) × (used row ≡ 0)) (λ held. (is_row row ≡ true) × (held.price ≡ price row) × (held.used ≡ held_use (used row)))
 
 -- so much more of each row is used
 abbrev pub Adds : {R : Type 0} → (R → R → Ordering) → (R → Bool) → (R → ℕ) → BTreeMap R Held → BTreeMap R Held → Type 0
@@ -33,8 +37,8 @@ stepped next (e ∷ es) = cond (is_positive (next e)) ((e.0, next e) ∷ stepped
 
 -- what is held of a row, with more uses
 abbrev pub more_used : Option Held → ℕ → Held
-more_used None uses = record { price = pos 0; used = uses }
-more_used (Some held) uses = record { price = held.price; used = held.used + uses }
+more_used None uses = record { price = pos 0; used = held_use uses }
+more_used (Some held) uses = record { price = held.price; used = held_use (held.used + uses) }
 
 -- the map after more uses of one row
 abbrev pub Bumps : {R : Type 0} → (R → R → Ordering) → R → ℕ → BTreeMap R Held → BTreeMap R Held → Type 0

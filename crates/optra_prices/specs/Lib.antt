@@ -23,6 +23,7 @@ pub mod Courses
 pub mod Overfull
 pub mod Keepings
 pub mod Claims
+pub mod Counts
 pub mod Rooms
 pub mod Allowing
 pub mod Following

@@ -1,5 +1,5 @@
 -- How much is used of rows by their numbers, and the room that is left.
-use Rattle.std.specs.Prelude.{◌≡◌, ◌↔◌, ℕ, ◌+◌, ◌≤◌, ◌<◌, true, cond, nat_eq, List, length, replicate, All, Some, slice_get, slice_index, slice_index_or}
+use Rattle.std.specs.Prelude.{◌≡◌, ◌↔◌, ℕ, ◌+◌, ◌≤◌, ◌<◌, true, List, length, replicate, All, Some, slice_get, slice_index_or}
 use Rattle.optra_network.specs.Net.{Net}
 use Rattle.optra_bid.specs.declared.bids.Bid.{Bid}
 use Rattle.optra_walk.specs.Families.{Rows}
@@ -37,11 +37,6 @@ HasRoomForAll room touches = All (HasRoomFor room) touches
 -- what is told of a group is whether there is room for it
 abbrev pub IsTold : Room → Groups → Told → Type 0
 IsTold room groups told = (told.has_room ≡ true) ↔ HasRoomForAll room (group_at groups.starts.items groups.touches.items told.group)
-
--- the use at number m is changed, and the others are as they were
-pub record ChangesUse (m : ℕ) (change : ℕ → ℕ) (old new : List ℕ) : Type 0 where
-  pub count : length new ≡ length old
-  pub each : (n : ℕ) → n < length old → slice_index new n ≡ cond (nat_eq m n) (change (slice_index old n)) (slice_index old n)
 
 -- the copy has the same capacities, and nothing is used of it
 pub record IsFreeCopy (room copy : Room) : Type 0 where

@@ -2,18 +2,19 @@
 //!
 //! Rows with a price, or with more uses than capacity, are active. A step moves these alone: the price of any other row is
 //! 0 and stays 0. The price of all capacity is kept by difference.
-ghost use Rattle.std.specs.Prelude.{◌≡◌, ◌<◌, ◌≤◌, true, [], ◌∷◌, ◌++◌, pos, ◌+ℤ◌, ◌-ℤ◌, ◌*ℤ◌, All, IfOk, OnOk, length, slice_set};
+ghost use Rattle.std.specs.Prelude.{◌≡◌, ◌+◌, ◌<◌, ◌≤◌, true, [], ◌∷◌, ◌++◌, pos, ◌+ℤ◌, ◌-ℤ◌, ◌*ℤ◌, All, IfOk, OnOk, length, slice_set};
 ghost use Rattle.optra_bid.specs.Specs.{IsBetween};
 ghost use Rattle.optra_prices.specs.Columns.{IsColumns, PricesAllButDue};
-ghost use Rattle.optra_prices.specs.Levels.{IsLevels, IsMove, AreUnused, KeepsPrices, KeepsUses, Wakes, WakesAbove, Rests, MovesRow, MovesTo, HoldsPrices, moved_by, is_listed, next_at};
+ghost use Rattle.optra_prices.specs.Levels.{IsLevels, IsMove, AreUnused, KeepsPrices, KeepsUses, Wakes, WakesAbove, Rests, MovesRow, MovesTo, HoldsPrices, moved_by, is_listed, next_at, use_of};
 ghost use Rattle.optra_prices.specs.Tables.{IsRowPrice};
 ghost use Rattle.optra_prices.specs.Uses.{AddsUses, TakesUses, touch_use};
 
 use crate::columns::{Columns, mark_row};
+use crate::counts::Counts;
 use crate::numbering::Touch;
 use crate::stepping::next_price;
 use optra_network::NoMemory;
-use std::alloc::{AllocError, Global};
+use std::alloc::Global;
 
 /// The prices, uses and capacities of rows, by number.
 #[derive(Drop)]
@@ -21,7 +22,7 @@ pub(crate) struct Levels {
     pub(crate) capacities: Vec<u32>,
     pub(crate) prices: Vec<i64>,
     /// How much of rows the paths use that were counted last.
-    pub(crate) uses: Vec<u64>,
+    pub(crate) uses: Counts,
     /// The rows with a price or with more uses than capacity, and maybe others; none twice.
     pub(crate) active: Vec<u32>,
     /// Whether a row is active.
@@ -60,7 +61,7 @@ pub(crate) fn no_levels(alloc: Global) -> Levels
     Levels {
         capacities: Vec::new(alloc),
         prices: Vec::new(alloc),
-        uses: Vec::new(alloc),
+        uses: Counts::new(alloc),
         active: Vec::new(alloc),
         listed: Vec::new(alloc),
         capacity: 0,
@@ -96,7 +97,7 @@ pub(crate) fn push_level(levels: &mut Levels, capacity: u32) -> Result<(), NoMem
 {
     levels.capacities.push(capacity)?;
     levels.prices.push(0)?;
-    levels.uses.push(0)?;
+    levels.uses.push_zero()?;
     levels.listed.push(false)?;
     Ok(())
 }
@@ -117,14 +118,16 @@ fn wake(levels: &mut Levels, number: u32) -> Result<(), NoMemory>
     Ok(())
 }
 
-/// Makes a row active that is to have more uses than capacity.
-fn wake_above(levels: &mut Levels, number: u32, uses: u64) -> Result<(), NoMemory>
+/// Makes a row active that is to have more uses than capacity, once so many more are added.
+fn wake_above(levels: &mut Levels, number: u32, more: u32) -> Result<(), NoMemory>
     requires levels { IsLevels levels.old }
     requires within { number < length levels.old.prices.items }
     ensures levels { OnOk result (IsLevels levels.new) }
-    ensures wakes { OnOk result (WakesAbove number uses levels.old levels.new) }
+    ensures wakes { OnOk result (WakesAbove number (use_of levels.old number + more) levels.old
+        levels.new) }
 {
-    if uses > u64::from(levels.capacities[number as usize]) {
+    let place = number as usize;
+    if !levels.uses.fits(place, more, levels.capacities[place]) {
         wake(levels, number)?;
     }
     Ok(())
@@ -173,7 +176,7 @@ fn rest_row(levels: &mut Levels, k: usize) -> usize
     ensures rests { Rests k result levels.old levels.new }
 {
     let place = levels.active[k] as usize;
-    if levels.prices[place] != 0 || levels.uses[place] > u64::from(levels.capacities[place]) {
+    if levels.prices[place] != 0 || !levels.uses.is_at_most(place, levels.capacities[place]) {
         return k + 1;
     }
     levels.listed[place] = false;
@@ -217,7 +220,7 @@ fn next_price_at(levels: &Levels, number: u32, by: i64) -> i64
     next_price(
         by,
         levels.prices[place],
-        levels.uses[place],
+        levels.uses.capped(place),
         levels.capacities[place],
     )
 }
@@ -315,12 +318,8 @@ pub(crate) fn add_touch(levels: &mut Levels, touch: Touch) -> Result<(), NoMemor
     if place >= levels.uses.len() {
         return Ok(());
     }
-    let Some(more) = levels.uses[place].checked_add(u64::from(touch.uses)) else {
-        return Err(AllocError);
-    };
-    wake_above(levels, touch.row, more)?;
-    levels.uses[place] = more;
-    Ok(())
+    wake_above(levels, touch.row, touch.uses)?;
+    levels.uses.add(place, touch.uses)
 }
 
 /// Takes away what a touch uses.
@@ -330,10 +329,7 @@ pub(crate) fn take_touch(levels: &mut Levels, touch: Touch)
     ensures uses { TakesUses (touch_use touch) levels.old.uses.items levels.new.uses.items }
     ensures prices { KeepsPrices levels.old levels.new }
 {
-    let place = touch.row as usize;
-    if place < levels.uses.len() {
-        levels.uses[place] = levels.uses[place].saturating_sub(u64::from(touch.uses));
-    }
+    levels.uses.take(touch.row as usize, touch.uses);
 }
 
 /// Forgets all uses.
@@ -343,7 +339,5 @@ pub(crate) fn forget_uses(levels: &mut Levels)
     ensures unused { AreUnused levels.new }
     ensures prices { KeepsPrices levels.old levels.new }
 {
-    for k in 0..levels.uses.len() {
-        levels.uses[k] = 0;
-    }
+    levels.uses.set_zero();
 }

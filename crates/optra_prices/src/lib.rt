@@ -12,6 +12,7 @@ mod allowing;
 mod arc_tables;
 mod claims;
 mod columns;
+mod counts;
 mod courses;
 pub mod deads;
 mod decided;

@@ -23,7 +23,7 @@ fn is_above(levels: &Levels, number: u32) -> bool
     ensures { IsTrue result ↔ IsAbove levels.now number }
 {
     let place = number as usize;
-    levels.uses[place] > u64::from(levels.capacities[place])
+    !levels.uses.is_at_most(place, levels.capacities[place])
 }
 
 /// The rows of which more is used than their capacity.

@@ -1,20 +1,21 @@
 //! How much is used of rows by their numbers, and the room that is left.
-ghost use Rattle.std.specs.Prelude.{◌≡◌, ◌+◌, ◌-◌, ◌<◌, ◌↔◌, IsTrue, true, All, IfOk, OnOk, length};
+ghost use Rattle.std.specs.Prelude.{◌≡◌, ◌+◌, ◌<◌, ◌↔◌, IsTrue, true, All, IfOk, OnOk, length};
 ghost use Rattle.optra_prices.specs.Tables.{AreGroups};
-ghost use Rattle.optra_prices.specs.Rooms.{IsRoom, HasRoomFor, HasRoomForAll, ChangesUse, IsNumberWithin, IsTold, IsFreeCopy};
+ghost use Rattle.optra_prices.specs.Rooms.{IsRoom, HasRoomFor, HasRoomForAll, IsNumberWithin, IsTold, IsFreeCopy};
 ghost use Rattle.optra_prices.specs.Uses.{touch_use, touch_uses, AddsUses, TakesUses};
 
+use crate::counts::Counts;
 use crate::grouping::group;
 use crate::listing::capacities_of;
 use crate::numbering::{Groups, Numbering, Touch};
 use optra_network::{Network, NoMemory};
 use optra_walk::RowFamily;
-use std::alloc::{AllocError, Global};
+use std::alloc::Global;
 
 /// How much is used of rows, by their numbers, and how much there is of them.
 #[derive(Drop)]
 pub struct Room {
-    pub(crate) uses: Vec<u64>,
+    pub(crate) uses: Counts,
     pub(crate) capacities: Vec<u32>,
 }
 
@@ -31,7 +32,7 @@ pub(crate) fn empty_room<F: RowFamily>(
         (λ row. 0)) }
 {
     Ok(Room {
-        uses: vec![in alloc; 0; numbering.rows.len()]?,
+        uses: Counts::zeros(alloc, numbering.rows.len())?,
         capacities: capacities_of(alloc, net, rows, &numbering.rows)?,
     })
 }
@@ -41,33 +42,9 @@ pub(crate) fn free_copy(alloc: Global, room: &Room) -> Result<Room, NoMemory>
     ensures { IfOk result (IsFreeCopy room.now) }
 {
     Ok(Room {
-        uses: vec![in alloc; 0; room.uses.len()]?,
+        uses: Counts::zeros(alloc, room.uses.len())?,
         capacities: Vec::from_slice(alloc, &room.capacities)?,
     })
-}
-
-/// Adds uses of the row with this number. More than 2^64 uses are refused as want of memory; no legs come near it.
-fn add_use(uses: &mut Vec<u64>, number: u32, by: u32) -> Result<(), NoMemory>
-    ensures { OnOk result (ChangesUse number (λ used. used + by) uses.old.items uses.new.items) }
-{
-    let Some(used) = uses.get_mut(number as usize) else {
-        return Ok(());
-    };
-    let Some(more) = used.checked_add(u64::from(by)) else {
-        return Err(AllocError);
-    };
-    *used = more;
-    Ok(())
-}
-
-/// Takes away uses of the row with this number.
-fn take_use(uses: &mut Vec<u64>, number: u32, by: u32)
-    ensures { ChangesUse number (λ used. used - by) uses.old.items uses.new.items }
-{
-    let Some(used) = uses.get_mut(number as usize) else {
-        return;
-    };
-    *used = used.saturating_sub(u64::from(by));
 }
 
 /// Adds what a touch uses.
@@ -76,7 +53,7 @@ fn add_touch(room: &mut Room, touch: Touch) -> Result<(), NoMemory>
         room.new.uses.items) }
     ensures capacities { OnOk result (room.new.capacities ≡ room.old.capacities) }
 {
-    add_use(&mut room.uses, touch.row, touch.uses)
+    room.uses.add(touch.row as usize, touch.uses)
 }
 
 /// Takes away what a touch uses.
@@ -84,7 +61,7 @@ fn take_touch(room: &mut Room, touch: Touch)
     ensures uses { TakesUses (touch_use touch) room.old.uses.items room.new.uses.items }
     ensures capacities { room.new.capacities ≡ room.old.capacities }
 {
-    take_use(&mut room.uses, touch.row, touch.uses);
+    room.uses.take(touch.row as usize, touch.uses);
 }
 
 /// Adds what touches use.
@@ -114,9 +91,8 @@ fn is_number_within(room: &Room, number: u32) -> bool
     ensures { IsTrue result ↔ IsNumberWithin room.now number }
 {
     let place = number as usize;
-    let used = room.uses.get(place).copied().unwrap_or(0);
     let capacity = room.capacities.get(place).copied().unwrap_or(0);
-    used <= u64::from(capacity)
+    room.uses.is_at_most(place, capacity)
 }
 
 /// Whether no more is used of the touched rows than there is.
@@ -136,12 +112,8 @@ fn has_room_for(room: &Room, touch: Touch) -> bool
     ensures { IsTrue result ↔ HasRoomFor room.now touch }
 {
     let number = touch.row as usize;
-    let used = room.uses.get(number).copied().unwrap_or(0);
     let capacity = room.capacities.get(number).copied().unwrap_or(0);
-    match capacity.checked_sub(touch.uses) {
-        Some(left) => used <= u64::from(left),
-        None => false,
-    }
+    room.uses.fits(number, touch.uses, capacity)
 }
 
 /// Whether there is room for each of the touches.

@@ -13,10 +13,10 @@ use crate::tables::kind_of;
 use optra_bid::Bid;
 use optra_network::{Network, NoMemory, TypeId};
 use optra_walk::{Instance, Leg, RowFamily, Walk};
-use std::alloc::{AllocError, Global};
+use std::alloc::Global;
 use std::collections::BTreeMap;
 
-/// Adds uses of a row. More than 2^64 uses are refused as want of memory; no replies come near it.
+/// Adds uses of a row. More than 2^64 - 1 uses are held as that many, which give the same next price.
 fn bump<F: RowFamily>(
     held: &mut BTreeMap<F::Row, Held>,
     row: F::Row,
@@ -25,15 +25,10 @@ fn bump<F: RowFamily>(
     ensures { OnOk result (Bumps F.Row.cmp row uses held.old held.new) }
 {
     let next = match held.get(&row) {
-        Some(before) => {
-            let Some(used) = before.used.checked_add(u64::from(uses)) else {
-                return Err(AllocError);
-            };
-            Held {
-                price: before.price,
-                used,
-            }
-        }
+        Some(before) => Held {
+            price: before.price,
+            used: before.used.saturating_add(u64::from(uses)),
+        },
         None => Held {
             price: 0,
             used: u64::from(uses),

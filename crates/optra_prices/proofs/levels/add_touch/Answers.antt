@@ -1,5 +1,9 @@
-use Rattle.std.proofs.Common.{◌<◌, length, refl, sym, subst, arith}
+use Rattle.std.proofs.Common.{◌≡◌, ◌+◌, ◌<◌, ◌∙◌, ℕ, List, length, set, get_or, sym, ap, subst, arith}
+use Rattle.std.specs.Prelude.{slice_index}
+use Rattle.std.proofs.lemmas.Result.{on_ok_weaker}
+use Rattle.optra_prices.specs.Uses.{AddsUses, touch_use}
 use Rattle.optra_prices.proofs.LevelLemmas.{used_levels}
+use Rattle.optra_prices.proofs.UseLemmas.{touch_adds}
 use Rattle.optra_prices.proofs.levels.add_touch.Goals as goal
 
 pub returns-clause-levels : goal.returns-clause-levels
@@ -7,5 +11,14 @@ returns-clause-levels c =
     let woken = c.wake_above.new.levels in
     let wakes = c.in_ok-wake_above.ensures.wakes in
     let row = c.args.touch.row in
+    let uses = c.args.touch.uses in
     let within : row < length c.args.levels.now.prices.items = grind (arith, c.len.ensures, c.requires.use_count) in
-    used_levels woken _ row c.in-Some.more c.in_ok-wake_above.ensures.levels (subst (λ v. row < length v.items) (sym wakes.prices) within) refl (λ idle. wakes.here)
+    let same = ap (λ v. slice_index v.items row + uses) wakes.uses_are in
+    on_ok_weaker c.add.result
+    (λ is. used_levels woken c.add.new.self row (slice_index c.args.levels.now.uses.items row + uses) c.in_ok-wake_above.ensures.levels (subst (λ v. row < length v.items) (sym wakes.prices) within)
+    (is ∙ ap (set woken.uses.items row) same) (λ idle. wakes.here)) c.add.ensures
+
+pub returns-clause-uses : goal.returns-clause-uses
+returns-clause-uses c =
+    let touch = c.args.touch in
+    on_ok_weaker c.add.result (λ is. subst (λ v. AddsUses (touch_use touch) v.items c.add.new.self.items) c.in_ok-wake_above.ensures.wakes.uses_are (touch_adds touch c.wake_above.new.levels.uses.items c.add.new.self.items is)) c.add.ensures

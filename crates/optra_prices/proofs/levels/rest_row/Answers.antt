@@ -20,9 +20,8 @@ returns-clause-levels c =
     let price = c.index-2.result.now in
     let fits : FitsSigned w64 price = search rules in
     let price_is : price_of old number ≡ pos 0 = sym (get_or_read old.prices.items number price within c.index-2.ensures (pos 0)) ∙ sym (to_z-of_z w64 price fits) ∙ ap (to_z w64) c.if-index-ne0.false in
-    let used = get_or_read old.uses.items number c.index-else-index-ne0.result.now (let count = is.use_count in omega arith) c.index-else-index-ne0.ensures 0 in
-    let room = get_or_read old.capacities.items number c.index-else-index-ne0-2.result.now (let count = is.capacity_count in omega arith) c.index-else-index-ne0-2.ensures 0 in
-    let few : use_of old number ≤ capacity_of old number = let a = c.if-index-from.false in let b = c.from.ensures in omega arith in
+    let room = get_or_read old.capacities.items number c.index-else-index-ne0.result.now (let count = is.capacity_count in omega arith) c.index-else-index-ne0.ensures 0 in
+    let few : use_of old number ≤ capacity_of old number = let a = c.is_at_most.ensures.0 c.if-not-is_at_most.false in omega arith in
     rested_levels old is k _ c.swap_remove.new.self _ l (subst (IsIdle old) (sym read) (price_is, few)) c.swap_remove.ensures.items (ap (λ (n : ℕ). set old.listed.items n false) (sym read))
 
 pub returns-clause-rests : goal.returns-clause-rests

@@ -1,0 +1,18 @@
+use Rattle.std.proofs.Common.{◌-◌, ◌≤◌, ℕ, List, length, get_or, sym, ap, ◌∙◌, subst, arith}
+use Rattle.std.specs.Prelude.{slice_index}
+use Rattle.std.proofs.lemmas.List.{length-set}
+use Rattle.optra_prices.specs.Levels.{use_of}
+use Rattle.optra_prices.proofs.LevelLemmas.{less_levels, less_set}
+use Rattle.optra_prices.proofs.UseLemmas.{touch_takes}
+use Rattle.optra_prices.proofs.levels.take_touch.Goals as goal
+
+pub returns-clause-levels : goal.returns-clause-levels
+returns-clause-levels c =
+    let old = c.args.levels.now in
+    let row = c.args.touch.row in
+    let left = slice_index old.uses.items row - c.args.touch.uses in
+    less_levels old c.take.new.self c.requires (ap length c.take.ensures ∙ length-set old.uses.items row left)
+    (λ n. subst (λ (xs : List ℕ). slice_index xs n ≤ use_of old n) (sym c.take.ensures) (less_set old.uses.items row left n (omega arith)))
+
+pub returns-clause-uses : goal.returns-clause-uses
+returns-clause-uses c = touch_takes c.args.touch c.args.levels.now.uses.items c.take.new.self.items c.take.ensures
