@@ -1,6 +1,10 @@
 -- The ranges of prices, by name. Those of money are in cents, and all others in thousandths of a cent.
-use Rattle.std.specs.Prelude.{ℤ, pos}
+use Rattle.std.specs.Prelude.{ℕ, ℤ, pos}
 use Rattle.optra_bid.specs.Specs.{IsBetween}
+
+-- the greatest price of a row
+abbrev pub most_price : ℕ
+most_price = 2000000000000
 
 -- what a bid offers at most
 abbrev pub IsBase : ℤ → Type 0

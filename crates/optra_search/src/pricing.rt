@@ -25,7 +25,7 @@ use optra_network::{Cents, NoMemory};
 use optra_node::{Node, Prices};
 use optra_prices::keeping::price_path_over;
 use optra_prices::overfull::overfull_rows;
-use optra_prices::{ArcTables, Dual, Priced};
+use optra_prices::{ArcTables, Dual, PathEnds, Priced};
 use optra_walk::{Choice, Instance, Leg, RowFamily};
 use std::alloc::Global;
 
@@ -99,16 +99,12 @@ fn path_result<'g, F: RowFamily>(
 {
     let zero = zero_prices(alloc);
     let from = start_of(start, &search.waiting, &zero);
-    let (kept, priced) = price_path_over(
-        alloc,
-        inst,
-        rows,
-        &search.node,
-        kept,
-        from,
+    let ends = PathEnds {
+        start: from,
         steps,
-        search.revenue,
-    )?;
+        incumbent: search.revenue,
+    };
+    let (kept, priced) = price_path_over(alloc, inst, rows, &search.node, kept, &ends)?;
     Ok((priced, kept))
 }
 
