@@ -1,5 +1,5 @@
 //! Graphs whose arcs lead forward, as two flat arrays.
-ghost use Rattle.std.specs.Prelude.{◌≡◌, ℕ, ◌+◌, ◌-◌, ◌<◌, ◌≤◌, [], ◌∷◌, ◌++◌, length, replicate, All, slice_set, IfOk, OnErr, OnOk, IfSome, true, false};
+ghost use Rattle.std.specs.Prelude.{◌≡◌, ℕ, ◌+◌, ◌-◌, ◌<◌, ◌≤◌, ◌^◌, [], ◌∷◌, ◌++◌, length, replicate, All, slice_set, IfOk, OnErr, OnOk, IfSome, true, false};
 ghost use Rattle.optra_dag.specs.Paths.{IsForward};
 
 use crate::spans::Span;
@@ -56,9 +56,10 @@ impl Dag {
         requires forward { from < to }
         requires node { to < length self.old.ends }
         requires sorted { All (λ before. before.from ≤ from) self.old.arcs }
-        requires room { length self.old.arcs < 4294967295 }
+        requires room { length self.old.arcs < 2 ^ 32 - 1 }
         ensures number { IfOk result (λ number. number ≡ length self.old.arcs) }
-        ensures ok { OnOk result (self.new.arcs ≡ self.old.arcs ++ record { from = from; to = to } ∷ []) }
+        ensures ok { OnOk result (self.new.arcs ≡ self.old.arcs ++ record { from = from; to = to }
+            ∷ []) }
         ensures ends { self.new.ends ≡ self.old.ends }
         ensures err { OnErr result (self.new ≡ self.old) }
     {

@@ -44,8 +44,10 @@ pub fn first_best<W: Weight>(
 ) -> Result<Option<(i128, Vec<u32>)>, NoMemory>
     requires asked { length dag.now.arcs ≤ W.asked weight.now }
     requires weights { (k : ℕ) → k < length dag.now.arcs → IsWeight (W.weight weight.now k) }
-    ensures best { IfOk result (λ answer. IfSome answer (λ best. IsFirstBest dag.now (W.allows weight.now) (W.weight weight.now) best.0 best.1.items)) }
-    ensures none { IfOk result (λ answer. IfNone answer ((path : List ℕ) → IsPath dag.now (W.allows weight.now) path → ⊥)) }
+    ensures best { IfOk result (λ answer. IfSome answer (λ best. IsFirstBest dag.now
+        (W.allows weight.now) (W.weight weight.now) best.0 best.1.items)) }
+    ensures none { IfOk result (λ answer. IfNone answer ((path : List ℕ) → IsPath dag.now
+        (W.allows weight.now) path → ⊥)) }
 {
     let mut buffers = Buffers::new(alloc);
     let Some(sum) = first_best_in(&mut buffers, dag, weight)? else {
@@ -65,8 +67,10 @@ pub fn first_best_in<W: Weight>(
 ) -> Result<Option<i128>, NoMemory>
     requires asked { length dag.now.arcs ≤ W.asked weight.now }
     requires weights { (k : ℕ) → k < length dag.now.arcs → IsWeight (W.weight weight.now k) }
-    ensures best { IfOk result (λ answer. IfSome answer (λ sum. IsFirstBest dag.now (W.allows weight.now) (W.weight weight.now) sum buffers.new)) }
-    ensures none { IfOk result (λ answer. IfNone answer ((path : List ℕ) → IsPath dag.now (W.allows weight.now) path → ⊥)) }
+    ensures best { IfOk result (λ answer. IfSome answer (λ sum. IsFirstBest dag.now
+        (W.allows weight.now) (W.weight weight.now) sum buffers.new)) }
+    ensures none { IfOk result (λ answer. IfNone answer ((path : List ℕ) → IsPath dag.now
+        (W.allows weight.now) path → ⊥)) }
 {
     let arcs = &dag.arcs;
     let ends = &dag.ends;
@@ -91,8 +95,11 @@ fn search<W: Weight>(
     requires forward { IsForward (plain_graph arcs.now ends.now) }
     requires asked { length arcs.now ≤ W.asked weight.now }
     requires weights { (k : ℕ) → k < length arcs.now → IsWeight (W.weight weight.now k) }
-    ensures best { IfOk result (λ answer. IfSome answer (λ sum. IsFirstBest (plain_graph arcs.now ends.now) (W.allows weight.now) (W.weight weight.now) sum path.new.items)) }
-    ensures none { IfOk result (λ answer. IfNone answer ((path : List ℕ) → IsPath (plain_graph arcs.now ends.now) (W.allows weight.now) path → ⊥)) }
+    ensures best { IfOk result (λ answer. IfSome answer (λ sum. IsFirstBest
+        (plain_graph arcs.now ends.now) (W.allows weight.now)
+        (W.weight weight.now) sum path.new.items)) }
+    ensures none { IfOk result (λ answer. IfNone answer ((path : List ℕ) → IsPath
+        (plain_graph arcs.now ends.now) (W.allows weight.now) path → ⊥)) }
 {
     start_sums(sums, ends)?;
     start_next(next, ends.len())?;
@@ -163,7 +170,8 @@ fn find_ways<W: Weight>(
     requires next { next.old.items ≡ replicate (length ends.now) STOP }
     ensures sums { length sums.new.items ≡ length ends.now }
     ensures next { length next.new.items ≡ length ends.now }
-    ensures done { AreDone (open_graph arcs.now ends.now) (W.allows weight.now) (W.weight weight.now) STOP NO_WAY next.new.items sums.new.items 0 }
+    ensures done { AreDone (open_graph arcs.now ends.now) (W.allows weight.now)
+        (W.weight weight.now) STOP NO_WAY next.new.items sums.new.items 0 }
 {
     let mut left = arcs.len();
     while left > 0 {

@@ -1,5 +1,5 @@
 //! Where the arcs of one node stand among all arcs.
-ghost use Rattle.std.specs.Prelude.{◌≡◌, ◌+◌, ◌<◌, nat_lt, if◌then◌else◌};
+ghost use Rattle.std.specs.Prelude.{◌≡◌, ◌+◌, ◌-◌, ◌<◌, ◌^◌, nat_lt, if◌then◌else◌};
 
 /// The arcs of one node, which stand together: those from `start` on, up to before `stop`. A node
 /// without arcs has an empty span.
@@ -20,7 +20,7 @@ impl Span {
 
     /// The span with one more arc of the node, the last of all arcs.
     pub(crate) fn with_last(self, arc: u32) -> Span
-        requires { arc < 4294967295 }
+        requires { arc < 2 ^ 32 - 1 }
         ensures start { result.start ≡ (if nat_lt self.start self.stop then self.start else arc) }
         ensures stop { result.stop ≡ arc + 1 }
     {

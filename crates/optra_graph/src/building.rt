@@ -2,7 +2,6 @@
 ghost use Rattle.std.specs.Prelude.{◌≡◌, ◌+◌, ◌<◌, min, IfOk, is_ok, if◌then◌else◌};
 ghost use Rattle.optra_bid.specs.Specs.{IsPathOn};
 ghost use Rattle.optra_graph.specs.Flags.{IsKept};
-ghost use Rattle.optra_graph.specs.Nodes.{AreNumbers};
 ghost use Rattle.optra_graph.specs.Places.{places_of};
 ghost use Rattle.optra_graph.specs.Settings.{IsSetting};
 ghost use Rattle.optra_graph.specs.StepTables.{AreStepsTo};
@@ -10,6 +9,7 @@ ghost use Rattle.optra_graph.specs.Timed.{IsGraphOf};
 
 use crate::columns::Columns;
 use crate::emitting::{add_legs, add_starts};
+use crate::kept::Kept;
 use crate::numbering::number;
 use crate::reaching::{reach, trim};
 use crate::states::{Layout, make_layout};
@@ -87,7 +87,11 @@ fn make_graph(alloc: Global, net: &Network, bid: &Bid) -> Result<TimeGraph, NoMe
     let mut flags = reach(alloc, net, bid, layout, &mut table)?;
     let arcs = trim(net, bid, layout, &mut flags, &table);
     let numbers = number(alloc, &flags)?;
-    emit(alloc, net, bid, layout, &flags, &numbers, arcs, &table)
+    let kept = Kept {
+        flags: &flags,
+        numbers: &numbers,
+    };
+    emit(alloc, net, bid, layout, kept, arcs, &table)
 }
 
 /// The graph of the kept places, with room for so many arcs of legs.
@@ -96,25 +100,24 @@ fn emit(
     net: &Network,
     bid: &Bid,
     layout: Layout<'_>,
-    flags: &[bool],
-    numbers: &[u32],
+    kept: Kept<'_>,
     arcs: usize,
     table: &StepTable,
 ) -> Result<TimeGraph, NoMemory>
     requires setting { IsSetting net.now bid.now.path layout }
-    requires kept { IsKept net.now bid.now.path layout flags.now }
-    requires steps { AreStepsTo net.now bid.now.path layout (places_of layout) flags.now table.now }
-    requires numbers { AreNumbers flags.now numbers.now }
+    requires kept { IsKept net.now bid.now.path layout kept.flags.now }
+    requires steps { AreStepsTo net.now bid.now.path layout (places_of layout) kept.flags.now
+        table.now }
     ensures { IfOk result (λ graph. IsGraphOf net.now bid.now.path graph) }
 {
-    let end = numbers[layout.places() as usize];
+    let end = kept.numbers[layout.places() as usize];
     let mut dag = Dag::new(alloc, end + 1)?;
     dag.set_end(end);
     let mut minutes = Vec::new(alloc);
-    add_starts(net, bid, layout, flags, numbers, &mut dag, &mut minutes)?;
+    add_starts(net, bid, layout, kept, &mut dag, &mut minutes)?;
     dag.reserve(arcs)?;
     let mut legs = Vec::with_capacity(alloc, arcs)?;
-    add_legs(net, bid, layout, flags, numbers, &mut dag, &mut legs, table)?;
+    add_legs(net, bid, layout, kept, &mut dag, &mut legs, table)?;
     let _arcs = dag.arcs();
     Ok(TimeGraph { dag, minutes, legs })
 }

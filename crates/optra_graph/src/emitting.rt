@@ -1,11 +1,12 @@
 //! The arcs of a graph: first those of the starts, then those of the kept places, place by place.
-ghost use Rattle.std.specs.Prelude.{◌≡◌, ℕ, ◌+◌, ◌-◌, ◌<◌, ◌≤◌, [], ◌++◌, All, length, map, filter, OnOk};
+ghost use Rattle.std.specs.Prelude.{◌≡◌, ℕ, ◌+◌, ◌-◌, ◌<◌, ◌≤◌, ◌^◌, [], ◌++◌, All, length, map, filter, OnOk};
 ghost use Rattle.optra_graph.specs.Arcs.{arc_of, is_kept, leg_of_step, Starts, Emits};
-ghost use Rattle.optra_graph.specs.Nodes.{AreNumbers, node_of};
+ghost use Rattle.optra_graph.specs.Nodes.{node_of};
 ghost use Rattle.optra_graph.specs.Places.{places_of};
 ghost use Rattle.optra_graph.specs.Settings.{IsSetting};
 ghost use Rattle.optra_graph.specs.StepTables.{AreStepsTo};
 
+use crate::kept::Kept;
 use crate::reaching::{make_start, starts_end};
 use crate::states::Layout;
 use crate::step_table::StepTable;
@@ -20,27 +21,25 @@ pub fn add_starts(
     net: &Network,
     bid: &Bid,
     layout: Layout<'_>,
-    flags: &[bool],
-    numbers: &[u32],
+    kept: Kept<'_>,
     dag: &mut Dag,
     minutes: &mut Vec<Minute>,
 ) -> Result<(), NoMemory>
     requires setting { IsSetting net.now bid.now.path layout }
-    requires flags { length flags.now ≡ places_of layout + 1 }
-    requires numbers { AreNumbers flags.now numbers.now }
+    requires flags { length kept.flags.now ≡ places_of layout + 1 }
     requires arcs { dag.old.arcs ≡ [] }
-    requires ends { length dag.old.ends ≡ node_of flags.now (places_of layout) + 1 }
+    requires ends { length dag.old.ends ≡ node_of kept.flags.now (places_of layout) + 1 }
     requires minutes { minutes.old.items ≡ [] }
-    ensures starts { OnOk result (Starts bid.now.path layout.entry flags.now (layout.entry.first
+    ensures starts { OnOk result (Starts bid.now.path layout.entry kept.entry.flags.now (layout.entry.first
         + layout.entry.minutes) dag.new.arcs minutes.new.items) }
     ensures ends { OnOk result (dag.new.ends ≡ dag.old.ends) }
 {
     for minute in layout.first..starts_end(bid, layout) {
         let place = layout.place(make_start(bid, minute)) as usize;
-        if !flags[place] {
+        if !kept.flags[place] {
             continue;
         }
-        dag.arc(0, numbers[place])?;
+        dag.arc(0, kept.numbers[place])?;
         minutes.push(minute)?;
     }
     Ok(())
@@ -51,30 +50,28 @@ pub fn add_legs(
     net: &Network,
     bid: &Bid,
     layout: Layout<'_>,
-    flags: &[bool],
-    numbers: &[u32],
+    kept: Kept<'_>,
     dag: &mut Dag,
     legs: &mut Vec<Leg>,
     table: &StepTable,
 ) -> Result<(), NoMemory>
     requires setting { IsSetting net.now bid.now.path layout }
-    requires steps { AreStepsTo net.now bid.now.path layout (places_of layout) flags.now table.now }
-    requires flags { length flags.now ≡ places_of layout + 1 }
-    requires numbers { AreNumbers flags.now numbers.now }
+    requires steps { AreStepsTo net.now bid.now.path layout (places_of layout) kept.flags.now table.now }
+    requires flags { length kept.flags.now ≡ places_of layout + 1 }
     requires starts { All (λ arc. arc.from ≡ 0) dag.old.arcs }
     requires few { length dag.old.arcs ≤ 2880 }
-    requires ends { length dag.old.ends ≡ node_of flags.now (places_of layout) + 1 }
+    requires ends { length dag.old.ends ≡ node_of kept.flags.now (places_of layout) + 1 }
     requires legs { legs.old.items ≡ [] }
-    ensures arcs { OnOk result (Emits net.now bid.now.path layout.entry flags.now
+    ensures arcs { OnOk result (Emits net.now bid.now.path layout.entry kept.entry.flags.now
         (places_of layout.entry) dag.old.arcs dag.new.arcs legs.new.items) }
     ensures ends { OnOk result (dag.new.ends ≡ dag.old.ends) }
 {
     for place in 0..layout.places() {
-        if !flags[place as usize] {
+        if !kept.flags[place as usize] {
             continue;
         }
-        let from = numbers[place as usize];
-        add_arcs(dag, legs, from, table.of(place), flags, numbers)?;
+        let from = kept.numbers[place as usize];
+        add_arcs(dag, legs, from, table.of(place), kept)?;
     }
     Ok(())
 }
@@ -85,27 +82,25 @@ fn add_arcs(
     legs: &mut Vec<Leg>,
     from: u32,
     steps: &[Step],
-    flags: &[bool],
-    numbers: &[u32],
+    kept: Kept<'_>,
 ) -> Result<(), NoMemory>
-    requires numbers { AreNumbers flags.now numbers.now }
-    requires within { All (λ step. step.to < length flags.now) steps.now }
-    requires forward { All (λ step. from < node_of flags.now step.to) steps.now }
-    requires nodes { All (λ step. node_of flags.now step.to < length dag.old.ends) steps.now }
+    requires within { All (λ step. step.to < length kept.flags.now) steps.now }
+    requires forward { All (λ step. from < node_of kept.flags.now step.to) steps.now }
+    requires nodes { All (λ step. node_of kept.flags.now step.to < length dag.old.ends) steps.now }
     requires sorted { All (λ before. before.from ≤ from) dag.old.arcs }
-    requires room { length dag.old.arcs + length steps.now ≤ 4294967295 }
+    requires room { length dag.old.arcs + length steps.now ≤ 2 ^ 32 - 1 }
     ensures arcs { OnOk result (dag.new.arcs ≡ dag.old.arcs
-        ++ map (arc_of flags.now from) (filter (is_kept flags.now) steps.now)) }
+        ++ map (arc_of kept.entry.flags.now from) (filter (is_kept kept.entry.flags.now) steps.now)) }
     ensures legs { OnOk result (legs.new.items ≡ legs.old.items
-        ++ map leg_of_step (filter (is_kept flags.now) steps.now)) }
+        ++ map leg_of_step (filter (is_kept kept.entry.flags.now) steps.now)) }
     ensures ends { OnOk result (dag.new.ends ≡ dag.old.ends) }
 {
     for step in steps {
         let to = step.to as usize;
-        if !flags[to] {
+        if !kept.flags[to] {
             continue;
         }
-        dag.arc(from, numbers[to])?;
+        dag.arc(from, kept.numbers[to])?;
         legs.push(step.leg)?;
     }
     Ok(())

@@ -6,6 +6,7 @@ mod columns;
 mod deadlines;
 mod emitting;
 mod graph_map;
+mod kept;
 mod numbering;
 mod reaching;
 mod serving;

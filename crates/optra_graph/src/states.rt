@@ -50,7 +50,7 @@ impl Layout<'_> {
     pub fn places(self) -> u32
         requires { IsSmall self }
         ensures value { result ≡ places_of self.entry }
-        ensures small { result ≤ 15552000 }
+        ensures small { result ≤ 2880 * 18 * 300 }
     {
         u32::from(self.minutes) * u32::from(self.slots) * u32::from(self.stations)
     }

@@ -7,6 +7,7 @@ pub mod Marks
 pub mod Laws
 pub mod Repairs
 pub mod ArcTerms
+pub mod Bounds
 pub mod Arcs
 pub mod Tables
 pub mod Terms

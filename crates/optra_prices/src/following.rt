@@ -12,8 +12,9 @@ use crate::Priced;
 use crate::arc_tables::ArcTables;
 use crate::courses::{go_back, go_on, go_to, priced_at, zero_value};
 use crate::levels::copy_prices;
+use crate::path_ends::PathEnds;
 use optra_network::{Cents, NoMemory};
-use optra_node::{Node, Prices};
+use optra_node::Node;
 use optra_walk::{Instance, RowFamily};
 use std::alloc::Global;
 
@@ -50,22 +51,19 @@ fn go_steps<F: RowFamily>(
     node: &Node,
     kept: &mut ArcTables<'_, F::Row>,
     best: &mut Best,
-    start: &Prices<F::Row>,
-    steps: u32,
-    incumbent: Cents,
+    ends: &PathEnds<'_, F::Row>,
 ) -> Result<(), NoMemory>
     requires following { IsFollowing F.Row.cmp
         (setting inst.net.now (F.rows_of rows.now inst.net.now) (F.rows_used rows.now inst.net.now)
-        inst.bids.now node.now) start.now steps incumbent kept.old best.old (zero_candidate kept.old
+        inst.bids.now node.now) ends.now.start.now ends.now.steps ends.now.incumbent kept.old best.old (zero_candidate kept.old
         ∷ candidate_at (F.rows_of rows.now inst.net.now) kept.old ∷ []) }
     ensures { OnOk result
         (IsFollowed F.Row.cmp (setting inst.entry.net.now (F.rows_of rows.now inst.entry.net.now)
-        (F.rows_used rows.now inst.entry.net.now) inst.entry.bids.now node.now) start.now steps
-        incumbent kept.new best.new) }
+        (F.rows_used rows.now inst.entry.net.now) inst.entry.bids.now node.now) ends.now.start.now ends.now.steps
+        ends.now.incumbent kept.new best.new) }
 {
-    let _ = start;
-    'steps: for k in 0..steps {
-        if is_low(kept.value, incumbent) {
+    'steps: for k in 0..ends.steps {
+        if is_low(kept.value, ends.incumbent) {
             return Ok(());
         }
         go_on(inst, rows, node, kept, k)?;
@@ -81,29 +79,27 @@ fn follow<F: RowFamily>(
     rows: &F,
     node: &Node,
     kept: &mut ArcTables<'_, F::Row>,
-    start: &Prices<F::Row>,
-    steps: u32,
-    incumbent: Cents,
+    ends: &PathEnds<'_, F::Row>,
 ) -> Result<Best, NoMemory>
-    requires start { AreProper F.Row.cmp (F.rows_of rows.now inst.net.now) start.now }
-    requires numbered { AreNumbered kept.old start.now }
+    requires start { AreProper F.Row.cmp (F.rows_of rows.now inst.net.now) ends.now.start.now }
+    requires numbered { AreNumbered kept.old ends.now.start.now }
     requires course { IsCourse F.Row.cmp (setting inst.net.now (F.rows_of rows.now inst.net.now)
         (F.rows_used rows.now inst.net.now) inst.bids.now node.now) kept.old }
     ensures { IfOk result
         (IsFollowed F.Row.cmp (setting inst.entry.net.now (F.rows_of rows.now inst.entry.net.now)
-        (F.rows_used rows.now inst.entry.net.now) inst.entry.bids.now node.now) start.now steps
-        incumbent kept.new) }
+        (F.rows_used rows.now inst.entry.net.now) inst.entry.bids.now node.now) ends.now.start.now ends.now.steps
+        ends.now.incumbent kept.new) }
 {
     let mut best = Best {
         prices: Vec::new(alloc),
         value: zero_value(inst, rows, node, kept),
     };
-    if is_low(best.value, incumbent) {
+    if is_low(best.value, ends.incumbent) {
         return Ok(best);
     }
-    go_to(inst, rows, node, kept, start)?;
+    go_to(inst, rows, node, kept, ends.start)?;
     keep_less(&mut best, kept)?;
-    go_steps(inst, rows, node, kept, &mut best, start, steps, incumbent)?;
+    go_steps(inst, rows, node, kept, &mut best, ends)?;
     Ok(best)
 }
 
@@ -114,23 +110,21 @@ pub(crate) fn go_along<F: RowFamily>(
     rows: &F,
     node: &Node,
     kept: &mut ArcTables<'_, F::Row>,
-    start: &Prices<F::Row>,
-    steps: u32,
-    incumbent: Cents,
+    ends: &PathEnds<'_, F::Row>,
 ) -> Result<Priced<F::Row>, NoMemory>
-    requires start { AreProper F.Row.cmp (F.rows_of rows.now inst.net.now) start.now }
-    requires numbered { AreNumbered kept.old start.now }
+    requires start { AreProper F.Row.cmp (F.rows_of rows.now inst.net.now) ends.now.start.now }
+    requires numbered { AreNumbered kept.old ends.now.start.now }
     requires course { IsCourse F.Row.cmp (setting inst.net.now (F.rows_of rows.now inst.net.now)
         (F.rows_used rows.now inst.net.now) inst.bids.now node.now) kept.old }
     ensures course { OnOk result (IsCourse F.Row.cmp (setting inst.entry.net.now
         (F.rows_of rows.now inst.entry.net.now) (F.rows_used rows.now inst.entry.net.now)
         inst.entry.bids.now node.now) kept.new) }
     ensures path { IfOk result (λ priced. IsPathResult F.Row.cmp inst.entry.net.now
-        (F.rows_of rows.now inst.entry.net.now) inst.entry.bids.now node.now start.now steps
-        incumbent priced) }
+        (F.rows_of rows.now inst.entry.net.now) inst.entry.bids.now node.now ends.now.start.now ends.now.steps
+        ends.now.incumbent priced) }
     ensures replies { IfOk result (λ priced. priced.dual.replies ≡ replies_at kept.new) }
 {
-    let best = follow(alloc, inst, rows, node, kept, start, steps, incumbent)?;
+    let best = follow(alloc, inst, rows, node, kept, ends)?;
     go_back(inst, rows, node, kept, &best.prices)?;
     priced_at(alloc, inst, rows, node, kept)
 }

@@ -1,6 +1,7 @@
 //! Groups of touches, one after the other, and their prices.
 ghost use Rattle.std.specs.Prelude.{◌≡◌, ◌||◌, ◌+◌, ◌*◌, ◌≤◌, ◌<◌, All, IfOk, length, slice_index_or, pos, ◌*ℤ◌};
 ghost use Rattle.optra_bid.specs.Specs.{IsBetween};
+ghost use Rattle.optra_prices.specs.Bounds.{most_price};
 ghost use Rattle.optra_prices.specs.Tables.{group_at, uses_in_all, AreGroups, IsRowPrice, IsGroupPrice, group_price};
 
 use crate::numbering::{Groups, Touch};
@@ -51,7 +52,7 @@ fn touch_price(prices: &[i64], touch: Touch) -> i64
     requires prices { All IsRowPrice prices.now }
     requires few { touch.uses ≤ 8192 }
     ensures value { result ≡ slice_index_or prices.now touch.row (pos 0) *ℤ pos touch.uses }
-    ensures range { IsBetween (pos 0) (pos (2000000000000 * touch.uses)) result }
+    ensures range { IsBetween (pos 0) (pos (most_price * touch.uses)) result }
 {
     let price = row_price(prices, touch.row);
     product(price, touch.uses)

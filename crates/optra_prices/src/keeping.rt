@@ -24,6 +24,7 @@ use crate::listing::widen;
 use crate::loading::no_paths;
 use crate::numbering::Standing;
 use crate::owning::Owned;
+use crate::path_ends::PathEnds;
 use crate::rooms::empty_room;
 use crate::sessions::{Made, copy_standings, first_standings, made_tables, renew_all};
 use crate::telling::tell_moved;
@@ -31,7 +32,7 @@ use crate::valuing::entries;
 use crate::{Dead, Dual, Priced};
 use optra_dag::Buffers;
 use optra_graph::Graphs;
-use optra_network::{Cents, NoMemory};
+use optra_network::NoMemory;
 use optra_node::{Node, Prices, prices_by_used_rows, tests_tell_allowed};
 use optra_walk::{Instance, RowFamily};
 use std::alloc::Global;
@@ -213,25 +214,23 @@ pub fn price_path_over<'g, F: RowFamily>(
     rows: &F,
     node: &Node,
     kept: ArcTables<'g, F::Row>,
-    start: &Prices<F::Row>,
-    steps: u32,
-    incumbent: Cents,
+    ends: &PathEnds<'_, F::Row>,
 ) -> Result<(ArcTables<'g, F::Row>, Priced<F::Row>), NoMemory>
     requires node { IsNode inst.net.now (length inst.bids.now) node.now }
     requires kept { AreKeptAt F.Row.cmp inst.net.now (F.rows_of rows.now inst.net.now)
         (F.rows_used rows.now inst.net.now) inst.bids.now node.now kept }
-    requires start { AreProper F.Row.cmp (F.rows_of rows.now inst.net.now) start.now }
+    requires start { AreProper F.Row.cmp (F.rows_of rows.now inst.net.now) ends.now.start.now }
     ensures kept { IfOk result (λ both. AreKeptAt F.Row.cmp inst.entry.net.now
         (F.rows_of rows.now inst.entry.net.now) (F.rows_used rows.now inst.entry.net.now)
         inst.entry.bids.now node.now both.0) }
     ensures path { IfOk result (λ both. IsPathResult F.Row.cmp inst.entry.net.now
-        (F.rows_of rows.now inst.entry.net.now) inst.entry.bids.now node.now start.now steps
-        incumbent both.1) }
+        (F.rows_of rows.now inst.entry.net.now) inst.entry.bids.now node.now ends.now.start.now
+        ends.now.steps ends.now.incumbent both.1) }
     ensures replies { IfOk result (λ both. both.1.dual.replies ≡ replies_at both.0) }
 {
     let mut kept = kept;
-    admit(alloc, inst, rows, node, &mut kept, entries(start))?;
-    let priced = go_along(alloc, inst, rows, node, &mut kept, start, steps, incumbent)?;
+    admit(alloc, inst, rows, node, &mut kept, entries(ends.start))?;
+    let priced = go_along(alloc, inst, rows, node, &mut kept, ends)?;
     Ok((kept, priced))
 }
 

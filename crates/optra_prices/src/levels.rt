@@ -3,7 +3,7 @@
 //! Rows with a price, or with more uses than capacity, are active. A step moves these alone: the price of any other row is
 //! 0 and stays 0. The price of all capacity is kept by difference.
 ghost use Rattle.std.specs.Prelude.{◌≡◌, ◌+◌, ◌<◌, ◌≤◌, true, [], ◌∷◌, ◌++◌, pos, ◌+ℤ◌, ◌-ℤ◌, ◌*ℤ◌, All, IfOk, OnOk, length, slice_set};
-ghost use Rattle.optra_bid.specs.Specs.{IsBetween};
+ghost use Rattle.optra_prices.specs.Bounds.{IsCapacityPrice, IsStepLength, IsWholePrice};
 ghost use Rattle.optra_prices.specs.Columns.{IsColumns, PricesAllButDue};
 ghost use Rattle.optra_prices.specs.Levels.{IsLevels, IsMove, AreUnused, KeepsPrices, KeepsUses, Wakes, WakesAbove, Rests, MovesRow, MovesTo, HoldsPrices, moved_by, is_listed, next_at, use_of};
 ghost use Rattle.optra_prices.specs.Tables.{IsRowPrice};
@@ -11,8 +11,8 @@ ghost use Rattle.optra_prices.specs.Uses.{AddsUses, TakesUses, touch_use};
 
 use crate::columns::{Columns, mark_row};
 use crate::counts::Counts;
+use crate::next_prices::next_price;
 use crate::numbering::Touch;
-use crate::stepping::next_price;
 use optra_network::NoMemory;
 use std::alloc::Global;
 
@@ -36,7 +36,7 @@ fn capacity_product(price: i64, capacity: u32) -> i128
     requires price { IsRowPrice price }
     requires capacity { capacity ≤ 65535 }
     ensures value { result ≡ price *ℤ pos capacity }
-    ensures range { IsBetween (pos 0) (pos 131070000000000000) result }
+    ensures range { IsCapacityPrice result }
 {
     i128::from(price) * i128::from(capacity)
 }
@@ -46,7 +46,7 @@ fn capacity_after(total: i128, old: i64, new: i64, capacity: u32) -> i128
     requires old { IsRowPrice old }
     requires new { IsRowPrice new }
     requires capacity { capacity ≤ 65535 }
-    requires total { IsBetween (pos 0) (pos 2417851639229258349412352000000000000) total }
+    requires total { IsWholePrice total }
     ensures { result ≡ total +ℤ (new *ℤ pos capacity -ℤ old *ℤ pos capacity) }
 {
     total + (capacity_product(new, capacity) - capacity_product(old, capacity))
@@ -208,7 +208,7 @@ fn move_row(
 /// The next price of a row by a step of this length.
 fn next_price_at(levels: &Levels, number: usize, by: i64) -> i64
     requires levels { IsLevels levels.now }
-    requires by { IsBetween (pos 1) (pos 1000000000000) by }
+    requires by { IsStepLength by }
     requires within { number < length levels.now.prices.items }
     ensures value { result ≡ next_at by levels.now number }
     ensures range { IsRowPrice result }
@@ -229,7 +229,7 @@ pub(crate) fn move_prices(
 ) -> Result<(), NoMemory>
     requires levels { IsLevels levels.old }
     requires columns { IsColumns columns.old.groups columns.old }
-    requires by { IsBetween (pos 1) (pos 1000000000000) by }
+    requires by { IsStepLength by }
     requires due { PricesAllButDue levels.old.prices.items columns.old }
     ensures levels { OnOk result (IsLevels levels.new) }
     ensures columns { OnOk result (IsColumns columns.old.groups columns.new) }

@@ -32,10 +32,12 @@ mod listing;
 mod loading;
 mod making;
 mod marking;
+mod next_prices;
 mod numbering;
 pub mod overfull;
 mod owning;
 pub mod parts;
+mod path_ends;
 mod paths;
 mod putting;
 mod ranking;
@@ -55,6 +57,7 @@ pub mod zero;
 
 pub use arc_tables::ArcTables;
 pub use laws::price_laws;
+pub use path_ends::PathEnds;
 pub use paths::price_path;
 pub use stepping::step;
 

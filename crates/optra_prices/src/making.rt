@@ -77,7 +77,7 @@ pub(crate) fn new_making<F: RowFamily>(
 
 /// The place of a leg, by its type, track and departure.
 fn place_of(kind: TypeId, leg: Leg) -> usize
-    ensures { result < 1048576 }
+    ensures { result < PLACES }
 {
     let entry = usize::from(leg.track.0) * TYPES + usize::from(kind.0);
     (entry * MINUTES + usize::from(leg.depart)) % PLACES

@@ -6,6 +6,7 @@ ghost use Rattle.optra_prices.specs.Steps.{AreProper};
 
 use crate::Priced;
 use crate::keeping::{bring_to, keep_arcs, price_path_over};
+use crate::path_ends::PathEnds;
 use optra_graph::Graphs;
 use optra_network::{Cents, NoMemory};
 use optra_node::{Node, Prices};
@@ -41,6 +42,11 @@ pub fn price_path<F: RowFamily, G: Graphs>(
 {
     let mut kept = keep_arcs(alloc, inst, graphs, rows)?;
     bring_to(alloc, inst, rows, node, &mut kept)?;
-    let (_kept, priced) = price_path_over(alloc, inst, rows, node, kept, start, steps, incumbent)?;
+    let ends = PathEnds {
+        start,
+        steps,
+        incumbent,
+    };
+    let (_kept, priced) = price_path_over(alloc, inst, rows, node, kept, &ends)?;
     Ok(priced)
 }

@@ -1,7 +1,7 @@
 //! Dual values and replies of what stands.
 ghost use Rattle.std.specs.Prelude.{◌≡◌, ◌≤◌, [], List, ℤ, All, IfOk, OnOk, ◌<◌, ◌^◌, length, replicate, pos, ◌+ℤ◌};
 ghost use Rattle.std.specs.List.{list_any};
-ghost use Rattle.optra_bid.specs.Specs.{IsBetween};
+ghost use Rattle.optra_prices.specs.Bounds.{IsWholePrice};
 ghost use Rattle.optra_node.specs.Duals.{sum_of};
 ghost use Rattle.optra_node.specs.Certificates.{AreAscending};
 ghost use Rattle.optra_graph.specs.Timed.{IsRoute};
@@ -31,7 +31,7 @@ fn any_stuck(standings: &[Standing]) -> bool
 
 /// The sum of the terms, and the price of all capacity.
 fn with_terms(capacity: i128, standings: &[Standing]) -> i128
-    requires capacity { IsBetween (pos 0) (pos 2417851639229258349412352000000000000) capacity }
+    requires capacity { IsWholePrice capacity }
     requires few { length standings.now ≤ 1000 }
     requires small { All (λ standing. IsTermSize standing.term) standings.now }
     ensures { result ≡ capacity +ℤ sum_of (λ standing. standing.term) standings.now }
@@ -45,7 +45,7 @@ fn with_terms(capacity: i128, standings: &[Standing]) -> i128
 
 /// The dual value: 0 where some bid is stuck.
 pub(crate) fn dual_value(capacity: i128, standings: &[Standing]) -> i128
-    requires capacity { IsBetween (pos 0) (pos 2417851639229258349412352000000000000) capacity }
+    requires capacity { IsWholePrice capacity }
     requires few { length standings.now ≤ 1000 }
     requires small { All (λ standing. IsTermSize standing.term) standings.now }
     ensures { result ≡ value_of capacity standings.now }
@@ -172,7 +172,7 @@ pub(crate) fn assemble(
     tables: &[BidTable<'_>],
     standings: &[Standing],
 ) -> Result<Dual, NoMemory>
-    requires capacity { IsBetween (pos 0) (pos 2417851639229258349412352000000000000) capacity }
+    requires capacity { IsWholePrice capacity }
     requires few { length standings.now ≤ 1000 }
     requires small { All (λ standing. IsTermSize standing.term) standings.now }
     requires stand { (grouped : List ℤ) × AllStand tables.now grouped standings.now }

@@ -1,7 +1,8 @@
 //! What starts and legs add to the reduced value of a walk, apart from the prices of rows.
 ghost use Rattle.std.specs.Prelude.{◌≡◌, ◌-◌, ◌<◌, ◌^◌, pos, ◌+ℤ◌, ◌-ℤ◌, ◌*ℤ◌};
-ghost use Rattle.optra_bid.specs.Specs.{IsRate, IsMoney, IsBetween};
+ghost use Rattle.optra_bid.specs.Specs.{IsRate, IsMoney};
 ghost use Rattle.optra_walk.specs.Values.{price_off};
+ghost use Rattle.optra_prices.specs.Bounds.{IsBase, IsOffPrice, IsTaken, IsTimePrice};
 ghost use Rattle.optra_prices.specs.Arcs.{start_value, end_price, wait_price, leg_value, IsArcValue};
 
 use optra_bid::{Bid, Money};
@@ -13,7 +14,7 @@ fn times(rate: Cents, minutes: u32) -> Cents
     requires rate { IsRate rate }
     requires minutes { minutes < 2 ^ 17 }
     ensures value { result ≡ rate *ℤ pos minutes }
-    ensures range { IsBetween (pos 0) (pos 131072000000) result }
+    ensures range { IsTimePrice result }
 {
     rate * i64::from(minutes)
 }
@@ -25,16 +26,16 @@ fn price_off(ideal: u32, early: Cents, late: Cents, time: u32) -> Cents
     requires late { IsRate late }
     requires time { time < 2 ^ 17 }
     ensures value { result ≡ price_off ideal early late time }
-    ensures range { IsBetween (pos 0) (pos 262144000000) result }
+    ensures range { IsOffPrice result }
 {
     times(early, ideal.saturating_sub(time)) + times(late, time.saturating_sub(ideal))
 }
 
 /// In thousandths of a cent, a base less one price and with another given back.
 fn scaled_start(base: Cents, off: Cents, up_to: Cents) -> i64
-    requires base { IsBetween (pos 0) (pos 1000000000) base }
-    requires off { IsBetween (pos 0) (pos 262144000000) off }
-    requires up_to { IsBetween (pos 0) (pos 131072000000) up_to }
+    requires base { IsBase base }
+    requires off { IsOffPrice off }
+    requires up_to { IsTimePrice up_to }
     ensures value { result ≡ pos 1000 *ℤ (base -ℤ off +ℤ up_to) }
     ensures range { IsArcValue result }
 {
@@ -43,10 +44,10 @@ fn scaled_start(base: Cents, off: Cents, up_to: Cents) -> i64
 
 /// In thousandths of a cent, what two prices take.
 fn scaled_end(off: Cents, up_to: Cents) -> i64
-    requires off { IsBetween (pos 0) (pos 262144000000) off }
-    requires up_to { IsBetween (pos 0) (pos 131072000000) up_to }
+    requires off { IsOffPrice off }
+    requires up_to { IsTimePrice up_to }
     ensures value { result ≡ pos 1000 *ℤ (off +ℤ up_to) }
-    ensures range { IsBetween (pos 0) (pos 1000000000000000) result }
+    ensures range { IsTaken result }
 {
     1000 * (off + up_to)
 }
@@ -67,7 +68,7 @@ pub fn start_value(bid: &Bid, minute: Minute) -> i64
 fn end_price(bid: &Bid, minute: u32) -> i64
     requires { minute < 2 ^ 17 }
     ensures value { result ≡ end_price bid.now minute }
-    ensures range { IsBetween (pos 0) (pos 1000000000000000) result }
+    ensures range { IsTaken result }
 {
     let money = bid.money;
     let ideal = u32::from(bid.path.arrive.ideal);
@@ -79,14 +80,14 @@ fn end_price(bid: &Bid, minute: u32) -> i64
 fn wait_price(money: Money, minutes: u16) -> i64
     requires { IsMoney money }
     ensures value { result ≡ pos 1000 *ℤ (money.wait *ℤ pos minutes) }
-    ensures range { IsBetween (pos 0) (pos 1000000000000000) result }
+    ensures range { IsTaken result }
 {
     1000 * times(money.wait, u32::from(minutes))
 }
 
 /// What is taken, as a number that is added.
 fn taken(price: i64) -> i64
-    requires { IsBetween (pos 0) (pos 1000000000000000) price }
+    requires { IsTaken price }
     ensures value { result ≡ pos 0 -ℤ price }
     ensures range { IsArcValue result }
 {

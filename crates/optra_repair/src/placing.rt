@@ -66,7 +66,6 @@ fn put<F: RowFamily>(
 pub(crate) fn place<F: RowFamily>(
     alloc: Global,
     lent: &mut Lent,
-    room: &mut Room,
     inst: Instance<'_>,
     rows: &F,
     node: &Node,
@@ -77,30 +76,31 @@ pub(crate) fn place<F: RowFamily>(
         (F.rows_used rows.now inst.net.now) inst.bids.now node.now kept.now }
     requires number { number < length inst.bids.now }
     requires room { (total : F.Row → ℕ) × AreWithin (F.rows_of rows.now inst.net.now) total
-        × IsRoomIn (F.rows_of rows.now inst.net.now) kept.now total room.old }
+        × IsRoomIn (F.rows_of rows.now inst.net.now) kept.now total lent.old.room }
     ensures given { IfOk result (λ given. (bid : Bid) (total : F.Row → ℕ) (placed : List Entry)
         → slice_get inst.entry.bids.now number ≡ Some bid
         → AreWithin (F.rows_of rows.now inst.entry.net.now) total
-        → IsRoomIn (F.rows_of rows.now inst.entry.net.now) kept.now total room.old
+        → IsRoomIn (F.rows_of rows.now inst.entry.net.now) kept.now total lent.old.room
         → AreTotals (F.rows_of rows.now inst.entry.net.now) total placed
         → IsGiven inst.entry.net.now (F.rows_of rows.now inst.entry.net.now) inst.entry.bids.now
         node.now placed number bid given) }
     ensures room { IfOk result (λ given. (bid : Bid) (total : F.Row → ℕ)
         → slice_get inst.entry.bids.now number ≡ Some bid
         → AreWithin (F.rows_of rows.now inst.entry.net.now) total
-        → IsRoomIn (F.rows_of rows.now inst.entry.net.now) kept.now total room.old
+        → IsRoomIn (F.rows_of rows.now inst.entry.net.now) kept.now total lent.old.room
         → IsRoomIn (F.rows_of rows.now inst.entry.net.now) kept.now (λ row. total row
-        + use_of_walk (F.rows_of rows.now inst.entry.net.now) bid.path.kind given row) room.new) }
+        + use_of_walk (F.rows_of rows.now inst.entry.net.now) bid.path.kind given row) lent.new.room) }
 {
     let best = best_allowed(inst, rows, node, kept, number);
     if is_no_path(best) {
         return Ok(None);
     }
-    if has_room_for_path(inst, rows, kept, room, number, best) {
-        return put(alloc, room, inst, rows, kept, number, best);
+    if has_room_for_path(inst, rows, kept, &lent.room, number, best) {
+        return put(alloc, &mut lent.room, inst, rows, kept, number, best);
     }
-    if !worthiest(lent, room, inst, rows, node, kept, number)? {
+    if !worthiest(lent, inst, rows, node, kept, number)? {
         return Ok(None);
     }
-    put(alloc, room, inst, rows, kept, number, lent.buffers.path())
+    let path = lent.buffers.path();
+    put(alloc, &mut lent.room, inst, rows, kept, number, path)
 }

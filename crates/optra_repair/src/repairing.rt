@@ -46,15 +46,15 @@ fn place_all<F: RowFamily>(
         (empty_choice inst.entry.bids.now) walks.items) }
 {
     let bids = inst.bids;
-    let mut room = free_room(alloc, inst, rows, kept)?;
     let mut lent = Lent {
+        room: free_room(alloc, inst, rows, kept)?,
         parts: Vec::new(alloc),
         buffers: Buffers::new(alloc),
     };
     let mut walks = no_walks(alloc, bids)?;
     for turn in 0..order.len() {
         let number = order[turn];
-        let given = place(alloc, &mut lent, &mut room, inst, rows, node, kept, number)?;
+        let given = place(alloc, &mut lent, inst, rows, node, kept, number)?;
         walks[number as usize] = given;
     }
     Ok(walks)

@@ -1,5 +1,5 @@
 //! The walk that is worth most to a bid: of all that are allowed, and of those of which each leg has room.
-ghost use Rattle.std.specs.Prelude.{◌≡◌, ◌<◌, ℕ, [], true, IfOk, List, MatchBool, Some, length, pos, slice_get, ◌<ℤ◌, ◌≤ℤ◌};
+ghost use Rattle.std.specs.Prelude.{◌≡◌, ◌<◌, ℕ, [], true, IfOk, OnOk, List, MatchBool, Some, length, pos, slice_get, ◌<ℤ◌, ◌≤ℤ◌};
 ghost use Rattle.optra_bid.specs.declared.bids.Bid.{Bid};
 ghost use Rattle.optra_walk.specs.Families.{Entry};
 ghost use Rattle.optra_graph.specs.Timed.{Timed, IsRoute};
@@ -19,9 +19,10 @@ use optra_prices::rooms::Room;
 use optra_prices::zero::{zero_path, zero_term};
 use optra_walk::{Instance, RowFamily};
 
-/// What one search lends to the next: the parts of the arcs, and the arrays of the search.
+/// What one turn lends to the next: the room beside what is placed, the parts of the arcs, and the arrays of the search.
 #[derive(Drop)]
 pub(crate) struct Lent {
+    pub(crate) room: Room,
     pub(crate) parts: Vec<ArcPart>,
     pub(crate) buffers: Buffers,
 }
@@ -61,7 +62,6 @@ pub(crate) fn best_allowed<'a, F: RowFamily>(
 /// tells whether it is worth more than 0; it is then in the buffers. The bid's graph is searched.
 pub(crate) fn worthiest<F: RowFamily>(
     lent: &mut Lent,
-    room: &Room,
     inst: Instance<'_>,
     rows: &F,
     node: &Node,
@@ -72,19 +72,20 @@ pub(crate) fn worthiest<F: RowFamily>(
         (F.rows_used rows.now inst.net.now) inst.bids.now node.now kept.now }
     requires number { number < length inst.bids.now }
     requires room { (total : F.Row → ℕ) × IsRoomIn (F.rows_of rows.now inst.net.now) kept.now total
-        room.now }
+        lent.old.room }
     ensures worthiest { IfOk result (λ found. (bid : Bid) (t : Timed) (total : F.Row
         → ℕ) (placed : List Entry) → slice_get inst.entry.bids.now number ≡ Some bid
         → IsTableGraph kept.now number t → IsRoomIn (F.rows_of rows.now inst.entry.net.now) kept.now
-        total room.now → AreWithin (F.rows_of rows.now inst.entry.net.now) total
+        total lent.old.room → AreWithin (F.rows_of rows.now inst.entry.net.now) total
         → AreTotals (F.rows_of rows.now inst.entry.net.now) total placed
         → IsWorthiest inst.entry.net.now (F.rows_of rows.now inst.entry.net.now) inst.entry.bids.now
         node.now placed number bid (walk_found t found lent.new.buffers)) }
     ensures route { IfOk result (λ found. (t : Timed) → found ≡ true
         → IsTableGraph kept.now number t → IsRoute t lent.new.buffers) }
+    ensures room { OnOk result (lent.new.room ≡ lent.old.room) }
 {
     tests_tell_allowed(inst, rows);
     let graph = graph_of(inst, rows, kept, number);
-    tell_parts(&mut lent.parts, inst, rows, node, kept, room, number)?;
+    tell_parts(&mut lent.parts, inst, rows, node, kept, &lent.room, number)?;
     worth_path(&mut lent.buffers, graph, &lent.parts)
 }

@@ -8,9 +8,11 @@ use std::marker::Model;
 
 mod closing;
 mod earning;
+mod entered;
 mod fixing;
 mod freeing;
 mod laws;
+mod means;
 pub mod planning;
 mod pricing;
 mod repairing;
@@ -20,6 +22,7 @@ mod splitting;
 mod turning;
 mod waiting;
 
+pub use entered::Entered;
 pub use laws::plan_laws;
 pub use repairing::Repairer;
 

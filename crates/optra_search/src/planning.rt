@@ -7,6 +7,7 @@ ghost use Rattle.optra_search.specs.Reached.{parts_of};
 ghost use Rattle.optra_search.specs.Closings.{plan_of};
 
 use crate::closing::close_all;
+use crate::means::Means;
 use crate::searching::Search;
 use crate::turning::take_turns;
 use crate::waiting::Waiting;
@@ -71,20 +72,18 @@ fn finish<R: Drop>(search: Search<R>) -> Plan<R>
 fn plan_with<F: RowFamily, G: Graphs, P: Repairer<F, G>>(
     alloc: Global,
     inst: Instance<'_>,
-    graphs: &G,
     rows: &F,
-    limits: Limits,
-    repairer: &P,
+    means: &Means<'_, G, P>,
 ) -> Result<Plan<F::Row>, NoMemory>
-    requires network { G.network graphs.now ≡ inst.net.now }
-    requires held { All (λ bid. Contains (G.held graphs.now) bid.path) inst.bids.now }
+    requires network { G.network means.now.graphs.now ≡ inst.net.now }
+    requires held { All (λ bid. Contains (G.held means.now.graphs.now) bid.path) inst.bids.now }
     ensures { IfOk result (λ plan. IsPlainPlan F.Row.cmp inst.entry.net.now
-        (F.rows_of rows.now inst.entry.net.now) inst.entry.bids.now limits.steps limits.budget
-        plan) }
+        (F.rows_of rows.now inst.entry.net.now) inst.entry.bids.now means.now.limits.steps
+        means.now.limits.budget plan) }
 {
     let first = first_search(alloc, inst)?;
-    let kept = keep_arcs(alloc, inst, graphs, rows)?;
-    let (last, kept) = take_turns(alloc, inst, graphs, rows, limits, repairer, kept, first)?;
+    let kept = keep_arcs(alloc, inst, means.graphs, rows)?;
+    let (last, kept) = take_turns(alloc, inst, rows, means, kept, first)?;
     let closed = close_all(alloc, inst, rows, kept, last)?;
     Ok(finish(closed))
 }
@@ -124,6 +123,11 @@ pub fn plan<F: RowFamily, G: Graphs, P: Repairer<F, G>>(
     ensures keeps { G.keeps graphs.new ≡ G.keeps graphs.old }
 {
     graphs.prepare(alloc, inst.bids)?;
-    let plan = plan_with(alloc, inst, graphs, rows, limits, repairer)?;
+    let means = Means {
+        graphs,
+        limits,
+        repairer,
+    };
+    let plan = plan_with(alloc, inst, rows, &means)?;
     Ok(plan)
 }

@@ -14,16 +14,18 @@ ghost use Rattle.optra_search.specs.Openings.{front, start_below, IsOutcome};
 ghost use Rattle.optra_search.specs.Searches.{IsReached, IsEntered};
 ghost use Rattle.optra_search.specs.Reached.{parts_of};
 
+use crate::Repairer;
+use crate::entered::Entered;
+use crate::means::Means;
 use crate::searching::{Search, close_or_split, start_of};
 use crate::settling::{better, whole_cents, zero_prices};
 use crate::splitting::split_leg;
-use crate::{Limits, Repairer};
 use optra_graph::Graphs;
 use optra_network::{Cents, NoMemory};
 use optra_node::{Node, Prices};
 use optra_prices::keeping::price_path_over;
 use optra_prices::overfull::overfull_rows;
-use optra_prices::{ArcTables, Dual, Priced};
+use optra_prices::{ArcTables, Dual, PathEnds, Priced};
 use optra_walk::{Choice, Instance, Leg, RowFamily};
 use std::alloc::Global;
 
@@ -97,16 +99,12 @@ fn path_result<'g, F: RowFamily>(
 {
     let zero = zero_prices(alloc);
     let from = start_of(start, &search.waiting, &zero);
-    let (kept, priced) = price_path_over(
-        alloc,
-        inst,
-        rows,
-        &search.node,
-        kept,
-        from,
+    let ends = PathEnds {
+        start: from,
         steps,
-        search.revenue,
-    )?;
+        incumbent: search.revenue,
+    };
+    let (kept, priced) = price_path_over(alloc, inst, rows, &search.node, kept, &ends)?;
     Ok((priced, kept))
 }
 
@@ -149,35 +147,47 @@ fn improve<R>(inst: Instance<'_>, search: Search<R>, repaired: Choice) -> Search
 pub(crate) fn price_node<'g, F: RowFamily, G: Graphs, P: Repairer<F, G>>(
     alloc: Global,
     inst: Instance<'_>,
-    graphs: &G,
     rows: &F,
-    limits: Limits,
-    repairer: &P,
+    means: &Means<'_, G, P>,
     kept: ArcTables<'g, F::Row>,
     search: Search<F::Row>,
     start: Option<Prices<F::Row>>,
 ) -> Result<(Search<F::Row>, ArcTables<'g, F::Row>), NoMemory>
-    requires network { G.network graphs.now ≡ inst.net.now }
-    requires held { All (λ bid. Contains (G.held graphs.now) bid.path) inst.bids.now }
+    requires network { G.network means.now.graphs.now ≡ inst.net.now }
+    requires held { All (λ bid. Contains (G.held means.now.graphs.now) bid.path) inst.bids.now }
     requires kept { AreKeptAt F.Row.cmp inst.net.now (F.rows_of rows.now inst.net.now)
         (F.rows_used rows.now inst.net.now) inst.bids.now search.node kept }
     requires entered { IsEntered F.Row.cmp inst.net.now (F.rows_of rows.now inst.net.now)
-        inst.bids.now limits.steps limits.budget start (parts_of search) }
+        inst.bids.now means.now.limits.steps means.now.limits.budget start (parts_of search) }
     requires lives { IsDeadAs F.Row.cmp inst.net.now (F.rows_of rows.now inst.net.now) inst.bids.now
         search.node None }
     ensures reached { IfOk result (λ both. IsReached F.Row.cmp inst.entry.net.now
-        (F.rows_of rows.now inst.entry.net.now) inst.entry.bids.now limits.steps limits.budget
-        (parts_of both.0)) }
+        (F.rows_of rows.now inst.entry.net.now) inst.entry.bids.now means.now.limits.steps
+        means.now.limits.budget (parts_of both.0)) }
     ensures count { IfOk result (λ both. both.0.count ≡ search.count + 1) }
     ensures kept { IfOk result (λ both. AreKept F.Row.cmp inst.entry.net.now
         (F.rows_of rows.now inst.entry.net.now) (F.rows_used rows.now inst.entry.net.now)
         inst.entry.bids.now both.1) }
 {
-    let (priced, mut kept) = path_result(alloc, inst, rows, limits.steps, kept, &search, &start)?;
+    let (priced, mut kept) = path_result(
+        alloc,
+        inst,
+        rows,
+        means.limits.steps,
+        kept,
+        &search,
+        &start,
+    )?;
     let Priced { prices, dual } = priced;
-    let repaired = repairer.repair_over(alloc, inst, graphs, rows, &search.node, &kept, &dual)?;
+    let repairer = means.repairer;
+    let entered = Entered {
+        node: &search.node,
+        graphs: means.graphs,
+        kept: &kept,
+    };
+    let repaired = repairer.repair_over(alloc, inst, rows, &entered, &dual)?;
     let search = improve(inst, search, repaired);
-    let split = outcome(alloc, inst, graphs, rows, &mut kept, &dual, &search)?;
+    let split = outcome(alloc, inst, means.graphs, rows, &mut kept, &dual, &search)?;
     let cents = whole_cents(dual.value);
     let after = close_or_split(search, split, prices, cents)?;
     Ok((after, kept))

@@ -5,10 +5,11 @@ ghost use Rattle.optra_node.specs.Nodes.{IsNode};
 ghost use Rattle.optra_prices.specs.Keepings.{AreKeptAt};
 ghost use Rattle.optra_prices.specs.Repairs.{IsRepair};
 
+use crate::entered::Entered;
 use optra_graph::Graphs;
 use optra_network::NoMemory;
 use optra_node::Node;
-use optra_prices::{ArcTables, Dual};
+use optra_prices::Dual;
 use optra_walk::{Choice, Instance, RowFamily};
 use std::alloc::Global;
 
@@ -45,22 +46,23 @@ pub trait Repairer<F: RowFamily, G: Graphs> {
         &self,
         alloc: Global,
         inst: Instance<'_>,
-        graphs: &G,
         rows: &F,
-        node: &Node,
-        kept: &ArcTables<'_, F::Row>,
+        entered: &Entered<'_, '_, G, F::Row>,
         dual: &Dual,
     ) -> Result<Choice, NoMemory>
-        requires node { IsNode inst.net.now (length inst.bids.now) node.now }
-        requires network { G.network graphs.now ≡ inst.net.now }
-        requires held { All (λ bid. Contains (G.held graphs.now) bid.path) inst.bids.now }
+        requires node { IsNode inst.net.now (length inst.bids.now) entered.now.node.now }
+        requires network { G.network entered.now.graphs.now ≡ inst.net.now }
+        requires held { All (λ bid. Contains (G.held entered.now.graphs.now) bid.path)
+            inst.bids.now }
         requires kept { AreKeptAt F.Row.cmp inst.net.now (F.rows_of rows.now inst.net.now)
-            (F.rows_used rows.now inst.net.now) inst.bids.now node.now kept.now }
+            (F.rows_used rows.now inst.net.now) inst.bids.now entered.now.node.now
+            entered.now.kept.now }
         requires terms { length dual.now.terms ≡ length inst.bids.now }
         requires replies { IsChoice inst.net.now inst.bids.now dual.now.replies }
         ensures { IfOk result (λ choice. IsRepair inst.entry.net.now
-            (F.rows_of rows.now inst.entry.net.now) inst.entry.bids.now node.now dual.now choice) }
+            (F.rows_of rows.now inst.entry.net.now) inst.entry.bids.now entered.now.node.now
+            dual.now choice) }
     {
-        self.repair(alloc, inst, graphs, rows, node, dual)
+        self.repair(alloc, inst, entered.graphs, rows, entered.node, dual)
     }
 }

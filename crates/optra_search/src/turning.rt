@@ -6,10 +6,11 @@ ghost use Rattle.optra_search.specs.Openings.{state_of};
 ghost use Rattle.optra_search.specs.Searches.{IsReached};
 ghost use Rattle.optra_search.specs.Reached.{parts_of};
 
+use crate::Repairer;
+use crate::means::Means;
 use crate::pricing::price_node;
 use crate::searching::{Search, dead_item};
 use crate::waiting::{Waiting, enter};
-use crate::{Limits, Repairer};
 use optra_graph::Graphs;
 use optra_network::NoMemory;
 use optra_prices::keeping::{bring_to, dead_over};
@@ -35,25 +36,23 @@ fn end_dead<R: Drop>(search: Search<R>, reason: Dead<R>) -> Result<Search<R>, No
 fn turn<'g, F: RowFamily, G: Graphs, P: Repairer<F, G>>(
     alloc: Global,
     inst: Instance<'_>,
-    graphs: &G,
     rows: &F,
-    limits: Limits,
-    repairer: &P,
+    means: &Means<'_, G, P>,
     kept: ArcTables<'g, F::Row>,
     search: Search<F::Row>,
     top: Waiting<F::Row>,
 ) -> Result<(Search<F::Row>, ArcTables<'g, F::Row>), NoMemory>
-    requires network { G.network graphs.now ≡ inst.net.now }
-    requires held { All (λ bid. Contains (G.held graphs.now) bid.path) inst.bids.now }
+    requires network { G.network means.now.graphs.now ≡ inst.net.now }
+    requires held { All (λ bid. Contains (G.held means.now.graphs.now) bid.path) inst.bids.now }
     requires kept { AreKept F.Row.cmp inst.net.now (F.rows_of rows.now inst.net.now)
         (F.rows_used rows.now inst.net.now) inst.bids.now kept }
-    requires below { search.count < limits.budget }
+    requires below { search.count < means.now.limits.budget }
     requires reached { IsReached F.Row.cmp inst.net.now (F.rows_of rows.now inst.net.now)
-        inst.bids.now limits.steps limits.budget
+        inst.bids.now means.now.limits.steps means.now.limits.budget
         (record (parts_of search) { waiting = search.waiting.items ++ top ∷ [] }) }
     ensures reached { IfOk result (λ both. IsReached F.Row.cmp inst.entry.net.now
-        (F.rows_of rows.now inst.entry.net.now) inst.entry.bids.now limits.steps limits.budget
-        (parts_of both.0)) }
+        (F.rows_of rows.now inst.entry.net.now) inst.entry.bids.now means.now.limits.steps
+        means.now.limits.budget (parts_of both.0)) }
     ensures count { IfOk result (λ both. both.0.count ≡ search.count + 1) }
     ensures kept { IfOk result (λ both. AreKept F.Row.cmp inst.entry.net.now
         (F.rows_of rows.now inst.entry.net.now) (F.rows_used rows.now inst.entry.net.now)
@@ -74,9 +73,7 @@ fn turn<'g, F: RowFamily, G: Graphs, P: Repairer<F, G>>(
             Ok((after, kept))
         }
         None => {
-            let both = price_node(
-                alloc, inst, graphs, rows, limits, repairer, kept, search, start,
-            )?;
+            let both = price_node(alloc, inst, rows, means, kept, search, start)?;
             Ok(both)
         }
     }
@@ -86,24 +83,22 @@ fn turn<'g, F: RowFamily, G: Graphs, P: Repairer<F, G>>(
 pub(crate) fn take_turns<'g, F: RowFamily, G: Graphs, P: Repairer<F, G>>(
     alloc: Global,
     inst: Instance<'_>,
-    graphs: &G,
     rows: &F,
-    limits: Limits,
-    repairer: &P,
+    means: &Means<'_, G, P>,
     kept: ArcTables<'g, F::Row>,
     search: Search<F::Row>,
 ) -> Result<(Search<F::Row>, ArcTables<'g, F::Row>), NoMemory>
-    requires network { G.network graphs.now ≡ inst.net.now }
-    requires held { All (λ bid. Contains (G.held graphs.now) bid.path) inst.bids.now }
+    requires network { G.network means.now.graphs.now ≡ inst.net.now }
+    requires held { All (λ bid. Contains (G.held means.now.graphs.now) bid.path) inst.bids.now }
     requires kept { AreKept F.Row.cmp inst.net.now (F.rows_of rows.now inst.net.now)
         (F.rows_used rows.now inst.net.now) inst.bids.now kept }
     requires first { search.count ≡ 0 }
     requires reached { IsReached F.Row.cmp inst.net.now (F.rows_of rows.now inst.net.now)
-        inst.bids.now limits.steps limits.budget (parts_of search) }
+        inst.bids.now means.now.limits.steps means.now.limits.budget (parts_of search) }
     ensures reached { IfOk result (λ both. IsReached F.Row.cmp inst.entry.net.now
-        (F.rows_of rows.now inst.entry.net.now) inst.entry.bids.now limits.steps limits.budget
-        (parts_of both.0)) }
-    ensures over { IfOk result (λ both. IsOver limits.budget
+        (F.rows_of rows.now inst.entry.net.now) inst.entry.bids.now means.now.limits.steps
+        means.now.limits.budget (parts_of both.0)) }
+    ensures over { IfOk result (λ both. IsOver means.now.limits.budget
         (state_of both.0.node both.0.waiting.items both.0.items.items both.0.incumbent
         both.0.count)) }
     ensures kept { IfOk result (λ both. AreKept F.Row.cmp inst.entry.net.now
@@ -112,13 +107,11 @@ pub(crate) fn take_turns<'g, F: RowFamily, G: Graphs, P: Repairer<F, G>>(
 {
     let mut search = search;
     let mut kept = kept;
-    'turns: for _taken in 0..limits.budget {
+    'turns: for _taken in 0..means.limits.budget {
         let Some(top) = search.waiting.pop() else {
             return Ok((search, kept));
         };
-        let both = turn(
-            alloc, inst, graphs, rows, limits, repairer, kept, search, top,
-        )?;
+        let both = turn(alloc, inst, rows, means, kept, search, top)?;
         search = both.0;
         kept = both.1;
     }

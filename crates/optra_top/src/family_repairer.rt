@@ -8,8 +8,8 @@ ghost use Rattle.optra_prices.specs.Repairs.{IsRepair};
 use optra_graph::Graphs;
 use optra_network::NoMemory;
 use optra_node::Node;
-use optra_prices::{ArcTables, Dual};
-use optra_search::Repairer;
+use optra_prices::Dual;
+use optra_search::{Entered, Repairer};
 use optra_walk::{Choice, Instance, RowFamily};
 use std::alloc::Global;
 
@@ -34,12 +34,10 @@ impl<F: RowFamily, G: Graphs> Repairer<F, G> for FamilyRepairer {
         &self,
         alloc: Global,
         inst: Instance<'_>,
-        _graphs: &G,
         rows: &F,
-        node: &Node,
-        kept: &ArcTables<'_, F::Row>,
+        entered: &Entered<'_, '_, G, F::Row>,
         dual: &Dual,
     ) -> Result<Choice, NoMemory> {
-        optra_repair::repair_over(alloc, inst, rows, node, kept, dual)
+        optra_repair::repair_over(alloc, inst, rows, entered.node, entered.kept, dual)
     }
 }

@@ -16,15 +16,15 @@ overflow_add-end c =
     let v = c.places.ensures.value in
     let s = c.places.ensures.small in
     let k = c.requires.kept.len in
-    let n = c.requires.numbers.each c.places.result (omega (arith, v, k)) in
-    omega (arith, n, s, kept_few c.args.flags.now c.places.result)
+    let n = c.args.kept.numbered.each c.places.result (omega (arith, v, k)) in
+    omega (arith, n, s, kept_few c.args.kept.flags.now c.places.result)
 
 pub add_legs-requires-clause-starts : goal.add_legs-requires-clause-starts
-add_legs-requires-clause-starts c = rw c.reserve.ensures (starts_from c.args.bid.now.path c.args.layout c.args.flags.now (c.args.layout.first + c.args.layout.minutes) c.add_starts.new.dag.arcs c.add_starts.new.minutes.items c.in_ok-add_starts.ensures.starts)
+add_legs-requires-clause-starts c = rw c.reserve.ensures (starts_from c.args.bid.now.path c.args.layout c.args.kept.flags.now (c.args.layout.first + c.args.layout.minutes) c.add_starts.new.dag.arcs c.add_starts.new.minutes.items c.in_ok-add_starts.ensures.starts)
 
 pub add_legs-requires-clause-few : goal.add_legs-requires-clause-few
 add_legs-requires-clause-few c =
-    let f = starts_few c.args.bid.now.path c.args.layout c.args.flags.now (c.args.layout.first + c.args.layout.minutes) c.add_starts.new.dag.arcs c.add_starts.new.minutes.items c.requires.setting.laid.first refl c.in_ok-add_starts.ensures.starts in
+    let f = starts_few c.args.bid.now.path c.args.layout c.args.kept.flags.now (c.args.layout.first + c.args.layout.minutes) c.add_starts.new.dag.arcs c.add_starts.new.minutes.items c.requires.setting.laid.first refl c.in_ok-add_starts.ensures.starts in
     let m = c.requires.setting.small.minutes in
     rw c.reserve.ensures (omega (arith, f, m))
 
@@ -33,14 +33,14 @@ is_graph : (c : goal.After-arcs-arcs) → IsGraphOf c.args.net.now c.args.bid.no
 is_graph c =
     let v = c.places.ensures.value in
     let k = c.requires.kept.len in
-    let n : get_or c.args.numbers.now c.places.result 0 ≡ node_of c.args.flags.now (places_of c.args.layout) = c.requires.numbers.each c.places.result (omega (arith, v, k)) ∙ ap (node_of c.args.flags.now) v in
-    let made = subst (λ (g : Graph). Emits c.args.net.now c.args.bid.now.path c.args.layout c.args.flags.now (places_of c.args.layout) g.arcs c.add_legs.new.dag.arcs c.add_legs.new.legs.items) c.reserve.ensures c.in_ok-add_legs.ensures.arcs in
-    let ends : c.add_legs.new.dag.ends ≡ set (replicate (node_of c.args.flags.now (places_of c.args.layout) + 1) false) (node_of c.args.flags.now (places_of c.args.layout)) true =
+    let n : get_or c.args.kept.numbers.now c.places.result 0 ≡ node_of c.args.kept.flags.now (places_of c.args.layout) = c.args.kept.numbered.each c.places.result (omega (arith, v, k)) ∙ ap (node_of c.args.kept.flags.now) v in
+    let made = subst (λ (g : Graph). Emits c.args.net.now c.args.bid.now.path c.args.layout c.args.kept.flags.now (places_of c.args.layout) g.arcs c.add_legs.new.dag.arcs c.add_legs.new.legs.items) c.reserve.ensures c.in_ok-add_legs.ensures.arcs in
+    let ends : c.add_legs.new.dag.ends ≡ set (replicate (node_of c.args.kept.flags.now (places_of c.args.layout) + 1) false) (node_of c.args.kept.flags.now (places_of c.args.layout)) true =
     c.in_ok-add_legs.ensures.ends ∙ ap (λ (g : Graph). g.ends) c.reserve.ensures ∙ c.in_ok-add_starts.ensures.ends ∙ c.set_end.ensures.ends
-    ∙ ap (λ (es : List Bool). set es (get_or c.args.numbers.now c.places.result 0) true) c.in_ok-dag.ensures.1
+    ∙ ap (λ (es : List Bool). set es (get_or c.args.kept.numbers.now c.places.result 0) true) c.in_ok-dag.ensures.1
     ∙ ap (λ (e : ℕ). set (replicate (e + 1) false) e true) n in
-    graph_of_timed c.args.net.now c.args.bid.now.path _ (states_of c.args.layout (places_of c.args.layout) c.args.flags.now)
-    (timed_is c.args.net.now c.args.bid.now.path c.args.layout c.requires.setting c.args.flags.now c.requires.kept c.add_starts.new.dag.arcs c.add_legs.new.dag.arcs c.add_starts.new.minutes.items c.add_legs.new.legs.items (c.args.layout.first + c.args.layout.minutes) refl
+    graph_of_timed c.args.net.now c.args.bid.now.path _ (states_of c.args.layout (places_of c.args.layout) c.args.kept.flags.now)
+    (timed_is c.args.net.now c.args.bid.now.path c.args.layout c.requires.setting c.args.kept.flags.now c.requires.kept c.add_starts.new.dag.arcs c.add_legs.new.dag.arcs c.add_starts.new.minutes.items c.add_legs.new.legs.items (c.args.layout.first + c.args.layout.minutes) refl
     c.in_ok-add_starts.ensures.starts made c.add_legs.new.dag.ends ends c.arcs-arcs.ensures.forward)
 
 pub invariant_of-result : goal.invariant_of-result

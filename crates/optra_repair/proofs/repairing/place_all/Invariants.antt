@@ -7,4 +7,4 @@ use Rattle.optra_repair.proofs.repairing.place_all.Given as goal
 abbrev pub invariant-loop-turn : goal.invariant-loop-turn
 invariant-loop-turn g l =
     let rows = g.F.RowFamily.rows_of l.rows l.inst.net.now in
-    (total : g.row.F-Row.Denot → ℕ) × IsUnderWay l.inst.net.now rows l.inst.bids.now l.node l.order (drop l.turn l.order) l.walks.items total × IsRoomIn rows l.kept total l.room
+    (total : g.row.F-Row.Denot → ℕ) × IsUnderWay l.inst.net.now rows l.inst.bids.now l.node l.order (drop l.turn l.order) l.walks.items total × IsRoomIn rows l.kept total l.lent.room

@@ -7,7 +7,7 @@ use Rattle.optra_search.proofs.turning.take_turns.Given as goal
 
 abbrev pub invariant-turns : goal.invariant-turns
 invariant-turns g l = record {
-  reached : IsReached g.F.Row.Ord.cmp l.inst.net.now (g.F.RowFamily.rows_of l.rows l.inst.net.now) l.inst.bids.now l.limits.steps l.limits.budget (parts_of l.search);
+  reached : IsReached g.F.Row.Ord.cmp l.inst.net.now (g.F.RowFamily.rows_of l.rows l.inst.net.now) l.inst.bids.now l.means.limits.steps l.means.limits.budget (parts_of l.search);
   kept : AreKept g.F.Row.Ord.cmp l.inst.net.now (g.F.RowFamily.rows_of l.rows l.inst.net.now) (g.F.RowFamily.rows_used l.rows l.inst.net.now) l.inst.bids.now l.kept;
   count : l.search.count ≡ l._taken;
 }

@@ -4,7 +4,7 @@ use Rattle.std.specs.Int.{w64, saturate_signed}
 use Rattle.std.proofs.lemmas.Int.{ints, to_z-of_z}
 use Rattle.optra_prices.specs.Steps.{price_within}
 use Rattle.optra_prices.proofs.StepLemmas.{risen, fallen}
-use Rattle.optra_prices.proofs.stepping.next_price.Goals as goal
+use Rattle.optra_prices.proofs.next_prices.next_price.Goals as goal
 
 pub returns-then-used-room-clause-value : goal.returns-then-used-room-clause-value
 returns-then-used-room-clause-value c =

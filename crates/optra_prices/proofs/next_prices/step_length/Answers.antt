@@ -3,7 +3,7 @@ use Rattle.std.specs.Prelude.{ℤ, pos, ◌*ℤ◌, FitsSigned}
 use Rattle.std.specs.Int.{w64, int_max, int_div_euclid}
 use Rattle.std.proofs.lemmas.Int.{ints, to_z-of_z}
 use Rattle.optra_prices.proofs.StepLemmas.{length_within}
-use Rattle.optra_prices.proofs.stepping.step_length.Goals as goal
+use Rattle.optra_prices.proofs.next_prices.step_length.Goals as goal
 
 pub returns-clause-value : goal.returns-clause-value
 returns-clause-value c =

@@ -1,0 +1,35 @@
+-- The ranges of prices, by name. Those of money are in cents, and all others in thousandths of a cent.
+use Rattle.std.specs.Prelude.{ℕ, ℤ, pos}
+use Rattle.optra_bid.specs.Specs.{IsBetween}
+
+-- the greatest price of a row
+abbrev pub most_price : ℕ
+most_price = 2000000000000
+
+-- what a bid offers at most
+abbrev pub IsBase : ℤ → Type 0
+IsBase cents = IsBetween (pos 0) (pos 1000000000) cents
+
+-- a rate for fewer than 2^17 minutes
+abbrev pub IsTimePrice : ℤ → Type 0
+IsTimePrice cents = IsBetween (pos 0) (pos 131072000000) cents
+
+-- two rates, each for fewer than 2^17 minutes
+abbrev pub IsOffPrice : ℤ → Type 0
+IsOffPrice cents = IsBetween (pos 0) (pos 262144000000) cents
+
+-- what an arc takes
+abbrev pub IsTaken : ℤ → Type 0
+IsTaken price = IsBetween (pos 0) (pos 1000000000000000) price
+
+-- the length of a price step
+abbrev pub IsStepLength : ℤ → Type 0
+IsStepLength length = IsBetween (pos 1) (pos 1000000000000) length
+
+-- the price of a row's capacity
+abbrev pub IsCapacityPrice : ℤ → Type 0
+IsCapacityPrice price = IsBetween (pos 0) (pos 131070000000000000) price
+
+-- the price of the capacity of all rows, of which there are fewer than 2^64
+abbrev pub IsWholePrice : ℤ → Type 0
+IsWholePrice price = IsBetween (pos 0) (pos 2417851639229258349412352000000000000) price
