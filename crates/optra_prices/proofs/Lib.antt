@@ -41,6 +41,7 @@ pub mod AdmitLemmas
 pub mod ListingLemmas
 pub mod LoadingLemmas
 pub mod AllowLemmas
+pub mod ArcTermLemmas
 pub mod RoomLemmas
 pub mod ClaimLemmas
 pub mod FillLemmas

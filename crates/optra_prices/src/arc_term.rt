@@ -1,5 +1,6 @@
 //! What an arc of a bid's graph adds and touches, in two words, since searches read the arcs one after the other.
 ghost use Rattle.std.specs.Prelude.{◌≡◌};
+ghost use Rattle.optra_prices.specs.ArcTerms.{half_of, is_odd};
 ghost use Rattle.optra_prices.specs.Arcs.{IsArcValue};
 
 use std::marker::Model;
@@ -21,6 +22,21 @@ impl Model for ArcTerm {
     ghost view = { λ a. record { value = half_of a.doubled; group = a.group; allowed = is_odd a.doubled } };
 }
 
+/// Half of a number, rounded down.
+fn half(doubled: i64) -> i64
+    ensures { result ≡ half_of doubled }
+{
+    doubled >> 1
+}
+
+/// Twice the half of a number, and 1 more where the mark is set.
+fn marked(doubled: i64, mark: bool) -> i64
+    ensures half { half_of result ≡ half_of doubled }
+    ensures mark { is_odd result ≡ mark }
+{
+    2 * half(doubled) + i64::from(mark)
+}
+
 impl ArcTerm {
     /// An arc that adds a value and touches a group.
     pub(crate) fn new(value: i64, group: usize, allowed: bool) -> ArcTerm
@@ -39,7 +55,7 @@ impl ArcTerm {
     pub(crate) fn value(&self) -> i64
         ensures { result ≡ self.now.value }
     {
-        self.doubled >> 1
+        half(self.doubled)
     }
 
     /// The group that it touches.
@@ -62,6 +78,6 @@ impl ArcTerm {
         ensures group { self.new.group ≡ self.old.group }
         ensures allowed { self.new.allowed ≡ allowed }
     {
-        self.doubled = 2 * self.value() + i64::from(allowed);
+        self.doubled = marked(self.doubled, allowed);
     }
 }
