@@ -6,7 +6,7 @@ use Rattle.std.proofs.lemmas.Int.{ints}
 use Rattle.std.proofs.lemmas.List.{length-replicate, length-set, length-take-le, get_or-set_same, get_or-set_other, get_or-take, get_or_default, get_or_past, get_or_append_left, length-append}
 use Rattle.std.proofs.Math.Seq.{get_or-append_seam}
 use Rattle.std.specs.List.{swap_remove}
-use Rattle.std.proofs.lemmas.List.Elements.{All-head, All-tail, All-set, All-map, All-push, All-weaker, All-contains, Contains-push, Contains-append_left, Contains-get_or}
+use Rattle.std.proofs.lemmas.List.Elements.{All-head, All-tail, All-map, All-push, All-weaker, All-contains, Contains-push, Contains-append_left, Contains-get_or}
 use Rattle.std.proofs.lemmas.Nat.{mul-le}
 use Rattle.std.proofs.Math.IntN.{pos-*ℤ-pos, zero-*ℤ}
 use Rattle.optra_bid.specs.Specs.{IsBetween}

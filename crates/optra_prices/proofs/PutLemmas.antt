@@ -1,6 +1,6 @@
 -- Room after a path was put into it, and what it tells of the path's walk.
-use Rattle.std.proofs.Common.{◌≡◌, ℕ, ◌+◌, ◌-◌, ◌≤◌, ◌<◌, Bool, true, false, cond, List, [], ◌∷◌, length, map, get_or, Option, Some, None, slice_get, refl, sym, ◌∙◌, subst, arith, inl, inr}
-use Rattle.std.specs.Prelude.{◌↔◌, All, nat_eq}
+use Rattle.std.proofs.Common.{◌≡◌, ℕ, ◌+◌, ◌≤◌, ◌<◌, true, List, [], ◌∷◌, length, map, get_or, Option, Some, None, slice_get, refl, sym, ◌∙◌, subst, arith, inl, inr}
+use Rattle.std.specs.Prelude.{◌↔◌, All}
 use Rattle.std.specs.Cmp.{IsTotalOrder}
 use Rattle.std.specs.declared.cmp.Ordering.{Ordering}
 use Rattle.std.proofs.lemmas.Bool.{cases_lt}
@@ -18,7 +18,7 @@ use Rattle.optra_prices.specs.Parts.{HasRoom, legs_load, HaveRoomFor, KeepsWithi
 use Rattle.optra_prices.specs.Rooms.{IsRoom, IsNumberWithin, HasRoomForAll}
 use Rattle.optra_prices.specs.Tables.{IsNumbering, IsTouch, no_arc, number_in}
 use Rattle.optra_prices.specs.Terms.{Setting, AreBidArcs}
-use Rattle.optra_prices.specs.Uses.{touch_use, touch_uses, arc_touches, path_uses, AddsUses, TakesUses}
+use Rattle.optra_prices.specs.Uses.{touch_uses, arc_touches, path_uses, AddsUses, TakesUses}
 use Rattle.optra_prices.specs.declared.numbering.BidTable.{BidTable}
 use Rattle.optra_prices.specs.declared.numbering.Groups.{Groups}
 use Rattle.optra_prices.specs.declared.numbering.Touch.{Touch}

@@ -1,4 +1,4 @@
-//! Numbers by place, exact and without a limit but memory.
+//! Numbers by place, exact and without a limit but memory. They count how much is used of rows.
 ghost use Rattle.std.specs.Prelude.{◌≡◌, ◌↔◌, ◌+◌, ◌-◌, ◌*◌, ◌^◌, ◌≤◌, ◌++◌, ◌∷◌, [], ℕ, true, false, cond, nat_eq, min, IsTrue, IfOk, OnOk, length, replicate, slice_index, slice_set};
 ghost use Rattle.optra_prices.specs.Counts.{times};
 
@@ -6,7 +6,7 @@ use optra_network::NoMemory;
 use std::alloc::Global;
 use std::marker::Model;
 
-/// What is beyond the 32 bits of a low part counts by this.
+/// So much a place counts each time that it stands in the list of what is beyond the low parts.
 const BEYOND: u64 = 4_294_967_296;
 
 /// Numbers by place. A place stands in `over` once for each 2^32 that its number has beyond its low part, so that `over` is

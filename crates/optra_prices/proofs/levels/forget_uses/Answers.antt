@@ -1,7 +1,6 @@
-use Rattle.std.proofs.Common.{◌≤◌, ◌∙◌, ℕ, List, length, replicate, sym, ap, subst, arith}
+use Rattle.std.proofs.Common.{◌∙◌, ℕ, List, length, ap, arith}
 use Rattle.std.specs.Prelude.{slice_index}
 use Rattle.std.proofs.lemmas.List.{length-replicate}
-use Rattle.optra_prices.specs.Levels.{use_of}
 use Rattle.optra_prices.proofs.LevelLemmas.{less_levels, none_at}
 use Rattle.optra_prices.proofs.levels.forget_uses.Goals as goal
 
