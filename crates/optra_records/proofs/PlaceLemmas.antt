@@ -8,8 +8,8 @@ use Rattle.std.proofs.lemmas.List.Concat.{flat_map-cons}
 use Rattle.std.proofs.lemmas.Slice.Eq.{bytes_eq-Decides}
 use Rattle.csv.specs.Reading.{default_config, records}
 use Rattle.optra_records.specs.Reading.{Field, Record, has_mark}
-use Rattle.optra_records.specs.Texts.{AreShown, escaped, field_text, is_shown, more_text, needs_quotes, record_text, records_text}
-use Rattle.optra_records.specs.Canonical.{ended_place, first_place, goes_on, is_canonical, is_special, is_text_of, next_place, plain_place}
+use Rattle.optra_records.specs.Texts.{AreShown, escaped, field_text, is_shown, is_special, more_text, needs_quotes, record_text, records_text}
+use Rattle.optra_records.specs.Canonical.{ended_place, first_place, goes_on, is_canonical, is_text_of, next_place, plain_place}
 use Rattle.optra_records.specs.declared.places.Place.{Place}
 use Rattle.optra_records.specs.declared.places.Place.TheVariants as place
 use Rattle.optra_records.proofs.CanonicalLemmas.{is_fit}

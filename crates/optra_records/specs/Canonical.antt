@@ -5,7 +5,7 @@ use Rattle.std.specs.Option.{option_map_or}
 use Rattle.std.specs.Str.{is_utf8}
 use Rattle.csv.specs.Reading.{default_config, records}
 use Rattle.optra_records.specs.Reading.{Record, has_mark}
-use Rattle.optra_records.specs.Texts.{is_shown, records_text}
+use Rattle.optra_records.specs.Texts.{is_shown, is_special, records_text}
 use Rattle.optra_records.specs.declared.places.Place.{Place}
 use Rattle.optra_records.specs.declared.places.Place.TheVariants as place
 
@@ -18,10 +18,6 @@ unfoldable pub is_canonical : List ℕ → Bool
 is_canonical bytes = not (has_mark bytes) && is_text_of (records default_config bytes) bytes
 
 -- ---- the same, byte by byte
-
--- a field needs quotes for this byte
-abbrev pub is_special : ℕ → Bool
-is_special b = (b == 44) || (b == 34) || (b == 13) || (b == 10)
 
 -- the place behind the byte that ends a field
 abbrev pub ended_place : ℕ → Option Place

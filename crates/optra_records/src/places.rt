@@ -2,7 +2,8 @@
 
 ghost use Rattle.std.specs.Prelude.{◌≡◌};
 ghost use Rattle.std.specs.Option.{option_map_or};
-ghost use Rattle.optra_records.specs.Canonical.{ended_place, first_place, goes_on, is_special, next_place, plain_place};
+ghost use Rattle.optra_records.specs.Canonical.{ended_place, first_place, goes_on, next_place, plain_place};
+ghost use Rattle.optra_records.specs.Texts.{is_special};
 ghost use Rattle.optra_records.specs.declared.places.Place.TheVariants.{NewRecord};
 
 /// Where a text of records stands.
