@@ -15,6 +15,8 @@ crossed-most    the same with as many crossings, of a minute each way, as a tabl
 certificate     a certificate of splits, 268,435,456 bytes long, whose tree never ends
 certificate+1   the same and a byte more
 one-record      a certificate of that length whose second record is nearly all of it
+many-fields     the same, of empty fields
+price-row       a certificate of that length of which the minute of a price's row is nearly all
 steps           1,000 price steps at each node
 nodes           10,000 nodes
 steps-and-nodes both at once, on cliques of trains of which no bound but that of the whole tree is tight
@@ -141,11 +143,18 @@ def of_splits(folder, more=b""):
     return 3 + long_ones + short_ones + 1
 
 
-def of_one_record(folder):
+def of_one_record(folder, byte=b"1"):
     start = b"optra-certificate,1\nrevenue,"
     with open(f"{folder}/c.csv", "wb") as file:
-        file.write(start + b"1" * (LIMIT - len(start) - 1) + b"\n")
+        file.write(start + byte * (LIMIT - len(start) - 1) + b"\n")
     return 2
+
+
+def of_price_row(folder):
+    start, end = HEAD + b"priced,1\nprice,window,ab,", b",0\n"
+    with open(f"{folder}/c.csv", "wb") as file:
+        file.write(start + b"1" * (LIMIT - len(start) - len(end)) + end)
+    return 5
 
 
 # The cases: what makes the files, the words, and the statuses that may come or the one answer
@@ -180,6 +189,8 @@ CASES = {
     "certificate": with_certificate(of_splits, "verdict,unreadable,ROW,C6"),
     "certificate+1": with_certificate(lambda folder: of_splits(folder, b"x"), "too long: c.csv"),
     "one-record": with_certificate(of_one_record, "verdict,unreadable,ROW,C5"),
+    "many-fields": with_certificate(lambda folder: of_one_record(folder, b","), "verdict,unreadable,ROW,C3"),
+    "price-row": with_certificate(of_price_row, "verdict,unreadable,ROW,C5"),
     "steps": planned(lambda folder: demo.main(7, 3, folder), "--steps", "1000", "--budget", "5"),
     "nodes": planned(lambda folder: cliques(folder, 12), "--steps", "5", "--budget", "10000"),
     "steps-and-nodes": planned(lambda folder: cliques(folder, 12), "--steps", "1000", "--budget", "10000"),

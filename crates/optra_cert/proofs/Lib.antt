@@ -26,3 +26,4 @@ pub mod BackSteps
 pub mod TextBack
 pub mod OneFault
 pub mod LongRows
+pub mod CutReads

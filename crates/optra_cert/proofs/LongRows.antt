@@ -20,7 +20,7 @@ module _ {R : Type 0} (texts : RowTexts R) (are : AreTexts texts) (net : Net) (v
       let few : length kind.columns < 32 = All-contains (λ (kind : RowKind). length kind.columns < 32) texts.kinds kind are.few h.0 in
       rw (other_form kind.columns fields (λ same. absurd (omega (arith, same, few, long)))) refl
 
-  long_row : (fields : Record) → 32 < length fields → read_row texts net version fields ≡ read.Kind
+  pub long_row : (fields : Record) → 32 < length fields → read_row texts net version fields ≡ read.Kind
   unfolding read_row
   long_row [] long = refl
   long_row (word ∷ fields) long = long_named word fields (omega (arith, long)) (kind_named texts.kinds version word) refl

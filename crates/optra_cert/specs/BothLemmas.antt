@@ -14,7 +14,7 @@ use Rattle.optra_rows.specs.declared.joining.Either.{Either}
 use Rattle.optra_rows.specs.declared.joining.Either.TheVariants.{First, Second}
 use Rattle.optra_rows.specs.Eithers.{both_rows}
 use Rattle.optra_records.specs.Reading.{Field, Record}
-use Rattle.optra_cert.specs.Columns.{Column, IsSoundColumn, IsTextColumn, record_values, values_of, has_form, told_in, told_before}
+use Rattle.optra_cert.specs.Columns.{Column, IsShortColumn, IsShortWord, IsSoundColumn, IsTextColumn, record_values, values_of, has_form, told_in, told_before}
 use Rattle.optra_cert.specs.RowTexts.{RowKind, RowTexts, AreApart, AreTexts, FitsRow, kind_named, made_row, read_by, read_row, row_of_values}
 use Rattle.optra_cert.specs.Boths.{both_texts, first_or, greater, lesser, read_either, second_read}
 use Rattle.optra_cert.specs.ListLemmas.{pairs_first, pairs_second, pairs_across, found_in}
@@ -202,6 +202,7 @@ module _ {P Q : Type 0} (p : RowTexts P) (q : RowTexts Q) (apart : AreApart (bot
       versions = versions;
       columns = All-append (λ (kind : RowKind). All IsSoundColumn kind.columns) p.kinds q.kinds tp.columns tq.columns;
       words = All-append (λ (kind : RowKind). (is_utf8 kind.word ≡ true) × All IsTextColumn kind.columns) p.kinds q.kinds tp.words tq.words;
+      short = All-append (λ (kind : RowKind). IsShortWord kind.word × All IsShortColumn kind.columns) p.kinds q.kinds tp.short tq.short;
       few = All-append (λ (kind : RowKind). length kind.columns < 32) p.kinds q.kinds tp.few tq.few;
       makes = makes;
       tells = tells;

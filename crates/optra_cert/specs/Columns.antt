@@ -1,5 +1,5 @@
 -- The fields of certificates: what each tells, its text, and its fault.
-use Rattle.std.specs.Prelude.{◌≡◌, ℕ, ◌<◌, ◌^◌, ◌&&◌, Bool, true, false, All, List, [], ◌∷◌, length, nat_le, ⊤, Option, None, Some, Result, Ok, Err, is_some, unwrap_or, slice_get, if◌then◌else◌}
+use Rattle.std.specs.Prelude.{◌≡◌, ℕ, ◌<◌, ◌≤◌, ◌^◌, ◌&&◌, Bool, true, false, All, List, [], ◌∷◌, length, nat_le, ⊤, Option, None, Some, Result, Ok, Err, is_some, unwrap_or, slice_get, if◌then◌else◌}
 use Rattle.std.specs.Fmt.{decimal}
 use Rattle.std.specs.Str.{is_utf8}
 use Rattle.optra_network.specs.Net.{Net, IsFromTo}
@@ -69,6 +69,18 @@ IsTextColumn a_track = ⊤
 IsTextColumn a_type = ⊤
 IsTextColumn (a_number low high) = ⊤
 IsTextColumn (a_word words) = All (λ word. is_utf8 word ≡ true) words
+
+-- a word is as short as a name is: at most 64 bytes
+abbrev pub IsShortWord : Field → Type 0
+IsShortWord word = length word ≤ 64
+
+-- the words of a column are short
+abbrev pub IsShortColumn : Column → Type 0
+IsShortColumn a_station = ⊤
+IsShortColumn a_track = ⊤
+IsShortColumn a_type = ⊤
+IsShortColumn (a_number low high) = ⊤
+IsShortColumn (a_word words) = All IsShortWord words
 
 -- the fault of a field that tells nothing
 abbrev pub fault_in : Column → CertCode

@@ -3,7 +3,7 @@ use Rattle.std.proofs.Common.{◌≡◌, ◌⊎◌, inl, inr, ℕ, ◌≤◌, �
 use Rattle.std.specs.Prelude.{cond, All}
 use Rattle.std.specs.List.{AllByRecursion}
 use Rattle.std.specs.Str.{is_utf8}
-use Rattle.std.proofs.lemmas.List.Elements.{All-nil, All-cons}
+use Rattle.std.proofs.lemmas.List.Elements.{All-nil, All-cons, All-from_recursion}
 use Rattle.std.proofs.lemmas.Slice.Eq.{bytes_eq-Decides}
 use Rattle.std.proofs.lemmas.Bool.{leb-true, ltb-true, and_parts}
 use Rattle.optra_network.specs.Net.{Net, IsProper, IsTrack, IsKind, MayUse, IsRunningRow, times_of}
@@ -18,9 +18,9 @@ use Rattle.optra_rows.specs.declared.HRow.TheVariants.{Window, Pair}
 use Rattle.optra_rows.specs.Headways.{is_row_of}
 use Rattle.optra_records.specs.Reading.{Field}
 use Rattle.optra_cert.specs.Headways.{headway_texts, window_kind, pair_kind, told_row, made_row_of, window_of, pair_of}
-use Rattle.optra_cert.specs.Columns.{Column, a_track, a_type, a_number, IsSoundColumn, IsTextColumn}
+use Rattle.optra_cert.specs.Columns.{Column, a_track, a_type, a_number, IsShortColumn, IsShortWord, IsSoundColumn, IsTextColumn}
 use Rattle.optra_cert.specs.TextLemmas.{word_text}
-use Rattle.optra_cert.specs.RowTexts.{RowKind, AreTexts, FitsRow, TellsKinds, HasVersions, HasSoundColumns, HasTextWords, HasFewColumns, MakesTold, TellsMade, MakesEach}
+use Rattle.optra_cert.specs.RowTexts.{RowKind, AreTexts, FitsRow, TellsKinds, HasVersions, HasSoundColumns, HasTextWords, HasShortWords, HasFewColumns, MakesTold, TellsMade, MakesEach}
 
 kinds_told : TellsKinds headway_texts
 kinds_told (Window track minute) = (0, omega arith, refl)
@@ -53,6 +53,13 @@ words =
     all_of : (columns : List Column) → AllByRecursion IsTextColumn columns → All IsTextColumn columns
     all_of [] h = All-nil IsTextColumn
     all_of (column ∷ columns) h = All-cons IsTextColumn column columns h.0 (all_of columns h.1)
+
+short : HasShortWords headway_texts
+short =
+    let P : RowKind → Type 0 = λ kind. IsShortWord kind.word × All IsShortColumn kind.columns in
+    let window = All-from_recursion IsShortColumn window_kind.columns (tt, (tt, tt)) in
+    let pair = All-from_recursion IsShortColumn pair_kind.columns (tt, (tt, (tt, (tt, (tt, tt))))) in
+    All-cons P window_kind (pair_kind ∷ []) (lit≤ tt, window) (All-cons P pair_kind [] (lit≤ tt, pair) (All-nil P))
 
 few : HasFewColumns headway_texts
 few =
@@ -123,7 +130,7 @@ each kind values in_ = by (in_from (window_kind ∷ pair_kind ∷ []) kind in_)
     by (inr (inr n)) long = absurd n
 
 pub headway_texts_are : AreTexts headway_texts
-headway_texts_are = record { kinds = kinds_told; versions = versions; columns = columns; words = words; few = few; makes = makes; tells = tells; each = each }
+headway_texts_are = record { kinds = kinds_told; versions = versions; columns = columns; words = words; short = short; few = few; makes = makes; tells = tells; each = each }
 
 -- a type that may use a track is there, and so is the track
 there : (net : Net) (track : TrackId) (kind : TypeId) → IsProper net → MayUse net track kind → IsTrack net track × IsKind net kind

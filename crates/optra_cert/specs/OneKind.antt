@@ -2,7 +2,7 @@
 use Rattle.std.specs.Prelude.{◌≡◌, ℕ, ◌≤◌, ◌<◌, ◌∷◌, [], true, List, length, All, Option, None, Some, IsSome, bytes_eq, if◌then◌else◌}
 use Rattle.std.specs.Str.{is_utf8}
 use Rattle.optra_records.specs.Reading.{Field}
-use Rattle.optra_cert.specs.Columns.{IsSoundColumn, IsTextColumn}
+use Rattle.optra_cert.specs.Columns.{IsShortColumn, IsShortWord, IsSoundColumn, IsTextColumn}
 use Rattle.optra_cert.specs.RowTexts.{RowKind, RowTexts}
 
 -- the row of values, where the word is the kind's
@@ -24,6 +24,8 @@ pub record IsOneKind {R : Type 0} (kind : RowKind) (values : R → List ℕ) (ro
   pub columns : All IsSoundColumn kind.columns
   pub word : is_utf8 kind.word ≡ true
   pub words : All IsTextColumn kind.columns
+  pub short : IsShortWord kind.word
+  pub short_words : All IsShortColumn kind.columns
   pub few : length kind.columns < 32
   pub makes : (r : R) → row (values r) ≡ Some r
   pub tells : (ns : List ℕ) (r : R) → row ns ≡ Some r → values r ≡ ns

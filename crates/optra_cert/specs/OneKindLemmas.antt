@@ -6,7 +6,7 @@ use Rattle.std.proofs.lemmas.List.Elements.{All-nil, All-cons}
 use Rattle.std.proofs.lemmas.Slice.Eq.{bytes_eq-Decides}
 use Rattle.optra_network.proofs.MemberLemmas.{in_from}
 use Rattle.optra_records.specs.Reading.{Field}
-use Rattle.optra_cert.specs.Columns.{IsSoundColumn, IsTextColumn}
+use Rattle.optra_cert.specs.Columns.{IsShortColumn, IsShortWord, IsSoundColumn, IsTextColumn}
 use Rattle.optra_cert.specs.RowTexts.{RowKind, AreTexts}
 use Rattle.optra_cert.specs.OneKind.{IsOneKind, one_kind_texts, row_of_kind}
 
@@ -41,6 +41,7 @@ module _ {R : Type 0} (kind : RowKind) (values : R → List ℕ) (row : List ℕ
     versions = alone (λ own. (1 ≤ own.version) × (own.version ≤ kind.version)) (is.least, omega arith);
     columns = alone (λ own. All IsSoundColumn own.columns) is.columns;
     words = alone (λ own. (is_utf8 own.word ≡ true) × All IsTextColumn own.columns) (is.word, is.words);
+    short = alone (λ own. IsShortWord own.word × All IsShortColumn own.columns) (is.short, is.short_words);
     few = alone (λ own. length own.columns < 32) is.few;
     makes = λ r. rw (made (values r)) (is.makes r);
     tells = tells;

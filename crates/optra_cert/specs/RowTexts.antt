@@ -4,7 +4,7 @@ use Rattle.std.specs.List.{AllPairs, AllZip}
 use Rattle.std.specs.Str.{is_utf8}
 use Rattle.optra_network.specs.Net.{Net}
 use Rattle.optra_records.specs.Reading.{Field, Record}
-use Rattle.optra_cert.specs.Columns.{Column, shown, record_values, FitsIn, IsKnownIn, IsSoundColumn, IsTextColumn}
+use Rattle.optra_cert.specs.Columns.{Column, shown, record_values, FitsIn, IsKnownIn, IsShortColumn, IsShortWord, IsSoundColumn, IsTextColumn}
 use Rattle.optra_cert.specs.declared.CertCode.{CertCode}
 use Rattle.optra_cert.specs.declared.CertCode.TheVariants as codes
 use Rattle.optra_cert.specs.declared.row_text.RowRead.{RowRead}
@@ -86,6 +86,10 @@ HasSoundColumns texts = All (λ kind. All IsSoundColumn kind.columns) texts.kind
 abbrev pub HasTextWords : {R : Type 0} → RowTexts R → Type 0
 HasTextWords texts = All (λ kind. (is_utf8 kind.word ≡ true) × All IsTextColumn kind.columns) texts.kinds
 
+-- the words of kinds and of their columns are at most 64 bytes long
+abbrev pub HasShortWords : {R : Type 0} → RowTexts R → Type 0
+HasShortWords texts = All (λ kind. IsShortWord kind.word × All IsShortColumn kind.columns) texts.kinds
+
 -- a kind has at most 31 columns, so a row has at most 32 fields
 abbrev pub HasFewColumns : {R : Type 0} → RowTexts R → Type 0
 HasFewColumns texts = All (λ kind. length kind.columns < 32) texts.kinds
@@ -109,6 +113,7 @@ pub record AreTexts {R : Type 0} (texts : RowTexts R) : Type 0 where
   pub versions : HasVersions texts
   pub columns : HasSoundColumns texts
   pub words : HasTextWords texts
+  pub short : HasShortWords texts
   pub few : HasFewColumns texts
   pub makes : MakesTold texts
   pub tells : TellsMade texts

@@ -1,7 +1,8 @@
 //! The reader of certificates: the certificate of a text, or its first fault.
 //!
-//! A text is first compared with its own records, written again. Then its records are taken one after the other, so no
-//! second text is held, and what is kept is the certificate as far as it goes.
+//! A text is first seen to be that of its own records. Then its records are taken one after the other, each cut to the first
+//! bytes of its first fields, which tell all that it can. So no part of the text is held twice but for 40 fields of 65
+//! bytes, and what is kept is the certificate as far as it goes.
 ghost use Rattle.std.specs.Prelude.{◌≡◌, ◌+◌, ◌<◌, ◌≤◌, ◌^◌, drop, length, IfErr, IfOk, IfSome};
 ghost use Rattle.csv.specs.Records.{fields_of};
 ghost use Rattle.optra_network.specs.Net.{IsFromTo};
@@ -20,7 +21,7 @@ use crate::refusals::Refusal;
 use crate::{Cell, CertCode, CertError, CertFault, Certificate, RowText};
 use csv::ByteRecord;
 use optra_network::NoMemory;
-use optra_records::{Records, is_canonical};
+use optra_records::{CutRecords, is_canonical};
 use optra_walk::Instance;
 use std::alloc::Global;
 
@@ -69,10 +70,10 @@ fn read_text<F: RowText>(
     ensures { Reads (λ cert. cert) result (read_text F.Row.cmp (F.texts_of rows.now)
         inst.entry.net.now (length inst.entry.bids.now) bytes.now) }
 {
-    if !is_canonical(alloc, bytes)? {
+    if !is_canonical(bytes) {
         return fault(CertCode::Csv, 0);
     }
-    let mut records = Records::of_text(alloc, bytes);
+    let mut records = CutRecords::of_text(alloc, bytes);
     read_records(alloc, inst, rows, most, &mut records)
 }
 
@@ -83,7 +84,7 @@ fn read_records<F: RowText>(
     inst: Instance<'_>,
     rows: &F,
     most: u8,
-    records: &mut Records<'_>,
+    records: &mut CutRecords<'_>,
 ) -> Result<Certificate<F::Row>, CertError>
     requires apart { AreApart (F.texts_of rows.now).kinds }
     requires most { most ≡ (F.texts_of rows.now).version }
@@ -105,7 +106,7 @@ fn read_records<F: RowText>(
 
 /// The version that the first record states, from 1 to the greatest.
 fn read_version(
-    records: &mut Records<'_>,
+    records: &mut CutRecords<'_>,
     row: &mut ByteRecord,
     most: u8,
 ) -> Result<Option<u8>, NoMemory>
@@ -135,7 +136,7 @@ fn version_told(row: &ByteRecord, most: u8) -> Option<u8>
 fn read_rows<F: RowText>(
     alloc: Global,
     frame: &Frame<'_, F>,
-    records: &mut Records<'_>,
+    records: &mut CutRecords<'_>,
     row: &mut ByteRecord,
 ) -> Result<Certificate<F::Row>, CertError>
     requires few { length frame.now.inst.bids.now ≤ 1000 }

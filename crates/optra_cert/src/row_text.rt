@@ -48,8 +48,9 @@ pub trait RowText: RowFamily {
         requires most { version ≤ (texts_of self.now).version }
         ensures { result ≡ read_row (texts_of self.now) net.now version cells.now };
 
-    /// What a row tells makes the row, a row tells what it was made of, each field tells in one way, and words are UTF-8.
-    /// So a row is read of its fields, and fields that are read as a row are those of the row.
+    /// What a row tells makes the row, a row tells what it was made of, each field tells in one way, and words are UTF-8 of
+    /// at most 64 bytes, as names are. So a row is read of its fields, fields that are read as a row are those of the row,
+    /// and the first 65 bytes of a field tell what the whole field does.
     ghost are_texts: { (f : Self) → AreApart (texts_of f).kinds → AreTexts (texts_of f) };
 
     /// Each row of the family has its names in the network and its numbers in their ranges.

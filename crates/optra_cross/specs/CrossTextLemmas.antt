@@ -3,7 +3,7 @@ use Rattle.std.proofs.Common.{◌≡◌, ℕ, ◌∷◌, [], List, length, Some,
 use Rattle.std.proofs.lemmas.List.Elements.{All-from_recursion}
 use Rattle.optra_network.specs.Net.{Net, IsProper}
 use Rattle.optra_network.proofs.HeadwayLemmas.{below_types}
-use Rattle.optra_cert.specs.Columns.{IsSoundColumn, IsTextColumn, a_number}
+use Rattle.optra_cert.specs.Columns.{IsShortColumn, IsSoundColumn, IsTextColumn, a_number}
 use Rattle.optra_cert.specs.OneKindLemmas.{one_kind_texts_are}
 use Rattle.optra_cert.specs.RowTexts.{AreTexts, FitsRow}
 use Rattle.optra_cert.specs.TextLemmas.{word_text}
@@ -50,6 +50,8 @@ cross_texts_are =
       columns = All-from_recursion IsSoundColumn cross_kind.columns (tt, (minute, (tt, (tt, (minute, (tt, tt))))));
       word = word_text (codes "cross") refl;
       words = All-from_recursion IsTextColumn cross_kind.columns (tt, (tt, (tt, (tt, (tt, (tt, tt))))));
+      short = lit≤ tt;
+      short_words = All-from_recursion IsShortColumn cross_kind.columns (tt, (tt, (tt, (tt, (tt, (tt, tt))))));
       few = lit< tt;
       makes = λ row. refl;
       tells = tells;

@@ -6,7 +6,7 @@ use Rattle.std.proofs.lemmas.List.Elements.{All-from_recursion}
 use Rattle.optra_network.specs.Net.{Net, IsLimitRow, IsProper, halt_max_of}
 use Rattle.optra_network.specs.declared.StationId.{StationId}
 use Rattle.optra_network.proofs.NetLemmas.{limit_built}
-use Rattle.optra_cert.specs.Columns.{IsSoundColumn, IsTextColumn, a_number}
+use Rattle.optra_cert.specs.Columns.{IsShortColumn, IsSoundColumn, IsTextColumn, a_number}
 use Rattle.optra_cert.specs.OneKindLemmas.{one_kind_texts_are}
 use Rattle.optra_cert.specs.RowTexts.{AreTexts, FitsRow}
 use Rattle.optra_cert.specs.TextLemmas.{word_text}
@@ -37,6 +37,8 @@ platform_texts_are =
       columns = All-from_recursion IsSoundColumn halt_kind.columns (tt, (minute, tt));
       word = word_text (codes "halt") refl;
       words = All-from_recursion IsTextColumn halt_kind.columns (tt, (tt, tt));
+      short = lit≤ tt;
+      short_words = All-from_recursion IsShortColumn halt_kind.columns (tt, (tt, tt));
       few = lit< tt;
       makes = λ row. refl;
       tells = tells;

@@ -4,7 +4,9 @@ pub mod TextLemmas
 pub mod ReadBack
 pub mod PowerLemmas
 pub mod PlainNumbers
-pub mod BehindLemmas
+pub mod Utf8Lemmas
 pub mod CanonicalLemmas
+pub mod PlaceLemmas
+pub mod CutLemmas
 pub mod TableLemmas
 pub mod CellLemmas

@@ -4,4 +4,5 @@ pub mod Numbers
 pub mod Texts
 pub mod Printing
 pub mod Canonical
+pub mod Cuts
 pub mod Tables

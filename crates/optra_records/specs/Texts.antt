@@ -3,9 +3,13 @@ use Rattle.std.specs.Prelude.{◌≡◌, ◌≢◌, ◌==◌, ◌||◌, Bool, tr
 use Rattle.std.specs.List.{AllByRecursion, flat_map, list_any}
 use Rattle.optra_records.specs.Reading.{Field, Record}
 
--- a field stands in quotes where it has a comma, a quote, a carriage return or a line feed
+-- a comma, a quote, a carriage return and a line feed stand in quotes
+abbrev pub is_special : ℕ → Bool
+is_special b = (b == 44) || (b == 34) || (b == 13) || (b == 10)
+
+-- a field stands in quotes where it has such a byte
 abbrev pub needs_quotes : Field → Bool
-needs_quotes = list_any (λ b. (b == 44) || (b == 34) || (b == 13) || (b == 10))
+needs_quotes = list_any is_special
 
 -- each quote doubled
 abbrev pub escaped : Field → List ℕ

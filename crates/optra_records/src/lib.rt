@@ -4,14 +4,18 @@
 
 mod canonical;
 mod cells;
+mod cut_records;
 mod marks;
 mod numbers;
+mod places;
 mod printing;
 mod reading;
+mod steps;
 mod tables;
 
 pub use canonical::is_canonical;
 pub use cells::{field, is_cell, number_at, shaped};
+pub use cut_records::CutRecords;
 pub use marks::begins_with_mark;
 pub use numbers::{number, plain_number};
 pub use printing::{Fields, Printer};

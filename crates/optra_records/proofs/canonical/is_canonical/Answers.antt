@@ -1,21 +1,15 @@
--- A record that doesn't fit, or doesn't stand there, ends the text; behind another the rest is to follow.
-use Rattle.std.proofs.Common.{◌≡◌, ◌∙◌, sym, true}
-use Rattle.csv.specs.Records.{fields_of}
-use Rattle.csv.specs.Reading.{default_config, records}
-use Rattle.optra_records.specs.Canonical.{is_text_of}
-use Rattle.optra_records.proofs.CanonicalLemmas.{is_fit, no_mark, other_record, own_record}
+-- A text is canonical where it has no mark, is UTF-8, and goes on as a text of records does.
+use Rattle.std.proofs.Common.{sym, refl}
+use Rattle.optra_records.proofs.PlaceLemmas.{canonical_is}
 use Rattle.optra_records.proofs.canonical.is_canonical.Goals as goal
 
-pub returns-in_default : goal.returns-in_default
-returns-in_default c =
-    let bytes = c.args.bytes.now in
-    let whole = no_mark bytes (sym c.begins_with_mark.ensures ∙ c.if-begins_with_mark.false) in
-    other_record _ c.records.records c.next.new.self (fields_of c.next.new.row) c.records.left.now (is_text_of (records default_config bytes) bytes) c.in_ok-next.ensures.read c.records.invariant
-    c.if-branch.true c.after_record.result c.after_record.ensures (cc) ∙ sym whole
+pub returns-then-begins_with_mark : goal.returns-then-begins_with_mark
+returns-then-begins_with_mark c = rw (canonical_is c.args.bytes.now, sym c.begins_with_mark.ensures, c.if-begins_with_mark.true) refl
 
-pub records-preserved : goal.records-preserved
-records-preserved c =
-    let bytes = c.args.bytes.now in
-    let fit : is_fit (fields_of c.next.new.row) ≡ true = sym c.can_be_printed.ensures ∙ c.if-not-can_be_printed.false in
-    own_record _ c.records.records c.next.new.self (fields_of c.next.new.row) c.records.left.now (is_text_of (records default_config bytes) bytes) c.in_ok-next.ensures.read c.records.invariant
-    c.if-branch.true fit c.after_record.result c.in-Some.rest c.after_record.ensures c.in-Some.is
+pub returns-then-is_text : goal.returns-then-is_text
+returns-then-is_text c =
+    rw (canonical_is c.args.bytes.now, sym c.begins_with_mark.ensures, c.if-begins_with_mark.false, sym c.is_text.ensures, c.if-is_text.true) (c.are_written.ensures)
+
+pub returns-else-is_text : goal.returns-else-is_text
+returns-else-is_text c =
+    rw (canonical_is c.args.bytes.now, sym c.begins_with_mark.ensures, c.if-begins_with_mark.false, sym c.is_text.ensures, c.if-is_text.false) refl
