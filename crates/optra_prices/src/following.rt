@@ -52,18 +52,19 @@ fn go_steps<F: RowFamily>(
     kept: &mut ArcTables<'_, F::Row>,
     best: &mut Best,
     ends: &PathEnds<'_, F::Row>,
+    incumbent: Cents,
 ) -> Result<(), NoMemory>
     requires following { IsFollowing F.Row.cmp
         (setting inst.net.now (F.rows_of rows.now inst.net.now) (F.rows_used rows.now inst.net.now)
-        inst.bids.now node.now) ends.now.start.now ends.now.steps ends.now.incumbent kept.old best.old (zero_candidate kept.old
+        inst.bids.now node.now) ends.now.start.now ends.now.steps incumbent kept.old best.old (zero_candidate kept.old
         ∷ candidate_at (F.rows_of rows.now inst.net.now) kept.old ∷ []) }
     ensures { OnOk result
         (IsFollowed F.Row.cmp (setting inst.entry.net.now (F.rows_of rows.now inst.entry.net.now)
         (F.rows_used rows.now inst.entry.net.now) inst.entry.bids.now node.now) ends.now.start.now ends.now.steps
-        ends.now.incumbent kept.new best.new) }
+        incumbent kept.new best.new) }
 {
     'steps: for k in 0..ends.steps {
-        if is_low(kept.value, ends.incumbent) {
+        if is_low(kept.value, incumbent) {
             return Ok(());
         }
         go_on(inst, rows, node, kept, k)?;
@@ -80,6 +81,7 @@ fn follow<F: RowFamily>(
     node: &Node,
     kept: &mut ArcTables<'_, F::Row>,
     ends: &PathEnds<'_, F::Row>,
+    incumbent: Cents,
 ) -> Result<Best, NoMemory>
     requires start { AreProper F.Row.cmp (F.rows_of rows.now inst.net.now) ends.now.start.now }
     requires numbered { AreNumbered kept.old ends.now.start.now }
@@ -88,18 +90,18 @@ fn follow<F: RowFamily>(
     ensures { IfOk result
         (IsFollowed F.Row.cmp (setting inst.entry.net.now (F.rows_of rows.now inst.entry.net.now)
         (F.rows_used rows.now inst.entry.net.now) inst.entry.bids.now node.now) ends.now.start.now ends.now.steps
-        ends.now.incumbent kept.new) }
+        incumbent kept.new) }
 {
     let mut best = Best {
         prices: Vec::new(alloc),
         value: zero_value(inst, rows, node, kept),
     };
-    if is_low(best.value, ends.incumbent) {
+    if is_low(best.value, incumbent) {
         return Ok(best);
     }
     go_to(inst, rows, node, kept, ends.start)?;
     keep_less(&mut best, kept)?;
-    go_steps(inst, rows, node, kept, &mut best, ends)?;
+    go_steps(inst, rows, node, kept, &mut best, ends, incumbent)?;
     Ok(best)
 }
 
@@ -111,6 +113,7 @@ pub(crate) fn go_along<F: RowFamily>(
     node: &Node,
     kept: &mut ArcTables<'_, F::Row>,
     ends: &PathEnds<'_, F::Row>,
+    incumbent: Cents,
 ) -> Result<Priced<F::Row>, NoMemory>
     requires start { AreProper F.Row.cmp (F.rows_of rows.now inst.net.now) ends.now.start.now }
     requires numbered { AreNumbered kept.old ends.now.start.now }
@@ -121,10 +124,10 @@ pub(crate) fn go_along<F: RowFamily>(
         inst.entry.bids.now node.now) kept.new) }
     ensures path { IfOk result (λ priced. IsPathResult F.Row.cmp inst.entry.net.now
         (F.rows_of rows.now inst.entry.net.now) inst.entry.bids.now node.now ends.now.start.now ends.now.steps
-        ends.now.incumbent priced) }
+        incumbent priced) }
     ensures replies { IfOk result (λ priced. priced.dual.replies ≡ replies_at kept.new) }
 {
-    let best = follow(alloc, inst, rows, node, kept, ends)?;
+    let best = follow(alloc, inst, rows, node, kept, ends, incumbent)?;
     go_back(inst, rows, node, kept, &best.prices)?;
     priced_at(alloc, inst, rows, node, kept)
 }

@@ -32,7 +32,7 @@ use crate::valuing::entries;
 use crate::{Dead, Dual, Priced};
 use optra_dag::Buffers;
 use optra_graph::Graphs;
-use optra_network::NoMemory;
+use optra_network::{Cents, NoMemory};
 use optra_node::{Node, Prices, prices_by_used_rows, tests_tell_allowed};
 use optra_walk::{Instance, RowFamily};
 use std::alloc::Global;
@@ -215,6 +215,7 @@ pub fn price_path_over<'g, F: RowFamily>(
     node: &Node,
     kept: ArcTables<'g, F::Row>,
     ends: &PathEnds<'_, F::Row>,
+    incumbent: Cents,
 ) -> Result<(ArcTables<'g, F::Row>, Priced<F::Row>), NoMemory>
     requires node { IsNode inst.net.now (length inst.bids.now) node.now }
     requires kept { AreKeptAt F.Row.cmp inst.net.now (F.rows_of rows.now inst.net.now)
@@ -225,12 +226,12 @@ pub fn price_path_over<'g, F: RowFamily>(
         inst.entry.bids.now node.now both.0) }
     ensures path { IfOk result (λ both. IsPathResult F.Row.cmp inst.entry.net.now
         (F.rows_of rows.now inst.entry.net.now) inst.entry.bids.now node.now ends.now.start.now
-        ends.now.steps ends.now.incumbent both.1) }
+        ends.now.steps incumbent both.1) }
     ensures replies { IfOk result (λ both. both.1.dual.replies ≡ replies_at both.0) }
 {
     let mut kept = kept;
     admit(alloc, inst, rows, node, &mut kept, entries(ends.start))?;
-    let priced = go_along(alloc, inst, rows, node, &mut kept, ends)?;
+    let priced = go_along(alloc, inst, rows, node, &mut kept, ends, incumbent)?;
     Ok((kept, priced))
 }
 

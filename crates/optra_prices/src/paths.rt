@@ -42,11 +42,7 @@ pub fn price_path<F: RowFamily, G: Graphs>(
 {
     let mut kept = keep_arcs(alloc, inst, graphs, rows)?;
     bring_to(alloc, inst, rows, node, &mut kept)?;
-    let ends = PathEnds {
-        start,
-        steps,
-        incumbent,
-    };
-    let (_kept, priced) = price_path_over(alloc, inst, rows, node, kept, &ends)?;
+    let ends = PathEnds { start, steps };
+    let (_kept, priced) = price_path_over(alloc, inst, rows, node, kept, &ends, incumbent)?;
     Ok(priced)
 }

@@ -99,12 +99,16 @@ fn path_result<'g, F: RowFamily>(
 {
     let zero = zero_prices(alloc);
     let from = start_of(start, &search.waiting, &zero);
-    let ends = PathEnds {
-        start: from,
-        steps,
-        incumbent: search.revenue,
-    };
-    let (kept, priced) = price_path_over(alloc, inst, rows, &search.node, kept, &ends)?;
+    let ends = PathEnds { start: from, steps };
+    let (kept, priced) = price_path_over(
+        alloc,
+        inst,
+        rows,
+        &search.node,
+        kept,
+        &ends,
+        search.revenue,
+    )?;
     Ok((priced, kept))
 }
 

@@ -28,11 +28,11 @@ returns-clause-path g c =
     let followed = c.follow.new.kept in
     let best = c.in_ok-best.best in
     let back = c.go_back.new.kept in
-    let fits : FitsSigned w64 c.args.ends.now.incumbent = search rules in
-    let ended : IsFollowed cmp s start steps c.args.ends.now.incumbent followed best = subst (λ (n : ℤ). IsFollowed cmp s start steps n followed best) (to_z-of_z w64 c.args.ends.now.incumbent fits) c.in_ok-best.ensures in
+    let fits : FitsSigned w64 c.args.incumbent = search rules in
+    let ended : IsFollowed cmp s start steps c.args.incumbent followed best = subst (λ (n : ℤ). IsFollowed cmp s start steps n followed best) (to_z-of_z w64 c.args.incumbent fits) c.in_ok-best.ensures in
     let prices : prices_at back ≡ listed_by followed best.prices.items = c.in_ok-go_back.ensures.prices ∙ ap (λ (ps : List (ℕ × ℤ)). listed_by followed ps) c.deref.ensures.value in
-    ok_by (λ (p : Priced g.row.F-Row.Denot). p.prices ≡ prices_at back) (λ (p : Priced g.row.F-Row.Denot). p.dual ≡ valuation_at rows back) (λ (p : Priced g.row.F-Row.Denot). IsPathResult cmp net rows bids node start steps c.args.ends.now.incumbent p)
-    c.priced_at.result (λ p is valued. result_is cmp s start steps c.args.ends.now.incumbent followed back best p ended c.in_ok-go_back.ensures.priced prices is valued) c.priced_at.ensures.prices c.priced_at.ensures.dual
+    ok_by (λ (p : Priced g.row.F-Row.Denot). p.prices ≡ prices_at back) (λ (p : Priced g.row.F-Row.Denot). p.dual ≡ valuation_at rows back) (λ (p : Priced g.row.F-Row.Denot). IsPathResult cmp net rows bids node start steps c.args.incumbent p)
+    c.priced_at.result (λ p is valued. result_is cmp s start steps c.args.incumbent followed back best p ended c.in_ok-go_back.ensures.priced prices is valued) c.priced_at.ensures.prices c.priced_at.ensures.dual
 
 pub returns-clause-replies : goal.returns-clause-replies
 returns-clause-replies g c =

@@ -20,8 +20,8 @@ returns-then-is_low g c =
     let cmp = g.F.Row.Ord.cmp in
     let start = c.args.ends.now.start.now in
     let steps = c.args.ends.now.steps in
-    let fits : FitsSigned w64 c.args.ends.now.incumbent = search rules in
-    let incumbent = to_z w64 (of_z w64 c.args.ends.now.incumbent) in
+    let fits : FitsSigned w64 c.args.incumbent = search rules in
+    let incumbent = to_z w64 (of_z w64 c.args.incumbent) in
     let kept = c.steps.kept in
     let whole : FitsSigned w128 kept.value = search rules in
     let best = c.steps.best in
@@ -29,7 +29,7 @@ returns-then-is_low g c =
     let count = c.steps.invariant.1 in
     let h = c.steps.invariant.2 in
     let low = subst (λ v. whole_cents v ≤ℤ incumbent) (to_z-of_z w128 kept.value whole) (c.is_low.ensures.0 c.if-is_low.true) in
-    subst (λ (n : ℤ). IsFollowed cmp s start steps n kept best) (to_z-of_z w64 c.args.ends.now.incumbent fits)
+    subst (λ (n : ℤ). IsFollowed cmp s start steps n kept best) (to_z-of_z w64 c.args.incumbent fits)
     (followed_low cmp s start steps incumbent kept best path h (c.steps.k + 1) (omega arith) (low_if cmp s start steps incumbent kept best path h low))
 
 pub steps-preserved : goal.steps-preserved
@@ -41,7 +41,7 @@ steps-preserved g c =
     let cmp = g.F.Row.Ord.cmp in
     let start = c.args.ends.now.start.now in
     let steps = c.args.ends.now.steps in
-    let incumbent = to_z w64 (of_z w64 c.args.ends.now.incumbent) in
+    let incumbent = to_z w64 (of_z w64 c.args.incumbent) in
     let kept = c.steps.kept in
     let whole : FitsSigned w128 kept.value = search rules in
     let best = c.steps.best in
@@ -63,8 +63,8 @@ returns g c =
     let cmp = g.F.Row.Ord.cmp in
     let start = c.args.ends.now.start.now in
     let steps = c.args.ends.now.steps in
-    let fits : FitsSigned w64 c.args.ends.now.incumbent = search rules in
-    let incumbent = to_z w64 (of_z w64 c.args.ends.now.incumbent) in
+    let fits : FitsSigned w64 c.args.incumbent = search rules in
+    let incumbent = to_z w64 (of_z w64 c.args.incumbent) in
     let count = c.steps.invariant.1 in
-    subst (λ (n : ℤ). IsFollowed cmp s start steps n c.steps.kept c.steps.best) (to_z-of_z w64 c.args.ends.now.incumbent fits)
+    subst (λ (n : ℤ). IsFollowed cmp s start steps n c.steps.kept c.steps.best) (to_z-of_z w64 c.args.incumbent fits)
     (followed_all cmp s start steps incumbent c.steps.kept c.steps.best c.steps.invariant.0 c.steps.invariant.2 (omega arith))
