@@ -111,7 +111,8 @@ fn print_bids(
     requires few { length minutes.now ≤ 35 }
     requires range { All IsSegment minutes.now }
     requires bids { All (IsInRange (length minutes.now + 1)) bids.now }
-    ensures { OnOk result (printer.new ≡ printer.old ++ records_text (map (bid_row minutes.now) bids.now)) }
+    ensures { OnOk result (printer.new ≡ printer.old ++ records_text
+        (map (bid_row minutes.now) bids.now)) }
 {
     'bids: for bid in bids {
         print_bid(alloc, printer, fields, minutes, bid)?;
@@ -234,7 +235,8 @@ fn print_all_stops(
     bids: &[DemoBid],
 ) -> Result<(), AllocError>
     requires { All (λ bid. bid.offset + bid.tracks ≤ 36) bids.now }
-    ensures { OnOk result (printer.new ≡ printer.old ++ records_text (flat_map stop_rows bids.now)) }
+    ensures { OnOk result (printer.new ≡ printer.old ++ records_text
+        (flat_map stop_rows bids.now)) }
 {
     'bids: for bid in bids {
         print_stops(alloc, printer, fields, bid)?;

@@ -115,7 +115,8 @@ pub fn print_texts(
     texts: &[&str],
 ) -> Result<(), AllocError>
     requires { is_shown (map (λ text. text.now) texts.now) ≡ true }
-    ensures { OnOk result (printer.new ≡ printer.old ++ record_text (map (λ text. text.now) texts.now)) }
+    ensures { OnOk result (printer.new ≡ printer.old ++ record_text
+        (map (λ text. text.now) texts.now)) }
 {
     fields.clear();
     fields.texts(texts)?;
@@ -139,7 +140,8 @@ fn print_stations(
     stations: u64,
 ) -> Result<(), AllocError>
     requires { stations ≤ 36 }
-    ensures { OnOk result (printer.new ≡ printer.old ++ records_text (flat_map station_rows (range_with_len 1 stations))) }
+    ensures { OnOk result (printer.new ≡ printer.old ++ records_text
+        (flat_map station_rows (range_with_len 1 stations))) }
 {
     'stations: for k in 0..stations {
         print_station(alloc, printer, fields, k + 1)?;
@@ -155,7 +157,8 @@ fn print_segments(
     count: u64,
 ) -> Result<(), AllocError>
     requires { count ≤ 35 }
-    ensures { OnOk result (printer.new ≡ printer.old ++ records_text (flat_map track_rows (segments count))) }
+    ensures { OnOk result (printer.new ≡ printer.old ++ records_text
+        (flat_map track_rows (segments count))) }
 {
     'segments: for k in 0..count {
         print_tracks(alloc, printer, fields, k + 1)?;
@@ -172,7 +175,8 @@ fn print_running_times(
 ) -> Result<(), AllocError>
     requires few { length minutes.now ≤ 35 }
     requires range { All IsSegment minutes.now }
-    ensures { OnOk result (printer.new ≡ printer.old ++ records_text (flat_map (running_rows minutes.now) (segments (length minutes.now)))) }
+    ensures { OnOk result (printer.new ≡ printer.old ++ records_text
+        (flat_map (running_rows minutes.now) (segments (length minutes.now)))) }
 {
     'segments: for (k, least) in minutes.iter().enumerate() {
         print_running_of(alloc, printer, fields, k as u64 + 1, u64::from(*least))?;
@@ -188,7 +192,8 @@ fn print_all_headways(
     count: u64,
 ) -> Result<(), AllocError>
     requires { count ≤ 35 }
-    ensures { OnOk result (printer.new ≡ printer.old ++ records_text (flat_map headway_rows (segments count))) }
+    ensures { OnOk result (printer.new ≡ printer.old ++ records_text
+        (flat_map headway_rows (segments count))) }
 {
     'segments: for k in 0..count {
         print_headways_of(alloc, printer, fields, k + 1)?;
@@ -251,7 +256,8 @@ fn print_track(
     from: u64,
     to: u64,
 ) -> Result<(), AllocError>
-    ensures { OnOk result (printer.new ≡ printer.old ++ record_text (named letter.now i ∷ station_name from ∷ station_name to ∷ [])) }
+    ensures { OnOk result (printer.new ≡ printer.old ++ record_text
+        (named letter.now i ∷ station_name from ∷ station_name to ∷ [])) }
 {
     fields.clear();
     put_name(alloc, fields, letter, i)?;
@@ -282,7 +288,8 @@ fn print_running(
     minutes: u64,
 ) -> Result<(), AllocError>
     requires { minutes ≤ 8 }
-    ensures { OnOk result (printer.new ≡ printer.old ++ records_text (map (running_row track.now minutes) all_kinds)) }
+    ensures { OnOk result (printer.new ≡ printer.old ++ records_text
+        (map (running_row track.now minutes) all_kinds)) }
 {
     print_running_row(printer, fields, track, minutes, Kind::Ic)?;
     print_running_row(printer, fields, track, minutes, Kind::Re)?;
@@ -298,7 +305,8 @@ fn print_running_row(
     kind: Kind,
 ) -> Result<(), AllocError>
     requires { minutes ≤ 8 }
-    ensures { OnOk result (printer.new ≡ printer.old ++ record_text (running_row track.now minutes kind)) }
+    ensures { OnOk result (printer.new ≡ printer.old ++ record_text
+        (running_row track.now minutes kind)) }
 {
     let least = minutes + extra_of(kind);
     fields.clear();
@@ -348,7 +356,8 @@ fn print_headways_behind(
     track: &str,
     first: Kind,
 ) -> Result<(), AllocError>
-    ensures { OnOk result (printer.new ≡ printer.old ++ records_text (map (headway_row track.now first) all_kinds)) }
+    ensures { OnOk result (printer.new ≡ printer.old ++ records_text
+        (map (headway_row track.now first) all_kinds)) }
 {
     print_headway(printer, fields, track, first, Kind::Ic)?;
     print_headway(printer, fields, track, first, Kind::Re)?;
@@ -363,7 +372,8 @@ fn print_headway(
     first: Kind,
     second: Kind,
 ) -> Result<(), AllocError>
-    ensures { OnOk result (printer.new ≡ printer.old ++ record_text (headway_row track.now first second)) }
+    ensures { OnOk result (printer.new ≡ printer.old ++ record_text
+        (headway_row track.now first second)) }
 {
     let slower = extra_of(first).saturating_sub(extra_of(second));
     fields.clear();

@@ -51,7 +51,8 @@ pub trait Disk {
         ensures leaves { Leaves (state self.old) (state self.new) }
         ensures cause { OnErr result (HasCause (state self.old) (state self.new)) }
         ensures chosen { OnOk result ((state self.new).chosen ≡ true) }
-        ensures name { OnOk result ((state self.old).tells ≡ true → (state self.new).name ≡ name.now) }
+        ensures name { OnOk result ((state self.old).tells ≡ true → (state self.new).name
+            ≡ name.now) }
         ensures same { OnErr result (SameChosen (state self.old) (state self.new)) }
         ensures file { KeepsFile (state self.old) (state self.new) };
 
@@ -62,14 +63,17 @@ pub trait Disk {
         ensures cause { OnErr result (HasCause (state self.old) (state self.new)) }
         ensures same { SameChosen (state self.old) (state self.new) }
         ensures file { KeepsFile (state self.old) (state self.new) }
-        ensures length { (state self.old).tells ≡ true → IfOk result (λ n. n ≡ length (state self.old).file.now.bytes) };
+        ensures length { (state self.old).tells ≡ true → IfOk result
+            (λ n. n ≡ length (state self.old).file.now.bytes) };
 
     /// The bytes of a range inside the length.
     fn read(&mut self, alloc: Global, at: u64, count: u64) -> Result<Vec<u8>, DiskError>
         requires chosen { (state self.old).chosen ≡ true }
-        requires inside { (state self.old).tells ≡ true → at + count ≤ length (state self.old).file.now.bytes }
+        requires inside { (state self.old).tells ≡ true → at + count ≤ length
+            (state self.old).file.now.bytes }
         ensures leaves { Leaves (state self.old) (state self.new) }
-        ensures cause { IsErrOf result DiskError.Failed → HasCause (state self.old) (state self.new) }
+        ensures cause { IsErrOf result DiskError.Failed → HasCause (state self.old)
+            (state self.new) }
         ensures same { SameChosen (state self.old) (state self.new) }
         ensures file { KeepsFile (state self.old) (state self.new) }
         ensures bytes { (state self.old).tells ≡ true
@@ -78,7 +82,8 @@ pub trait Disk {
     /// Writes over what is there, and past the end, from a place of at most the length.
     fn write_at(&mut self, at: u64, bytes: &[u8]) -> Result<(), DiskFailed>
         requires chosen { (state self.old).chosen ≡ true }
-        requires inside { (state self.old).tells ≡ true → at ≤ length (state self.old).file.now.bytes }
+        requires inside { (state self.old).tells ≡ true → at ≤ length
+            (state self.old).file.now.bytes }
         ensures leaves { Leaves (state self.old) (state self.new) }
         ensures cause { OnErr result (HasCause (state self.old) (state self.new)) }
         ensures same { SameChosen (state self.old) (state self.new) }
@@ -102,5 +107,6 @@ pub trait Disk {
 /// sync that succeeded, nothing else is.
 pub fn crash_laws()
     ensures read { (moment : Moment) → MayLeave moment moment.bytes }
-    ensures synced { (moment : Moment) (image : List ℕ) → IsSynced moment → MayLeave moment image → image ≡ moment.bytes }
+    ensures synced { (moment : Moment) (image : List ℕ) → IsSynced moment → MayLeave moment image
+        → image ≡ moment.bytes }
 {}

@@ -57,7 +57,8 @@ impl<'a, R: Files> Disk for FileDisk<'a, R> {
         ensures leaves { Leaves (file_state self.old) (file_state self.new) }
         ensures cause { OnErr result (HasCause (file_state self.old) (file_state self.new)) }
         ensures chosen { OnOk result ((file_state self.new).chosen ≡ true) }
-        ensures name { OnOk result ((file_state self.old).tells ≡ true → (file_state self.new).name ≡ name.now) }
+        ensures name { OnOk result ((file_state self.old).tells ≡ true → (file_state self.new).name
+            ≡ name.now) }
         ensures same { OnErr result (SameChosen (file_state self.old) (file_state self.new)) }
         ensures file { KeepsFile (file_state self.old) (file_state self.new) }
         ensures counts { file_state self.new ≡ after_choose (file_state self.old) result }
@@ -81,7 +82,8 @@ impl<'a, R: Files> Disk for FileDisk<'a, R> {
         ensures cause { OnErr result (HasCause (file_state self.old) (file_state self.new)) }
         ensures same { SameChosen (file_state self.old) (file_state self.new) }
         ensures file { KeepsFile (file_state self.old) (file_state self.new) }
-        ensures length { (file_state self.old).tells ≡ true → IfOk result (λ n. n ≡ length (file_state self.old).file.now.bytes) }
+        ensures length { (file_state self.old).tells ≡ true → IfOk result
+            (λ n. n ≡ length (file_state self.old).file.now.bytes) }
         ensures counts { file_state self.new ≡ after_call (file_state self.old) result }
     {
         if let Some(file) = &self.file {
@@ -96,7 +98,8 @@ impl<'a, R: Files> Disk for FileDisk<'a, R> {
     /// A read that gives nothing is a fault.
     fn read(&mut self, alloc: Global, at: u64, count: u64) -> Result<Vec<u8>, DiskError>
         ensures leaves { Leaves (file_state self.old) (file_state self.new) }
-        ensures cause { IsErrOf result DiskError.Failed → HasCause (file_state self.old) (file_state self.new) }
+        ensures cause { IsErrOf result DiskError.Failed → HasCause (file_state self.old)
+            (file_state self.new) }
         ensures same { SameChosen (file_state self.old) (file_state self.new) }
         ensures file { KeepsFile (file_state self.old) (file_state self.new) }
         ensures bytes { (file_state self.old).tells ≡ true

@@ -140,7 +140,8 @@ fn tear(bytes: &mut Vec<u8>, len: usize, written: &[Span], byte: u8)
 /// Has each place of these ranges hold one byte.
 fn fill_all(bytes: &mut Vec<u8>, written: &[Span], byte: u8)
     requires { AllByRecursion (EndsBy (length bytes.old.items)) (map range_of written.now) }
-    ensures bytes { bytes.new.items ≡ fold (filled byte) bytes.old.items (map range_of written.now) }
+    ensures bytes { bytes.new.items ≡ fold (filled byte) bytes.old.items
+        (map range_of written.now) }
     ensures len { length bytes.new.items ≡ length bytes.old.items }
     ensures capacity { vec_capacity bytes.new ≡ vec_capacity bytes.old }
 {
@@ -211,7 +212,8 @@ impl MemoryDisk {
           file = found (crash_image (self.old.calls % 2) self.old.file.now);
           left = None;
         } }
-        ensures possible { MayLeave self.old.file.now (crash_image (self.old.calls % 2) self.old.file.now) }
+        ensures possible { MayLeave self.old.file.now
+            (crash_image (self.old.calls % 2) self.old.file.now) }
     {
         let byte = (self.calls % 2) as u8;
         tear(&mut self.bytes, self.synced, &self.written, byte);
@@ -291,7 +293,8 @@ impl MemoryDisk {
 
     fn keep_sync(&mut self)
         requires { self.old.used + 64 ≤ self.old.room }
-        ensures { self.new ≡ record self.old { used = self.old.used + 64; file = after_sync self.old.file } }
+        ensures { self.new ≡ record self.old
+            { used = self.old.used + 64; file = after_sync self.old.file } }
     {
         self.used += 64;
         self.kept.push_reserved(Kept::Sync);
@@ -350,7 +353,8 @@ impl Disk for MemoryDisk {
         ensures file { self.new.file ≡ self.old.file }
         ensures exact { self.new ≡ after_look self.old }
         ensures failed { IsErrOf result DiskError.Failed ↔ IsTrue (call_fails self.old) }
-        ensures bytes { IfOk result (λ bytes. bytes.items ≡ take count (drop at self.old.file.now.bytes)) }
+        ensures bytes { IfOk result (λ bytes. bytes.items ≡ take count
+            (drop at self.old.file.now.bytes)) }
     {
         if self.count_call() {
             self.count_fault();

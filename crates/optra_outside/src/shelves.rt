@@ -59,5 +59,6 @@ pub trait Shelf {
         ensures leaves { PutLeaves (state self.old) (state self.new) }
         ensures ok { OnOk result ((state self.new).tells ≡ true
             → (state self.new).files ≡ insert (state self.old).files name.now bytes.now) }
-        ensures failed { OnErr result (PutFailed (state self.old) (state self.new) name.now result) };
+        ensures failed { OnErr result (PutFailed (state self.old)
+            (state self.new) name.now result) };
 }

@@ -54,14 +54,13 @@ fn go_steps<F: RowFamily>(
     ends: &PathEnds<'_, F::Row>,
     incumbent: Cents,
 ) -> Result<(), NoMemory>
-    requires following { IsFollowing F.Row.cmp
-        (setting inst.net.now (F.rows_of rows.now inst.net.now) (F.rows_used rows.now inst.net.now)
-        inst.bids.now node.now) ends.now.start.now ends.now.steps incumbent kept.old best.old (zero_candidate kept.old
-        ∷ candidate_at (F.rows_of rows.now inst.net.now) kept.old ∷ []) }
-    ensures { OnOk result
-        (IsFollowed F.Row.cmp (setting inst.entry.net.now (F.rows_of rows.now inst.entry.net.now)
-        (F.rows_used rows.now inst.entry.net.now) inst.entry.bids.now node.now) ends.now.start.now ends.now.steps
-        incumbent kept.new best.new) }
+    requires following { IsFollowing F.Row.cmp (setting inst.net.now
+        (F.rows_of rows.now inst.net.now) (F.rows_used rows.now inst.net.now) inst.bids.now
+        node.now) ends.now.start.now ends.now.steps incumbent kept.old best.old
+        (zero_candidate kept.old ∷ candidate_at (F.rows_of rows.now inst.net.now) kept.old ∷ []) }
+    ensures { OnOk result (IsFollowed F.Row.cmp (setting inst.entry.net.now
+        (F.rows_of rows.now inst.entry.net.now) (F.rows_used rows.now inst.entry.net.now)
+        inst.entry.bids.now node.now) ends.now.start.now ends.now.steps incumbent kept.new best.new) }
 {
     'steps: for k in 0..ends.steps {
         if is_low(kept.value, incumbent) {
@@ -87,10 +86,9 @@ fn follow<F: RowFamily>(
     requires numbered { AreNumbered kept.old ends.now.start.now }
     requires course { IsCourse F.Row.cmp (setting inst.net.now (F.rows_of rows.now inst.net.now)
         (F.rows_used rows.now inst.net.now) inst.bids.now node.now) kept.old }
-    ensures { IfOk result
-        (IsFollowed F.Row.cmp (setting inst.entry.net.now (F.rows_of rows.now inst.entry.net.now)
-        (F.rows_used rows.now inst.entry.net.now) inst.entry.bids.now node.now) ends.now.start.now ends.now.steps
-        incumbent kept.new) }
+    ensures { IfOk result (IsFollowed F.Row.cmp (setting inst.entry.net.now
+        (F.rows_of rows.now inst.entry.net.now) (F.rows_used rows.now inst.entry.net.now)
+        inst.entry.bids.now node.now) ends.now.start.now ends.now.steps incumbent kept.new) }
 {
     let mut best = Best {
         prices: Vec::new(alloc),
@@ -123,8 +121,8 @@ pub(crate) fn go_along<F: RowFamily>(
         (F.rows_of rows.now inst.entry.net.now) (F.rows_used rows.now inst.entry.net.now)
         inst.entry.bids.now node.now) kept.new) }
     ensures path { IfOk result (λ priced. IsPathResult F.Row.cmp inst.entry.net.now
-        (F.rows_of rows.now inst.entry.net.now) inst.entry.bids.now node.now ends.now.start.now ends.now.steps
-        incumbent priced) }
+        (F.rows_of rows.now inst.entry.net.now) inst.entry.bids.now node.now ends.now.start.now
+        ends.now.steps incumbent priced) }
     ensures replies { IfOk result (λ priced. priced.dual.replies ≡ replies_at kept.new) }
 {
     let best = follow(alloc, inst, rows, node, kept, ends, incumbent)?;

@@ -66,14 +66,16 @@ pub trait TableRows {
         cells: &ByteRecord,
     ) -> Result<(), TableError<Self::Fault>>
         requires { is_kept known.old }
-        ensures gives { GivesTable (λ _. known.new) result (step context.now known.old row (fields_of cells.now)) }
+        ensures gives { GivesTable (λ _. known.new) result
+            (step context.now known.old row (fields_of cells.now)) }
         ensures kept { OnOk result (is_kept known.new) }
         ensures room { OnOk result (room known.new + 1 ≤ room known.old) };
 }
 
 /// Whether the fields of a record are these texts.
 fn is_header(cells: &ByteRecord, header: &[&str]) -> bool
-    ensures { result ≡ pointwise bytes_eq (fields_of cells.now) (map (λ name. name.now) header.now) }
+    ensures { result ≡ pointwise bytes_eq (fields_of cells.now)
+        (map (λ name. name.now) header.now) }
 {
     if cells.len() != header.len() {
         return false;
@@ -93,7 +95,8 @@ pub fn under_header<F: Drop>(
     missing: F,
     cells: &mut ByteRecord,
 ) -> Result<(), TableError<F>>
-    ensures { GivesTable (λ _. records.new) result (rows_under missing (map (λ name. name.now) header.now) records.old) }
+    ensures { GivesTable (λ _. records.new) result
+        (rows_under missing (map (λ name. name.now) header.now) records.old) }
 {
     if !records.next(cells)? {
         return Err(TableError::Fault(missing));
@@ -117,7 +120,8 @@ fn read_rows<T: TableRows>(
 ) -> Result<(), TableError<T::Fault>>
     requires kept { T.is_kept known.old }
     requires room { T.room known.old < 2 ^ 31 }
-    ensures gives { GivesTable (λ _. known.new) result (rows_from (T.step context.now) known.old 2 records.old) }
+    ensures gives { GivesTable (λ _. known.new) result
+        (rows_from (T.step context.now) known.old 2 records.old) }
     ensures kept { OnOk result (T.is_kept known.new) }
 {
     let mut row = FIRST_ROW;
@@ -143,7 +147,9 @@ pub fn read_table<T: TableRows>(
 ) -> Result<(), TableError<T::Fault>>
     requires kept { T.is_kept known.old }
     requires room { T.room known.old < 2 ^ 31 }
-    ensures gives { GivesTable (λ _. known.new) result (table_of (T.step context.now) missing (map (λ name. name.now) header.now) known.old bytes.now) }
+    ensures gives { GivesTable (λ _. known.new) result
+        (table_of (T.step context.now) missing (map (λ name. name.now) header.now) known.old
+        bytes.now) }
     ensures kept { OnOk result (T.is_kept known.new) }
 {
     let mut records = Records::of_table(alloc, bytes);

@@ -200,7 +200,8 @@ fn meets_stops(net: &Network, kind: TypeId, legs: &[Leg], stops: &[Stop]) -> boo
 /// legs. The work is linear in the legs.
 pub fn follows(net: &Network, bid: &Bid, legs: &[Leg]) -> bool
     ensures walk { IsTrue result ↔ IsWalk net.now bid.now.path legs.now }
-    ensures rises { IsTrue result → AllPairs (λ before after. before.depart < after.depart) legs.now }
+    ensures rises { IsTrue result → AllPairs (λ before after. before.depart
+        < after.depart) legs.now }
     ensures differ { IsTrue result → AllPairs (λ before after. before ≢ after) legs.now }
     ensures ends { IsTrue result → last_arrival net.now bid.now.path.kind legs.now ≤ 2879 }
     ensures few { IsTrue result → (0 < length legs.now) × (length legs.now < 2880) }
