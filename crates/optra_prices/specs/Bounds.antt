@@ -6,6 +6,10 @@ use Rattle.optra_bid.specs.Specs.{IsBetween}
 abbrev pub most_price : ℕ
 most_price = 2000000000000
 
+-- the greatest capacity of a row
+abbrev pub most_capacity : ℕ
+most_capacity = 65535
+
 -- what a bid offers at most
 abbrev pub IsBase : ℤ → Type 0
 IsBase cents = IsBetween (pos 0) (pos 1000000000) cents

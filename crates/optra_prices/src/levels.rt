@@ -3,7 +3,7 @@
 //! Rows with a price, or with more uses than capacity, are active. A step moves these alone: the price of any other row is
 //! 0 and stays 0. The price of all capacity is kept by difference.
 ghost use Rattle.std.specs.Prelude.{◌≡◌, ◌+◌, ◌<◌, ◌≤◌, true, [], ◌∷◌, ◌++◌, pos, ◌+ℤ◌, ◌-ℤ◌, ◌*ℤ◌, All, IfOk, OnOk, length, slice_set};
-ghost use Rattle.optra_prices.specs.Bounds.{IsCapacityPrice, IsStepLength, IsWholePrice};
+ghost use Rattle.optra_prices.specs.Bounds.{IsCapacityPrice, IsStepLength, IsWholePrice, most_capacity};
 ghost use Rattle.optra_prices.specs.Columns.{IsColumns, PricesAllButDue};
 ghost use Rattle.optra_prices.specs.Levels.{IsLevels, IsMove, AreUnused, KeepsPrices, KeepsUses, Wakes, WakesAbove, Rests, MovesRow, MovesTo, HoldsPrices, moved_by, is_listed, next_at, use_of};
 ghost use Rattle.optra_prices.specs.Tables.{IsRowPrice};
@@ -34,7 +34,7 @@ pub(crate) struct Levels {
 /// A price times a capacity.
 fn capacity_product(price: i64, capacity: u32) -> i128
     requires price { IsRowPrice price }
-    requires capacity { capacity ≤ 65535 }
+    requires capacity { capacity ≤ most_capacity }
     ensures value { result ≡ price *ℤ pos capacity }
     ensures range { IsCapacityPrice result }
 {
@@ -45,7 +45,7 @@ fn capacity_product(price: i64, capacity: u32) -> i128
 fn capacity_after(total: i128, old: i64, new: i64, capacity: u32) -> i128
     requires old { IsRowPrice old }
     requires new { IsRowPrice new }
-    requires capacity { capacity ≤ 65535 }
+    requires capacity { capacity ≤ most_capacity }
     requires total { IsWholePrice total }
     ensures { result ≡ total +ℤ (new *ℤ pos capacity -ℤ old *ℤ pos capacity) }
 {
@@ -88,7 +88,7 @@ pub(crate) fn reserve_levels(levels: &mut Levels, count: usize) -> Result<(), No
 pub(crate) fn push_level(levels: &mut Levels, capacity: u32) -> Result<(), NoMemory>
     requires levels { IsLevels levels.old }
     requires unused { AreUnused levels.old }
-    requires small { capacity ≤ 65535 }
+    requires small { capacity ≤ most_capacity }
     ensures levels { OnOk result (IsLevels levels.new) }
     ensures unused { OnOk result (AreUnused levels.new) }
     ensures prices { OnOk result (levels.new.prices.items ≡ levels.old.prices.items ++ pos 0 ∷ []) }

@@ -1,7 +1,8 @@
 -- The end of a search: the nodes that still wait become leaves, one after the other.
-use Rattle.std.specs.Prelude.{◌≡◌, ◌++◌, List, length, map, All}
+use Rattle.std.specs.Prelude.{◌≡◌, ◌++◌, List, length, map, All, ℤ, pos}
 use Rattle.std.specs.declared.cmp.Ordering.{Ordering}
 use Rattle.optra_network.specs.Net.{Net}
+use Rattle.optra_bid.specs.Specs.{IsBetween}
 use Rattle.optra_bid.specs.declared.bids.Bid.{Bid}
 use Rattle.optra_walk.specs.Families.{Rows}
 use Rattle.optra_node.specs.declared.Item.{Item}
@@ -11,6 +12,10 @@ use Rattle.optra_prices.specs.Steps.{AreProper}
 use Rattle.optra_search.specs.Planner.{OpenNode, priced_open, Planned}
 use Rattle.optra_search.specs.Openings.{front, open_from, Nested, IsBoundSoFar}
 use Rattle.optra_search.specs.Searches.{Parts}
+
+-- what 1,000 bids are worth at most, in cents
+abbrev pub IsBound : ℤ → Type 0
+IsBound cents = IsBetween (pos 0) (pos 1000000000000) cents
 
 -- the nodes that wait, from the top down
 abbrev pub waiting_of : {R : Type 0} → Parts R → List (OpenNode R)

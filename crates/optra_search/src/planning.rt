@@ -1,10 +1,9 @@
 //! The plan of a search.
 ghost use Rattle.std.specs.Prelude.{◌≡◌, ◌⊎◌, ◌≤◌, ◌∷◌, [], None, true, pos, length, map, All, Contains, IfOk, OnOk};
-ghost use Rattle.optra_bid.specs.Specs.{IsBetween};
 ghost use Rattle.optra_prices.specs.Repairs.{empty_choice};
 ghost use Rattle.optra_search.specs.Planner.{IsPlainPlan};
 ghost use Rattle.optra_search.specs.Reached.{parts_of};
-ghost use Rattle.optra_search.specs.Closings.{plan_of};
+ghost use Rattle.optra_search.specs.Closings.{IsBound, plan_of};
 
 use crate::closing::close_all;
 use crate::means::Means;
@@ -56,7 +55,7 @@ fn first_search<R: Drop>(alloc: Global, inst: Instance<'_>) -> Result<Search<R>,
 
 /// The plan of a search in which no node waits.
 fn finish<R: Drop>(search: Search<R>) -> Plan<R>
-    requires { IsBetween (pos 0) (pos 1000000000000) search.bound }
+    requires { IsBound search.bound }
     ensures { result ≡ plan_of (parts_of search) }
 {
     Plan {

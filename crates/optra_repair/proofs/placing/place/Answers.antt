@@ -4,7 +4,7 @@ use Rattle.std.proofs.lemmas.Result.{IfOk-weaker}
 use Rattle.optra_walk.specs.declared.Leg.{Leg}
 use Rattle.optra_graph.specs.Timed.{IsRoute, walk_of}
 use Rattle.optra_prices.specs.Arcs.{path_reply}
-use Rattle.optra_prices.specs.Parts.{IsTableGraph}
+use Rattle.optra_prices.specs.Parts.{IsRoomIn, IsTableGraph}
 use Rattle.optra_prices.proofs.ListLemmas.{some_at}
 use Rattle.optra_repair.specs.Placings.{IsBestAllowed, IsWorthiest}
 use Rattle.optra_repair.proofs.GivenLemmas.{none_allowed, none_placeable, best_worthiest, put_given}
@@ -66,7 +66,7 @@ returns-then-not-branch-clause-given g c bid total placed at within room totals 
     none_placeable net rows bids c.args.node.now n bid placed none
 
 pub put-requires-2-clause-route : goal.put-requires-2-clause-route
-put-requires-2-clause-route g c t there = subst (IsRoute t) (sym c.path.ensures) (c.in_ok-worthiest.ensures.route t c.if-not-branch.false there)
+put-requires-2-clause-route g c t there = subst (IsRoute t) (sym c.path-path.ensures) (c.in_ok-worthiest.ensures.route t c.if-not-branch.false there)
 
 pub returns-clause-given : goal.returns-clause-given
 returns-clause-given g c =
@@ -81,10 +81,18 @@ returns-clause-given g c =
     let table = some_at tables n l in
     let t = table.0.graph.now in
     let there : IsTableGraph c.args.kept.now n t = (table.0, table.1, refl) in
-    let path = c.path.result.now in
+    let path = c.path-path.result.now in
     IfOk-weaker c.put-2.result _ _
     (λ given put bid total placed at within room totals.
     let found = c.in_ok-worthiest.ensures.worthiest bid t total placed at there room within totals in
-    let worthiest = subst (λ (walk : Option (List Leg)). IsWorthiest net rows bids node placed n bid walk) (found_some t _ c.in_ok-worthiest.field-0 c.if-not-branch.false ∙ ap (λ (arcs : List ℕ). Some (walk_of t arcs)) (sym c.path.ensures)) found in
-    put_given net rows bids node n bid placed total within totals _ (walk_of t path) given worthiest (put bid t total at there within room))
+    let worthiest = subst (λ (walk : Option (List Leg)). IsWorthiest net rows bids node placed n bid walk) (found_some t _ c.in_ok-worthiest.field-0 c.if-not-branch.false ∙ ap (λ (arcs : List ℕ). Some (walk_of t arcs)) (sym c.path-path.ensures)) found in
+    put_given net rows bids node n bid placed total within totals _ (walk_of t path) given worthiest
+    (put bid t total at there within (subst (IsRoomIn rows c.args.kept.now total) (sym c.in_ok-worthiest.ensures.room) room)))
     c.put-2.ensures.put
+
+pub returns-clause-room : goal.returns-clause-room
+returns-clause-room g c =
+    let rows = g.F.RowFamily.rows_of c.args.rows.now c.args.inst.net.now in
+    IfOk-weaker c.put-2.result _ _
+    (λ given put bid total at within room. put bid total at within (subst (IsRoomIn rows c.args.kept.now total) (sym c.in_ok-worthiest.ensures.room) room))
+    c.put-2.ensures.room

@@ -18,7 +18,7 @@ loop-turn-init g c =
       none,
       subst (λ (walks : List (Option (List Leg))). IsUnderWay net rows bids c.args.node.now c.args.order.now c.args.order.now walks none) (sym c.in_ok-walks.ensures)
           (none_placed net rows bids c.args.node.now c.args.order.now none c.requires.within (λ row. refl)),
-      c.in_ok-room.ensures,
+      c.in_ok-free_room.ensures,
     )
 
 pub place-requires-clause-number : goal.place-requires-clause-number

@@ -1,5 +1,5 @@
 -- A priced turn.
-use Rattle.std.proofs.Common.{◌≡◌, length, subst, sym, ap, ◌∙◌, rules, FitsSigned}
+use Rattle.std.proofs.Common.{◌≡◌, length, subst, sym, ap, ◌∙◌, rules, arith, FitsSigned}
 use Rattle.std.specs.Int.{w128}
 use Rattle.std.proofs.lemmas.Int.{to_z-of_z}
 use Rattle.optra_node.specs.Nodes.{IsNode}
@@ -44,6 +44,12 @@ improve-search-requires-clause-choice g c =
     let net = c.args.inst.net.now in
     repaired_choice g.F.Row.Ord.cmp net c.args.inst.proper (g.F.RowFamily.rows_of c.args.rows.now net) c.args.inst.bids.now c.args.means.now.limits.steps c.args.means.now.limits.budget c.args.start (parts_of c.args.search) c.requires.entered c.requires.lives
     c.in_ok-priced.priced c.in_ok-priced.ensures.path c.in_ok-repaired.repaired c.in_ok-repaired.ensures
+
+pub improve-search-requires-clause-room : goal.improve-search-requires-clause-room
+improve-search-requires-clause-room g c =
+    let most = c.args.means.now.budget in
+    let below = c.requires.entered.below in
+    omega (arith, most, below)
 
 pub outcome-requires-clause-node : goal.outcome-requires-clause-node
 outcome-requires-clause-node g c =

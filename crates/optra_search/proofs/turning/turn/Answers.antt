@@ -1,5 +1,5 @@
 -- One turn.
-use Rattle.std.proofs.Common.{sym, subst}
+use Rattle.std.proofs.Common.{sym, subst, arith}
 use Rattle.optra_search.specs.Searches.{IsReached}
 use Rattle.optra_search.specs.Reached.{parts_of}
 use Rattle.optra_search.proofs.SearchLemmas.{top_depth, entered_top, entered_node, dead_next}
@@ -27,6 +27,12 @@ dead_over-requires-clause-node g c =
     let node = c.enter.new.node in
     let is = entered_top g.F.Row.Ord.cmp net rows c.args.inst.bids.now c.args.means.now.limits.steps c.args.means.now.limits.budget s c.args.top node c.requires.reached c.in_ok-enter.ensures c.requires.below in
     entered_node g.F.Row.Ord.cmp net c.args.inst.proper rows c.args.inst.bids.now c.args.means.now.limits.steps c.args.means.now.limits.budget c.args.top.start (record s { node = node }) is
+
+pub end_dead-requires : goal.end_dead-requires
+end_dead-requires g c =
+    let most = c.args.means.now.budget in
+    let below = c.requires.below in
+    omega (arith, most, below)
 
 pub returns-in_ok-after-in-Some-clause-reached : goal.returns-in_ok-after-in-Some-clause-reached
 returns-in_ok-after-in-Some-clause-reached g c =
