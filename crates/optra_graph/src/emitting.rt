@@ -30,8 +30,8 @@ pub fn add_starts(
     requires arcs { dag.old.arcs ≡ [] }
     requires ends { length dag.old.ends ≡ node_of kept.flags.now (places_of layout) + 1 }
     requires minutes { minutes.old.items ≡ [] }
-    ensures starts { OnOk result (Starts bid.now.path layout.entry kept.entry.flags.now (layout.entry.first
-        + layout.entry.minutes) dag.new.arcs minutes.new.items) }
+    ensures starts { OnOk result (Starts bid.now.path layout.entry kept.entry.flags.now
+        (layout.entry.first + layout.entry.minutes) dag.new.arcs minutes.new.items) }
     ensures ends { OnOk result (dag.new.ends ≡ dag.old.ends) }
 {
     for minute in layout.first..starts_end(bid, layout) {
@@ -56,7 +56,8 @@ pub fn add_legs(
     table: &StepTable,
 ) -> Result<(), NoMemory>
     requires setting { IsSetting net.now bid.now.path layout }
-    requires steps { AreStepsTo net.now bid.now.path layout (places_of layout) kept.flags.now table.now }
+    requires steps { AreStepsTo net.now bid.now.path layout
+        (places_of layout) kept.flags.now table.now }
     requires flags { length kept.flags.now ≡ places_of layout + 1 }
     requires starts { All (λ arc. arc.from ≡ 0) dag.old.arcs }
     requires few { length dag.old.arcs ≤ 2880 }
@@ -89,8 +90,8 @@ fn add_arcs(
     requires nodes { All (λ step. node_of kept.flags.now step.to < length dag.old.ends) steps.now }
     requires sorted { All (λ before. before.from ≤ from) dag.old.arcs }
     requires room { length dag.old.arcs + length steps.now ≤ 2 ^ 32 - 1 }
-    ensures arcs { OnOk result (dag.new.arcs ≡ dag.old.arcs
-        ++ map (arc_of kept.entry.flags.now from) (filter (is_kept kept.entry.flags.now) steps.now)) }
+    ensures arcs { OnOk result (dag.new.arcs ≡ dag.old.arcs ++ map
+        (arc_of kept.entry.flags.now from) (filter (is_kept kept.entry.flags.now) steps.now)) }
     ensures legs { OnOk result (legs.new.items ≡ legs.old.items
         ++ map leg_of_step (filter (is_kept kept.entry.flags.now) steps.now)) }
     ensures ends { OnOk result (dag.new.ends ≡ dag.old.ends) }
