@@ -1,17 +1,23 @@
 -- What a choice earns, bid by bid.
 use Rattle.std.proofs.Common.{◌≡◌, ℕ, zero, suc, ◌+◌, ◌≤◌, ◌<◌, List, [], ◌∷◌, length, drop, get_or, Option, None, Some, IfSome, refl, ap, arith, add-one}
-use Rattle.std.specs.Prelude.{pos, ◌+ℤ◌}
+use Rattle.std.specs.Prelude.{ℤ, pos, ◌+ℤ◌}
 use Rattle.std.proofs.lemmas.Int.{ints}
 use Rattle.optra_network.specs.Net.{Net}
 use Rattle.optra_bid.specs.declared.bids.Bid.{Bid}
 use Rattle.optra_walk.specs.declared.Leg.{Leg}
 use Rattle.optra_walk.specs.Walks.{IsWalk}
 use Rattle.optra_walk.specs.Choices.{IsChoice, revenue_of}
+use Rattle.optra_walk.specs.Values.{value_of}
 
 revenue-cons : (net : Net) (bid : Bid) (bids : List Bid) (walk : Option (List Leg)) (walks : List (Option (List Leg)))
     → revenue_of net (bid ∷ bids) (walk ∷ walks) ≡ revenue_of net (bid ∷ []) (walk ∷ []) +ℤ revenue_of net bids walks
 revenue-cons net bid bids None walks = omega (arith, ints)
 revenue-cons net bid bids (Some legs) walks = omega (arith, ints)
+
+-- a bid whose walk is there earns its value
+pub revenue_alone : (net : Net) (bid : Bid) (entry : Option (List Leg)) (legs : List Leg) (earned : ℤ) → entry ≡ Some legs
+    → earned ≡ value_of net bid.path bid.money legs → earned ≡ revenue_of net (bid ∷ []) (entry ∷ [])
+revenue_alone net bid entry legs earned is e = rw is (omega (arith, ints))
 
 -- from a place on, its bid earns first
 pub revenue_at : (net : Net) (bids : List Bid) (walks : List (Option (List Leg))) (i : ℕ) (bid : Bid) (walk : Option (List Leg)) → i < length bids → i < length walks

@@ -3,6 +3,7 @@ pub mod OwnLemmas
 pub mod OpenLemmas
 pub mod ToComeLemmas
 pub mod AtLemmas
+pub mod HereLemmas
 pub mod BehindLemmas
 pub mod EarnLemmas
 pub mod FitLemmas
@@ -21,6 +22,8 @@ pub mod TrackLemmas
 pub mod ValueLemmas
 pub mod FillLemmas
 pub mod StartLemmas
+pub mod StuckLemmas
+pub mod SkipLemmas
 pub mod UsedLemmas
 pub mod LeafLemmas
 pub mod BoundLemmas

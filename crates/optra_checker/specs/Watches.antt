@@ -36,6 +36,12 @@ pub record AreWatches {R : Type 0} (rows : Rows R) (bids : List Bid) (loads : R 
   pub count : length watches ≡ length frees
   pub each : (number : ℕ) (free : Free) (watched : Option (List R)) → slice_get frees number ≡ Some free → slice_get watches number ≡ Some watched → AreWatched rows (kind_at bids number) loads watched free.legs.items
 
+-- one for each bid, by loads of the rows that the legs of a tree's splits use
+pub record AreTreeWatches {R : Type 0} (rows : Rows R) (bids : List Bid) (tree : List (Item R)) (frees : List Free) (watches : List (Option (List R))) : Type 0 where
+  pub loads : R → ℕ
+  pub split : AreSplitLoads rows bids tree loads
+  pub are : AreWatches rows bids loads frees watches
+
 -- nothing of the node bears on the walk of the bid: no decision is for it, no row has a price, and the yes legs use nothing
 -- of what is watched
 pub record IsLetBe {R : Type 0} (rows : Rows R) (bids : List Bid) (node : List Decision) (prices : PriceList R) (number : ℕ) (watched : Option (List R)) (legs : List Leg) : Type 0 where

@@ -5,7 +5,7 @@ ghost use Rattle.optra_node.specs.Trees.{IsTree, places};
 ghost use Rattle.optra_node.specs.Certificates.{IsFormedItem, SplitsUndecided, HasPrices, IsGreatestBound};
 ghost use Rattle.optra_node.specs.Nodes.{yes_load};
 ghost use Rattle.optra_checker.specs.Frees.{AreFree};
-ghost use Rattle.optra_checker.specs.Watches.{AreWatches};
+ghost use Rattle.optra_checker.specs.Watches.{AreWatches, AreTreeWatches};
 ghost use Rattle.optra_checker.specs.Bounds.{IsItemBound, IsGreatestOf};
 
 use crate::frees::{Free, find_frees};
@@ -13,7 +13,7 @@ use crate::open_node::OpenNode;
 use crate::rest_table::RestTable;
 use crate::rests::greater;
 use crate::terms::leaf_bound;
-use crate::watches::{find_watches, split_loads};
+use crate::watches::find_watches;
 use optra_network::{Cents, NoMemory};
 use optra_node::{Item, Prices};
 use optra_walk::{Instance, RowFamily};
@@ -54,6 +54,58 @@ fn item_bound<F: RowFamily>(
     }
 }
 
+/// As [`greatest_bound`], with the best walks of the bids and the rows that are watched for them at
+/// hand.
+fn greatest_over<F: RowFamily>(
+    alloc: Global,
+    inst: Instance<'_>,
+    rows: &F,
+    tree: &[Item<F::Row>],
+    frees: &[Free],
+    watches: &[Option<Vec<F::Row>>],
+    table: &mut RestTable,
+) -> Result<Option<i128>, NoMemory>
+    requires whole { IsTree tree.now }
+    requires items { All (IsFormedItem F.Row.cmp inst.net.now (length inst.bids.now)) tree.now }
+    requires splits { All (λ p. SplitsUndecided p.0 p.1) (places tree.now) }
+    requires prices { All (HasPrices (F.rows_of rows.now inst.net.now)) tree.now }
+    requires frees { AreFree inst.net.now inst.bids.now frees.now }
+    requires watches { AreTreeWatches (F.rows_of rows.now inst.net.now) inst.bids.now tree.now
+        frees.now (map (option_map (λ w. w.items)) watches.now) }
+    ensures { IfOk result (IsGreatestOf inst.entry.net.now (F.rows_of rows.now inst.entry.net.now)
+        inst.entry.bids.now (places tree.now)) }
+{
+    let mut node = OpenNode::new(alloc, inst, rows)?;
+    let mut greatest = None;
+    'items: for item in tree {
+        let cents = item_bound(alloc, &node, item, frees, watches, table)?;
+        greatest = greater(greatest, cents);
+        node = node.pass(item)?;
+    }
+    Ok(greatest)
+}
+
+/// As [`greatest_bound`], with the best walks of the bids at hand.
+fn greatest_by<F: RowFamily>(
+    alloc: Global,
+    inst: Instance<'_>,
+    rows: &F,
+    tree: &[Item<F::Row>],
+    frees: &[Free],
+    table: &mut RestTable,
+) -> Result<Option<i128>, NoMemory>
+    requires whole { IsTree tree.now }
+    requires items { All (IsFormedItem F.Row.cmp inst.net.now (length inst.bids.now)) tree.now }
+    requires splits { All (λ p. SplitsUndecided p.0 p.1) (places tree.now) }
+    requires prices { All (HasPrices (F.rows_of rows.now inst.net.now)) tree.now }
+    requires frees { AreFree inst.net.now inst.bids.now frees.now }
+    ensures { IfOk result (IsGreatestOf inst.entry.net.now (F.rows_of rows.now inst.entry.net.now)
+        inst.entry.bids.now (places tree.now)) }
+{
+    let watches = find_watches(alloc, inst, rows, tree, frees)?;
+    greatest_over(alloc, inst, rows, tree, frees, &watches, table)
+}
+
 /// The greatest bound of the leaves with prices, in whole cents; `None` where there is no such
 /// leaf.
 fn greatest_bound<F: RowFamily>(
@@ -69,18 +121,9 @@ fn greatest_bound<F: RowFamily>(
     ensures { IfOk result (IsGreatestOf inst.entry.net.now (F.rows_of rows.now inst.entry.net.now)
         inst.entry.bids.now (places tree.now)) }
 {
-    let mut node = OpenNode::new(alloc, inst, rows)?;
     let mut table = RestTable::new(alloc);
     let frees = find_frees(alloc, inst, &mut table)?;
-    let loads = split_loads(alloc, inst, rows, tree)?;
-    let watches = find_watches(alloc, inst, rows, &loads, &frees)?;
-    let mut greatest = None;
-    'items: for item in tree {
-        let cents = item_bound(alloc, &node, item, &frees, &watches, &mut table)?;
-        greatest = greater(greatest, cents);
-        node = node.pass(item)?;
-    }
-    Ok(greatest)
+    greatest_by(alloc, inst, rows, tree, &frees, &mut table)
 }
 
 /// Whether there is a number and it is the stated one.

@@ -2,9 +2,9 @@
 //!
 //! Such a walk that a node still allows, at no price, is the best that the node allows. So most
 //! bids need no search at most leaves.
-ghost use Rattle.std.specs.Prelude.{◌≡◌, ◌↔◌, IfOk, IsTrue, Some, pos, negsuc, ◌*ℤ◌};
-ghost use Rattle.optra_bid.specs.Specs.{IsPathOn, IsBetween};
-ghost use Rattle.optra_walk.specs.Values.{value_of};
+ghost use Rattle.std.specs.Prelude.{◌≡◌, ◌↔◌, IfOk, IsTrue, Some, pos, ◌*ℤ◌};
+ghost use Rattle.optra_bid.specs.Specs.{IsPathOn};
+ghost use Rattle.optra_walk.specs.Values.{IsValue, value_of};
 ghost use Rattle.optra_walk.specs.Walks.{IsWalk};
 ghost use Rattle.optra_checker.specs.Frees.{IsFree, AreFree, Attains};
 
@@ -53,7 +53,7 @@ impl<'a> Weighing for FreeWeights<'a> {
 
 /// The value of a walk in thousandths of a cent.
 fn thousandths(cents: Cents) -> i128
-    requires { IsBetween (negsuc 19999999999) (pos 1000000000) cents }
+    requires { IsValue cents }
     ensures { result ≡ pos 1000 *ℤ cents }
 {
     i128::from(cents) * 1000

@@ -1,10 +1,10 @@
 //! The prices of a leaf, looked up by row.
 ghost use Rattle.std.specs.Prelude.{◌≡◌, ◌↔◌, [], pos, ◌*ℤ◌, All, IsTrue};
 ghost use Rattle.std.specs.Ordering.{eq_by_cmp};
-ghost use Rattle.optra_bid.specs.Specs.{IsBetween};
 ghost use Rattle.optra_walk.specs.Families.{IsUsable};
 ghost use Rattle.optra_node.specs.Duals.{ArePrices, price_of, leg_price, capacity_price};
 ghost use Rattle.optra_node.specs.Certificates.{AreAscending};
+ghost use Rattle.optra_checker.specs.Sizes.{IsRowPrice, IsLegPrice, IsCapacityPrice};
 
 use optra_network::{Network, TypeId};
 use optra_node::prices_by_used_rows;
@@ -13,9 +13,9 @@ use optra_walk::{Instance, Leg, RowFamily};
 /// The price of a row, 0 where it is not listed, by a search in prices whose rows ascend.
 fn price_at<R: Copy + Ord>(prices: &[(R, i64)], row: R) -> i64
     requires ascending { AreAscending R.cmp prices.now }
-    requires small { All (λ entry. IsBetween (pos 0) (pos 2000000000000) entry.1) prices.now }
+    requires small { All (λ entry. IsRowPrice entry.1) prices.now }
     ensures value { result ≡ price_of (eq_by_cmp R.cmp) prices.now row }
-    ensures range { IsBetween (pos 0) (pos 2000000000000) result }
+    ensures range { IsRowPrice result }
 {
     match prices.binary_search_by_key(&row, |entry| entry.0) {
         Ok(place) => prices[place].1,
@@ -25,7 +25,7 @@ fn price_at<R: Copy + Ord>(prices: &[(R, i64)], row: R) -> i64
 
 /// A price times how much is used, or how much there is.
 fn times(price: i64, count: u32) -> i128
-    requires { IsBetween (pos 0) (pos 2000000000000) price }
+    requires { IsRowPrice price }
     ensures { result ≡ price *ℤ pos count }
 {
     i128::from(price) * i128::from(count)
@@ -43,7 +43,7 @@ fn used_price<F: RowFamily>(
     requires ascending { AreAscending F.Row.cmp prices.now }
     requires prices { ArePrices (F.rows_of rows.now inst.net.now) prices.now }
     ensures value { result ≡ leg_price (F.rows_of rows.now inst.entry.net.now) prices.now kind leg }
-    ensures range { IsBetween (pos 0) (pos 16384000000000000) result }
+    ensures range { IsLegPrice result }
 {
     prices_by_used_rows(inst, rows);
     let mut total: i128 = 0;
@@ -77,7 +77,7 @@ pub(crate) fn leg_price<F: RowFamily>(
     requires ascending { AreAscending F.Row.cmp prices.now }
     requires prices { ArePrices (F.rows_of rows.now inst.net.now) prices.now }
     ensures value { result ≡ leg_price (F.rows_of rows.now inst.entry.net.now) prices.now kind leg }
-    ensures range { IsBetween (pos 0) (pos 16384000000000000) result }
+    ensures range { IsLegPrice result }
 {
     if are_none(prices) {
         return 0;
@@ -93,7 +93,7 @@ pub(crate) fn capacity_price<F: RowFamily>(
 ) -> i128
     requires { ArePrices (F.rows_of rows.now net.now) prices.now }
     ensures value { result ≡ capacity_price (F.rows_of rows.now net.now) prices.now }
-    ensures range { IsBetween (pos 0) (pos 2417851639229258349412352000000000000) result }
+    ensures range { IsCapacityPrice result }
 {
     net.laws();
     let mut total: i128 = 0;

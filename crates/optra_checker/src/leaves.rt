@@ -14,7 +14,12 @@ use optra_walk::{Instance, RowFamily};
 use std::alloc::Global;
 
 /// Whether the bid has a yes leg and no allowed walk.
-fn is_stuck<F: RowFamily>(alloc: Global, node: &OpenNode<'_, F>, bid: u32) -> Result<bool, NoMemory>
+fn is_stuck<F: RowFamily>(
+    alloc: Global,
+    node: &OpenNode<'_, F>,
+    bid: u32,
+    table: &mut RestTable,
+) -> Result<bool, NoMemory>
     requires instance { IsInstance node.now.net node.now.bids }
     requires bid { bid < length node.now.bids }
     ensures { IfOk result (λ stuck. IsTrue stuck ↔ IsSomeAnd (slice_get node.now.bids bid) (λ b.
@@ -22,8 +27,7 @@ fn is_stuck<F: RowFamily>(alloc: Global, node: &OpenNode<'_, F>, bid: u32) -> Re
         bid b)) }
 {
     let prices = Vec::new(alloc);
-    let mut table = RestTable::new(alloc);
-    let best = best_offer(alloc, node, &prices, bid, None, &mut table)?;
+    let best = best_offer(alloc, node, &prices, bid, None, table)?;
     Ok(best.is_none())
 }
 
@@ -32,6 +36,7 @@ fn ends_dead<F: RowFamily>(
     alloc: Global,
     node: &OpenNode<'_, F>,
     item: &Item<F::Row>,
+    table: &mut RestTable,
 ) -> Result<bool, NoMemory>
     requires instance { IsInstance node.now.net node.now.bids }
     requires formed { IsFormedItem F.Row.cmp node.now.net (length node.now.bids) item.now }
@@ -39,10 +44,35 @@ fn ends_dead<F: RowFamily>(
         node.now.net) node.now.bids node.now.node item.now) }
 {
     match item {
-        Item::NoWalk { bid } => is_stuck(alloc, node, *bid),
+        Item::NoWalk { bid } => is_stuck(alloc, node, *bid, table),
         Item::Forced { row } => Ok(node.is_overfull(*row)),
         Item::Split { .. } | Item::Priced { .. } => Ok(true),
     }
+}
+
+/// As [`leaves_hold`], with room for searches.
+fn leaves_hold_by<F: RowFamily>(
+    alloc: Global,
+    inst: Instance<'_>,
+    rows: &F,
+    tree: &[Item<F::Row>],
+    table: &mut RestTable,
+) -> Result<bool, NoMemory>
+    requires whole { IsTree tree.now }
+    requires items { All (IsFormedItem F.Row.cmp inst.net.now (length inst.bids.now)) tree.now }
+    requires splits { All (λ p. SplitsUndecided p.0 p.1) (places tree.now) }
+    ensures { IfOk result (λ hold. IsTrue hold
+        ↔ All (λ p. EndsDead inst.entry.net.now (F.rows_of rows.now inst.entry.net.now)
+        inst.entry.bids.now p.0 p.1) (places tree.now)) }
+{
+    let mut node = OpenNode::new(alloc, inst, rows)?;
+    'items: for item in tree {
+        if !ends_dead(alloc, &node, item, table)? {
+            return Ok(false);
+        }
+        node = node.pass(item)?;
+    }
+    Ok(true)
 }
 
 /// Whether each leaf without prices is dead.
@@ -59,12 +89,6 @@ pub(crate) fn leaves_hold<F: RowFamily>(
         ↔ All (λ p. EndsDead inst.entry.net.now (F.rows_of rows.now inst.entry.net.now)
         inst.entry.bids.now p.0 p.1) (places tree.now)) }
 {
-    let mut node = OpenNode::new(alloc, inst, rows)?;
-    'items: for item in tree {
-        if !ends_dead(alloc, &node, item)? {
-            return Ok(false);
-        }
-        node = node.pass(item)?;
-    }
-    Ok(true)
+    let mut table = RestTable::new(alloc);
+    leaves_hold_by(alloc, inst, rows, tree, &mut table)
 }

@@ -6,13 +6,13 @@ ghost use Rattle.optra_node.specs.Nodes.{IsFormedLeg, IsFormedDecision, IsUndeci
 ghost use Rattle.optra_node.specs.Spans.{IsLegOk, IsLetBy, IsStartOk};
 ghost use Rattle.optra_node.specs.Summaries.{decisions_for};
 ghost use Rattle.optra_node.specs.Trees.{children};
-ghost use Rattle.optra_bid.specs.Specs.{IsBetween};
 ghost use Rattle.optra_walk.specs.Families.{IsUsable};
 ghost use Rattle.optra_node.specs.Duals.{PriceList, ArePrices, leg_price, capacity_price};
 ghost use Rattle.optra_node.specs.Certificates.{IsFormedItem, SplitsUndecided, AreAscending};
 ghost use Rattle.optra_checker.specs.Leaves.{weights_at};
 ghost use Rattle.optra_checker.specs.Keyed.{yes_part};
 ghost use Rattle.optra_checker.specs.Loaded.{AreRising, AreLoaded, KeepsOff};
+ghost use Rattle.optra_checker.specs.Sizes.{IsLegPrice, IsCapacityPrice};
 ghost use Rattle.optra_checker.specs.Tests.{may_have_leg, may_start_at};
 ghost use Rattle.optra_checker.specs.Weights.{AreAlike};
 ghost use Rattle.optra_checker.specs.ToCome.{to_come, IsNextWay};
@@ -418,7 +418,7 @@ impl<'a, F: RowFamily> OpenNode<'a, F> {
         requires proper { ArePrices (F.rows_of self.now.family self.now.net) prices.now }
         ensures value { result ≡ leg_price (F.rows_of self.now.family self.now.net) prices.now
             (kind_at self.now.bids bid) leg }
-        ensures range { IsBetween (pos 0) (pos 16384000000000000) result }
+        ensures range { IsLegPrice result }
     {
         let inst = self.inst;
         leg_price(inst, self.rows, prices, kind_at(inst, bid), leg)
@@ -429,7 +429,7 @@ impl<'a, F: RowFamily> OpenNode<'a, F> {
         requires { ArePrices (F.rows_of self.now.family self.now.net) prices.now }
         ensures value { result ≡ capacity_price (F.rows_of self.now.family self.now.net)
             prices.now }
-        ensures range { IsBetween (pos 0) (pos 2417851639229258349412352000000000000) result }
+        ensures range { IsCapacityPrice result }
     {
         capacity_price(self.inst.net, self.rows, prices)
     }

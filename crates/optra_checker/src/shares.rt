@@ -1,10 +1,10 @@
 //! What starts and legs add to the worth of a walk, apart from the costs of legs, in thousandths of
 //! a cent.
 ghost use Rattle.std.specs.Prelude.{◌≡◌, ◌-◌, ◌<◌, ◌^◌, pos, ◌+ℤ◌, ◌-ℤ◌, ◌*ℤ◌};
-ghost use Rattle.optra_bid.specs.Specs.{IsRate, IsBetween};
+ghost use Rattle.optra_bid.specs.Specs.{IsRate};
 ghost use Rattle.optra_walk.specs.Values.{price_off};
 ghost use Rattle.optra_checker.specs.Rests.{start_value, end_price, wait_price};
-ghost use Rattle.optra_checker.specs.Shares.{IsShare, IsStartValue};
+ghost use Rattle.optra_checker.specs.Shares.{IsShare, IsStartValue, IsTimesPrice, IsPriceOff, IsBase};
 
 use optra_bid::Bid;
 use optra_network::{Cents, Minute};
@@ -14,7 +14,7 @@ fn times(rate: Cents, minutes: u32) -> Cents
     requires rate { IsRate rate }
     requires minutes { minutes < 2 ^ 17 }
     ensures value { result ≡ rate *ℤ pos minutes }
-    ensures range { IsBetween (pos 0) (pos 131072000000) result }
+    ensures range { IsTimesPrice result }
 {
     rate * i64::from(minutes)
 }
@@ -26,16 +26,16 @@ fn price_off(ideal: u32, early: Cents, late: Cents, time: u32) -> Cents
     requires late { IsRate late }
     requires time { time < 2 ^ 17 }
     ensures value { result ≡ price_off ideal early late time }
-    ensures range { IsBetween (pos 0) (pos 262144000000) result }
+    ensures range { IsPriceOff result }
 {
     times(early, ideal.saturating_sub(time)) + times(late, time.saturating_sub(ideal))
 }
 
 /// In thousandths of a cent, a base less one price and with another given back.
 fn scaled_start(base: Cents, off: Cents, up_to: Cents) -> i64
-    requires base { IsBetween (pos 0) (pos 1000000000) base }
-    requires off { IsBetween (pos 0) (pos 262144000000) off }
-    requires up_to { IsBetween (pos 0) (pos 131072000000) up_to }
+    requires base { IsBase base }
+    requires off { IsPriceOff off }
+    requires up_to { IsTimesPrice up_to }
     ensures value { result ≡ pos 1000 *ℤ (base -ℤ off +ℤ up_to) }
     ensures range { IsStartValue result }
 {
@@ -44,8 +44,8 @@ fn scaled_start(base: Cents, off: Cents, up_to: Cents) -> i64
 
 /// In thousandths of a cent, what two prices take.
 fn scaled_end(off: Cents, up_to: Cents) -> i64
-    requires off { IsBetween (pos 0) (pos 262144000000) off }
-    requires up_to { IsBetween (pos 0) (pos 131072000000) up_to }
+    requires off { IsPriceOff off }
+    requires up_to { IsTimesPrice up_to }
     ensures value { result ≡ pos 1000 *ℤ (off +ℤ up_to) }
     ensures range { IsShare result }
 {

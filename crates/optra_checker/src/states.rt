@@ -3,6 +3,7 @@ ghost use Rattle.std.specs.Prelude.{◌≡◌, ℕ, ◌+◌, ◌-◌, ◌*◌, �
 ghost use Rattle.optra_bid.specs.Specs.{IsPathOn};
 ghost use Rattle.optra_checker.specs.Places.{place_of, places_of, slot_of, IsPlaced, IsSmall};
 ghost use Rattle.optra_checker.specs.Settings.{IsSetting};
+ghost use Rattle.optra_checker.specs.Sizes.{IsPlaceCount, IsSpot, IsAnySlot};
 
 use optra_bid::Bid;
 use optra_network::{Minute, Network, StationId};
@@ -46,7 +47,7 @@ impl Layout {
     pub(crate) fn places(self) -> u32
         requires { IsSmall self }
         ensures value { result ≡ places_of self }
-        ensures small { result ≤ 15552000 }
+        ensures small { IsPlaceCount result }
     {
         u32::from(self.minutes) * u32::from(self.stations) * u32::from(self.slots)
     }
@@ -56,7 +57,7 @@ impl Layout {
         requires placed { IsPlaced self state }
         ensures value { result ≡ (state.minute - self.first) * self.stations + state.station.0 }
         ensures within { result < self.minutes * self.stations }
-        ensures small { result < 863700 }
+        ensures small { IsSpot result }
     {
         u32::from(state.minute - self.first) * u32::from(self.stations) + u32::from(state.station.0)
     }
@@ -64,7 +65,7 @@ impl Layout {
     /// The number of the stops done and the mode.
     fn slot(self, state: State) -> u32
         ensures value { result ≡ slot_of state }
-        ensures small { result < 131072 }
+        ensures small { IsAnySlot result }
     {
         u32::from(state.done) * 2 + u32::from(state.halted)
     }

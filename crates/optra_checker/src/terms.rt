@@ -1,6 +1,5 @@
 //! What the bids add to the dual value of a node, and the dual value.
 ghost use Rattle.std.specs.Prelude.{◌≡◌, ◌↔◌, ◌⊎◌, ◌<◌, ◌≤◌, length, slice_get, Some, IfOk, IfSome, IsSomeAnd, IsTrue, All, true, not, is_some, map, option_map, [], pos, ◌≤ℤ◌};
-ghost use Rattle.optra_bid.specs.Specs.{IsBetween};
 ghost use Rattle.optra_bid.specs.Instances.{IsInstance};
 ghost use Rattle.optra_bid.specs.declared.bids.Bid.{Bid as Asked};
 ghost use Rattle.optra_node.specs.Duals.{ArePrices, whole_cents};
@@ -10,6 +9,7 @@ ghost use Rattle.optra_walk.specs.Values.{first_departure};
 ghost use Rattle.optra_node.specs.Nodes.{kind_at, yes_load};
 ghost use Rattle.optra_checker.specs.Frees.{IsFree, AreFree, IsFreeLeg};
 ghost use Rattle.optra_checker.specs.Leaves.{IsBestOffer, AreTerms, IsSumSize, plus_of, dual_by, weights_at};
+ghost use Rattle.optra_checker.specs.Sizes.{IsCapacityPrice};
 ghost use Rattle.optra_checker.specs.Tests.{may_start_at};
 ghost use Rattle.optra_checker.specs.Watches.{AreWatched, AreWatches, IsLetBe};
 ghost use Rattle.optra_checker.specs.Weights.{IsBestWorth, IsWorthSize};
@@ -139,9 +139,37 @@ fn stays_free<F: RowFamily>(
     legs_stay_free(node, prices, bid, legs)
 }
 
-/// What the best walk of the bid is worth that the node allows, in thousandths of a cent; `None`
-/// exactly where there is none. Where the best of all walks is at hand and the node allows it,
-/// nothing is searched.
+/// What the best walk of the bid is worth that the node allows, in thousandths of a cent, by a
+/// search; `None` exactly where there is none.
+fn best_found<F: RowFamily>(
+    alloc: Global,
+    node: &OpenNode<'_, F>,
+    prices: &[(F::Row, i64)],
+    bid: u32,
+    table: &mut RestTable,
+) -> Result<Option<i128>, NoMemory>
+    requires instance { IsInstance node.now.net node.now.bids }
+    requires bid { bid < length node.now.bids }
+    requires ascending { AreAscending F.Row.cmp prices.now }
+    requires proper { ArePrices (F.rows_of node.now.family node.now.net) prices.now }
+    ensures best { IfOk result (λ best. (b : Asked) → slice_get node.now.bids bid ≡ Some b
+        → IsBestWorth (weights_at F.rows_of F.rows_used node.now bid prices.now) node.now.net b
+        best) }
+    ensures size { IfOk result (λ best. IfSome best IsWorthSize) }
+{
+    let inst = node.inst();
+    let loaded = node.loaded(alloc)?;
+    let weights = LeafWeights {
+        node,
+        bid,
+        prices,
+        loaded: &loaded,
+    };
+    search(alloc, inst.net, &inst.bids[bid as usize], &weights, table)
+}
+
+/// As [`best_found`]. Where the best of all walks is at hand and the node allows it, nothing is
+/// searched.
 fn best_at<F: RowFamily>(
     alloc: Global,
     node: &OpenNode<'_, F>,
@@ -166,15 +194,7 @@ fn best_at<F: RowFamily>(
             return Ok(free.best);
         }
     }
-    let inst = node.inst();
-    let loaded = node.loaded(alloc)?;
-    let weights = LeafWeights {
-        node,
-        bid,
-        prices,
-        loaded: &loaded,
-    };
-    search(alloc, inst.net, &inst.bids[bid as usize], &weights, table)
+    best_found(alloc, node, prices, bid, table)
 }
 
 /// The greatest offer to a bid at the node and prices, in thousandths of a cent: the greatest
@@ -324,7 +344,7 @@ fn term_sum<F: RowFamily>(
 
 /// The price of all capacity and a sum of terms; zero where there is no sum.
 fn dual_by(capacity: i128, sum: Option<i128>) -> i128
-    requires capacity { IsBetween (pos 0) (pos 2417851639229258349412352000000000000) capacity }
+    requires capacity { IsCapacityPrice capacity }
     requires sum { IfSome sum (IsSumSize 1000) }
     ensures { result ≡ dual_by capacity sum }
 {

@@ -5,7 +5,7 @@ ghost use Rattle.std.specs.Prelude.{◌≡◌, ◌+◌, ◌<◌, ◌≤◌, ◌^
 ghost use Rattle.optra_node.specs.Certificates.{IsFormedItem};
 ghost use Rattle.optra_walk.specs.Families.{IsUsable, total_of};
 ghost use Rattle.optra_checker.specs.Frees.{AreFree};
-ghost use Rattle.optra_checker.specs.Watches.{Spares, AreSplitLoads, IsWatched, AreWatched, AreWatches};
+ghost use Rattle.optra_checker.specs.Watches.{Spares, AreSplitLoads, IsWatched, AreWatched, AreWatches, AreTreeWatches};
 
 use crate::frees::Free;
 use optra_bid::Bid;
@@ -43,7 +43,7 @@ fn add_split<F: RowFamily>(
 }
 
 /// How much of each row the legs of all splits of a tree use together.
-pub(crate) fn split_loads<F: RowFamily>(
+fn split_loads<F: RowFamily>(
     alloc: Global,
     inst: Instance<'_>,
     rows: &F,
@@ -144,7 +144,7 @@ fn kind_of(bid: &Bid) -> TypeId
 
 /// For the best walk of each bid, the rows that its legs use and that have a load; none where a leg
 /// alone uses a row above its capacity.
-pub(crate) fn find_watches<F: RowFamily>(
+fn watch_all<F: RowFamily>(
     alloc: Global,
     inst: Instance<'_>,
     rows: &F,
@@ -163,4 +163,22 @@ pub(crate) fn find_watches<F: RowFamily>(
         watches.push(watched)?;
     }
     Ok(watches)
+}
+
+/// For the best walk of each bid, the rows of which one of its legs and the leg of some split use
+/// something; none where a leg alone uses a row above its capacity.
+pub(crate) fn find_watches<F: RowFamily>(
+    alloc: Global,
+    inst: Instance<'_>,
+    rows: &F,
+    tree: &[Item<F::Row>],
+    frees: &[Free],
+) -> Result<Vec<Option<Vec<F::Row>>>, NoMemory>
+    requires items { All (IsFormedItem F.Row.cmp inst.net.now (length inst.bids.now)) tree.now }
+    requires frees { AreFree inst.net.now inst.bids.now frees.now }
+    ensures { IfOk result (λ watches. AreTreeWatches (F.rows_of rows.now inst.entry.net.now)
+        inst.entry.bids.now tree.now frees.now (map (option_map (λ w. w.items)) watches.items)) }
+{
+    let loads = split_loads(alloc, inst, rows, tree)?;
+    watch_all(alloc, inst, rows, &loads, frees)
 }

@@ -1,15 +1,13 @@
 -- What the loops over the arcs of one node keep.
-use Rattle.std.proofs.Common.{◌≡◌, ◌≢◌, ℕ, List, ◌++◌, take, drop, length, get_or, ap, ◌+◌, cond, ◌<◌, ◌≤◌, ◌⊎◌, inl, inr, Bool, true, false, refl, sym, ◌∙◌, subst, arith, ℤ, pos, ◌≤ℤ◌, ◌<ℤ◌}
+use Rattle.std.proofs.Common.{◌≡◌, ◌≢◌, ℕ, ◌+◌, cond, ◌<◌, ◌≤◌, ◌⊎◌, inl, inr, Bool, true, false, refl, sym, subst, arith, ℤ, ◌≤ℤ◌, ◌<ℤ◌}
 use Rattle.std.proofs.lemmas.Bool.{cases_lt}
 use Rattle.std.proofs.Math.Nat.{eq-or-lt_of_le}
-use Rattle.std.proofs.Math.Seq.{take-append_seam}
 use Rattle.std.specs.Int.{int_max}
 use Rattle.std.specs.Prelude.{int_lt}
 use lib.Signed.{lt_z}
 use Rattle.std.proofs.lemmas.Int.{ints}
 use Rattle.optra_dag.specs.Spans.{StandsIn}
 use Rattle.optra_dag.specs.NarrowSums.{far, value_of, IsFirstBy}
-use Rattle.optra_dag.proofs.Ways.{same_default}
 use Rattle.optra_dag.specs.declared.spans.Span.{Span}
 
 abbrev span_of : ℕ → ℕ → Span
@@ -56,13 +54,6 @@ passed_on by sum span k off h j s l = at (cases_lt j k)
 -- the first arc of a span that gives a sum
 pub first_by : (by : ℕ → ℤ) (sum : ℤ) (span : Span) (k : ℕ) → StandsIn span k → by k ≡ sum → ((j : ℕ) → StandsIn span j → j < k → by j ≢ sum) → IsFirstBy by span sum k
 first_by by sum span k s e h = record { stands = s; gives = e; first = h }
-
--- what was written into the whole of an array
-pub whole_written : (len : ℕ) (xs ys : List ℤ) → len ≡ length xs → take len (xs ++ drop (length xs) ys) ≡ xs
-whole_written len xs ys e = ap (λ n. take n (xs ++ drop (length xs) ys)) e ∙ take-append_seam xs (drop (length xs) ys)
-
-pub read_zero : (xs : List ℤ) (i : ℕ) (x : ℤ) → i < length xs → x ≡ get_or xs i x → x ≡ get_or xs i (pos 0)
-read_zero xs i x l e = e ∙ same_default xs i x (pos 0) l
 
 pub is_below : (a b : ℤ) → lt_z a b ≡ true → a <ℤ b
 is_below a b e = grind (arith, ints)

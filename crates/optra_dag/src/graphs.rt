@@ -14,6 +14,8 @@ use std::marker::Model;
 pub struct Dag {
     pub(crate) arcs: Vec<Arc>,
     pub(crate) ends: Vec<bool>,
+    /// No node before this one is an end.
+    pub(crate) first_end: u32,
     /// For each node its arcs.
     pub(crate) spans: Vec<Span>,
 }
@@ -39,6 +41,7 @@ impl Dag {
         Ok(Dag {
             arcs: Vec::new(alloc),
             ends: vec![in alloc; false; nodes as usize]?,
+            first_end: nodes,
             spans: vec![in alloc; Span::empty(); nodes as usize]?,
         })
     }
@@ -77,6 +80,7 @@ impl Dag {
         ensures arcs { self.new.arcs ≡ self.old.arcs }
     {
         self.ends[node as usize] = true;
+        self.first_end = self.first_end.min(node);
     }
 
     /// The count of arcs. What every graph keeps is known here too.

@@ -72,6 +72,7 @@ pub fn narrow_best_in<W: NarrowWeight>(
     let arcs = &dag.arcs;
     let ends = &dag.ends;
     let spans = &dag.spans;
+    start(&mut buffers.narrow, ends, dag.first_end)?;
     search(
         &mut buffers.narrow,
         &mut buffers.path,
@@ -83,8 +84,9 @@ pub fn narrow_best_in<W: NarrowWeight>(
     )
 }
 
+/// The search, from the sums of the empty ways on.
 fn search<W: NarrowWeight>(
-    sums: &mut Vec<i64>,
+    sums: &mut [i64],
     path: &mut Vec<u32>,
     arcs: &[Arc],
     ends: &[bool],
@@ -95,13 +97,14 @@ fn search<W: NarrowWeight>(
     requires asked { length arcs.now ≤ W.asked weight.now }
     requires narrow { IsNarrow arcs.now ends.now spans.now
         (W.allows weight.now) (W.weight weight.now) most }
+    requires long { length sums.old ≡ length ends.now }
+    requires empty { AreEmptySums ends.now sums.old (length ends.now) }
     ensures best { IfOk result (λ answer. IfSome answer (λ sum.
         IsFirstBest (plain_graph arcs.now ends.now)
         (W.allows weight.now) (W.weight weight.now) sum path.new.items)) }
     ensures none { IfOk result (λ answer. IfNone answer
         ((path : List ℕ) → IsPath (plain_graph arcs.now ends.now) (W.allows weight.now) path → ⊥)) }
 {
-    start(sums, ends)?;
     sweep(sums, arcs, ends, spans, weight, most);
     let sum = sums[0];
     if sum < LEAST {
@@ -126,13 +129,16 @@ fn empty_sum(end: bool) -> i64
     if end { 0 } else { FAR }
 }
 
-/// The sums of the empty ways. What the array held before is not read.
-fn start(sums: &mut Vec<i64>, ends: &[bool]) -> Result<(), NoMemory>
+/// The sums of the empty ways, where no node before the first end is an end. What the array held before is not read.
+fn start(sums: &mut Vec<i64>, ends: &[bool], first_end: u32) -> Result<(), NoMemory>
+    requires within { first_end ≤ length ends.now }
+    requires early { (node : ℕ) → node < first_end → slice_index_or ends.now node false ≡ false }
     ensures long { OnOk result (length sums.new.items ≡ length ends.now) }
     ensures empty { OnOk result (AreEmptySums ends.now sums.new.items (length ends.now)) }
 {
+    sums.clear();
     sums.resize(ends.len(), FAR)?;
-    'nodes: for node in 0..ends.len() {
+    'nodes: for node in first_end as usize..ends.len() {
         sums[node] = empty_sum(ends_at(ends, node));
     }
     Ok(())

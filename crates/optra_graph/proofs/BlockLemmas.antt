@@ -133,19 +133,23 @@ module _ (net : Net) (path : Path) (layout : Layout) (setting : IsSetting net pa
     ordered = λ j k l m s e. absurd (omega arith);
   }
 
-  pub emits_skip : (place : ℕ) (arcs : List Arc) (legs : List Leg) → is_set flags place ≡ false → Made place arcs legs → Made (place + 1) arcs legs
-  emits_skip place arcs legs e h = record {
+  -- places that are not kept have no arcs
+  pub emits_to : (place to : ℕ) (arcs : List Arc) (legs : List Leg) → place ≤ to → ((p : ℕ) → place ≤ p → p < to → IsSet flags p → ⊥) → Made place arcs legs → Made to arcs legs
+  emits_to place to arcs legs up none h = record {
     starts = h.starts;
     count = h.count;
-    sound = λ k l m. let w = h.sound k l m in (w.0, w.1, omega (arith, w.2), w.3, w.4);
-    whole = λ p step l w. by p step l w (cases_lt p place);
+    sound = λ k l m. let w = h.sound k l m in (w.0, w.1, omega (arith, w.2, up), w.3, w.4);
+    whole = λ p step b w. by p step b w (cases_lt p place);
     ordered = h.ordered;
   }
     where
-      by : (p : ℕ) (step : Step) → p < place + 1 → Kept p step → (p < place) ⊎ (place ≤ p)
+      by : (p : ℕ) (step : Step) → p < to → Kept p step → (p < place) ⊎ (place ≤ p)
           → (k : ℕ) × (length first ≤ k) × (k < length arcs) × IsArcOf flags (length first) arcs legs k p step
-      by p step l w (inl m) = h.whole p step m w
-      by p step l w (inr m) = let s : p ≡ place = omega arith in absurd (true≢false (sym w.from ∙ ap (is_set flags) s ∙ e))
+      by p step b w (inl m) = h.whole p step m w
+      by p step b w (inr m) = absurd (none p m b w.from)
+
+  pub emits_skip : (place : ℕ) (arcs : List Arc) (legs : List Leg) → is_set flags place ≡ false → Made place arcs legs → Made (place + 1) arcs legs
+  emits_skip place arcs legs e h = emits_to place (place + 1) arcs legs (omega arith) (λ p l m s. let n : p ≡ place = omega arith in true≢false (sym s ∙ ap (is_set flags) n ∙ e)) h
 
   -- the arcs that are there leave earlier nodes
   pub emits_before : ((k : ℕ) → k < length first → (get_or first k no_arc).from ≡ 0) → (place : ℕ) (arcs : List Arc) (legs : List Leg) → Made place arcs legs

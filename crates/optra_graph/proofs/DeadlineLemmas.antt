@@ -1,14 +1,13 @@
--- Who runs on from a state leaves its station before the deadline, and a deadline may become earlier where its tracks allow it.
+-- Who runs on from a state leaves its station before the deadline, and deadlines that no pass over the stations changes are right.
 use Rattle.std.proofs.Common.{◌≡◌, ℕ, zero, suc, ◌+◌, ◌≤◌, ◌<◌, ◌⊎◌, inl, inr, Bool, true, false, not, cond, List, [], ◌∷◌, length, get_or, set, length-set, get_or-set_same, get_or-set_other, replicate, All, Option, None, Some, nat_eq, eq-eqb, slice_get, refl, sym, ap, ◌∙◌, subst, arith}
 use Rattle.std.specs.Option.{option_map}
-use Rattle.std.proofs.lemmas.Bool.{cases_eq}
+use Rattle.std.proofs.lemmas.Bool.{cases_eq, cases_lt}
 use Rattle.std.proofs.lemmas.List.{length-replicate, get_or-replicate}
 use Rattle.std.proofs.lemmas.List.Elements.{All-contains}
 use Rattle.std.proofs.lemmas.Option.{slice_get_within, get_or_from_slice_get}
 use Rattle.optra_network.specs.Net.{Net, IsProper, minutes_by, out_tracks_of, times_of}
 use Rattle.optra_network.specs.declared.StationId.{StationId}
 use Rattle.optra_network.specs.declared.Track.{Track}
-use Rattle.optra_network.specs.declared.TrackId.{TrackId}
 use Rattle.optra_network.specs.declared.Times.{Times}
 use Rattle.optra_network.specs.declared.TypeId.{TypeId}
 use Rattle.optra_bid.specs.Specs.{Path, IsWindow}
@@ -17,7 +16,7 @@ use Rattle.optra_walk.specs.declared.Action.TheVariants.{Pass, Halt, Wait, Finis
 use Rattle.optra_walk.specs.declared.Leg.{Leg}
 use Rattle.optra_walk.specs.Legs.{is_pass, arrival_of, after_action, next_depart_of}
 use Rattle.optra_graph.specs.declared.states.State.{State}
-use Rattle.optra_graph.specs.Deadlines.{AreDeadlines, IsTooLate, limit_of}
+use Rattle.optra_graph.specs.Deadlines.{AreBounded, AreDeadlines, IsLeftTooLate, IsTooLate, limit_of}
 use Rattle.optra_graph.specs.Moves.{FitsAction, Runs}
 use Rattle.optra_graph.proofs.HorizonLemmas.{within_at}
 use Rattle.optra_graph.proofs.WayLemmas.{out_contains, run_within}
@@ -79,79 +78,93 @@ module _ (net : Net) (path : Path) (deadlines : List ℕ) (h : AreDeadlines net 
       let time = m.time in
       omega (arith, limit_least f.0.station, on, late, w.2, run.2, time)
 
-  -- ---- one deadline made earlier
+tail_within : (net : Net) (n : ℕ) (s : StationId) → IsProper net → option_map (λ (t : Track). t.tail) (slice_get net.tracks n) ≡ Some s → s.0 < length net.stations
+tail_within net n s proper e = by (slice_get net.tracks n) refl e
+  where
+    by : (o : Option Track) → slice_get net.tracks n ≡ o → option_map (λ (t : Track). t.tail) o ≡ Some s → s.0 < length net.stations
+    by None m f = cc
+    by (Some t) m f =
+        let l = slice_get_within net.tracks n t m in
+        let ends = proper.built.ends n t l in
+        let same : get_or net.tracks n t ≡ t = get_or_from_slice_get net.tracks n t t m in
+        let e : t.tail ≡ s = cc in
+        let below = ends.0 in
+        omega (arith, ap (λ (t : Track). t.tail.0) same, ap (λ (s : StationId). s.0) e, below)
 
-  pub too_late_more : (track : TrackId) (m n : ℕ) → m ≤ n → IsTooLate net path deadlines m track → IsTooLate net path deadlines n track
-  too_late_more track m n l w head a b run at time = let late = w head a b run at time in omega (arith, late)
+few_same : (n k x m : ℕ) → x ≤ m → get_or (replicate n x) k 0 ≤ m
+few_same zero k x m l = omega arith
+few_same (suc n) zero x m l = l
+few_same (suc n) (suc k) x m l = few_same n k x m l
 
-  module _ (station : StationId) (deadline : ℕ) (there : station.0 < length deadlines) (earlier : deadline ≤ deadline_at station)
-      (late : All (IsTooLate net path deadlines deadline) (out_tracks_of net.tracks station)) where
-    abbrev new : List ℕ
-    new = set deadlines station.0 deadline
+-- ---- deadlines on the way
 
-    here : get_or new station.0 0 ≡ deadline
-    here = get_or-set_same deadlines station.0 deadline 0 there
+pub bounded_first : (net : Net) (path : Path) (first : ℕ) (deadlines : List ℕ) → IsProper net → IsWindow path.arrive → first ≤ path.arrive.to → deadlines ≡ replicate (length net.stations) first → AreBounded net path deadlines
+bounded_first net path first deadlines proper arrive l e = subst (AreBounded net path) (sym e) (record {
+  proper = proper;
+  count = length-replicate (length net.stations) first;
+  arrive = arrive;
+  most = λ k. few_same (length net.stations) k first path.arrive.to l;
+})
 
-    elsewhere : (k : ℕ) → (k ≡ station.0 → ⊥) → get_or new k 0 ≡ get_or deadlines k 0
-    elsewhere k apart = get_or-set_other deadlines station.0 k deadline 0 apart
+pub bounded_set : (net : Net) (path : Path) (deadlines : List ℕ) (place deadline : ℕ) → place < length deadlines → deadline ≤ path.arrive.to → AreBounded net path deadlines → AreBounded net path (set deadlines place deadline)
+bounded_set net path deadlines place deadline there l h = record {
+  proper = h.proper;
+  count = length-set deadlines place deadline ∙ h.count;
+  arrive = h.arrive;
+  most = λ k. by k (cases_eq k place);
+}
+  where
+    by : (k : ℕ) → (k ≡ place) ⊎ (k ≡ place → ⊥) → get_or (set deadlines place deadline) k 0 ≤ path.arrive.to
+    by k (inl e) = let f = ap (λ i. get_or (set deadlines place deadline) i 0) e in let s = get_or-set_same deadlines place deadline 0 there in omega arith
+    by k (inr n) = let f = get_or-set_other deadlines place k deadline 0 n in let m = h.most k in omega arith
 
-    fewer : (k : ℕ) → get_or new k 0 ≤ get_or deadlines k 0
-    fewer k = by (cases_eq k station.0)
-      where
-        by : (k ≡ station.0) ⊎ (k ≡ station.0 → ⊥) → get_or new k 0 ≤ get_or deadlines k 0
-        by (inl e) = let f = ap (λ i. get_or new i 0) e in let g = ap (λ i. get_or deadlines i 0) e in omega (arith, f, g, here, earlier)
-        by (inr n) = let e = elsewhere k n in omega (arith, e)
+-- it is too late to arrive after the window
+pub limit_under : (net : Net) (path : Path) (deadlines : List ℕ) (station : StationId) → AreBounded net path deadlines → limit_of path deadlines station ≤ path.arrive.to + 1
+limit_under net path deadlines station h = by (nat_eq station.0 path.destination.0)
+  where
+    by : (b : Bool) → cond b (path.arrive.to + 1) (get_or deadlines station.0 0) ≤ path.arrive.to + 1
+    by true = omega arith
+    by false = let m = h.most station.0 in omega arith
 
-    limit_fewer : (head : StationId) → limit_of path new head ≤ limit_of path deadlines head
-    limit_fewer head = by (nat_eq head.0 path.destination.0)
-      where
-        by : (b : Bool) → cond b (path.arrive.to + 1) (get_or new head.0 0) ≤ cond b (path.arrive.to + 1) (get_or deadlines head.0 0)
-        by true = omega arith
-        by false = fewer head.0
+pub left_later : (net : Net) (path : Path) (deadlines : List ℕ) (station : StationId) (deadline : ℕ) → deadline ≤ get_or deadlines station.0 0
+    → All (IsTooLate net path deadlines deadline) (out_tracks_of net.tracks station) → IsLeftTooLate net path deadlines station
+left_later net path deadlines station deadline l late k d m head a b run at time = let w = late k d m head a b run at time in omega (arith, l, w)
 
-    pub tightened : AreDeadlines net path new
-    tightened = record {
-      proper = h.proper;
-      count = length-set deadlines station.0 deadline ∙ h.count;
-      arrive = h.arrive;
-      most = λ k. let m = h.most k in let f = fewer k in omega (arith, m, f);
-      holds = λ track s tail head a b run at time. by track s tail head a b run at time (cases_eq s.0 station.0);
-    }
-      where
-        by : (track : TrackId) (s : StationId) → option_map (λ (t : Track). t.tail) (slice_get net.tracks track.0) ≡ Some s → (head : StationId) (a b : Bool) (run : ℕ)
-            → option_map (λ (t : Track). t.head) (slice_get net.tracks track.0) ≡ Some head → option_map (minutes_by a b) (times_of net track path.kind) ≡ Some run
-            → (s.0 ≡ station.0) ⊎ (s.0 ≡ station.0 → ⊥) → limit_of path new head ≤ get_or new s.0 0 + run
-        by track s tail head a b run at time (inl e) =
-            let same : s ≡ station = (λ i. record { 0 = e i }) in
-            let out = out_contains net station track (tail ∙ ap Some same) in
-            let l = All-contains (IsTooLate net path deadlines deadline) (out_tracks_of net.tracks station) track late out head a b run at time in
-            let f = ap (λ i. get_or new i 0) e in
-            omega (arith, l, f, here, limit_fewer head)
-        by track s tail head a b run at time (inr n) =
-            let l = h.holds track s tail head a b run at time in
-            let f = elsewhere s.0 n in
-            omega (arith, l, f, limit_fewer head)
+-- one more station that keeps its deadline
+pub left_more : (net : Net) (path : Path) (deadlines : List ℕ) (n : ℕ) → IsLeftTooLate net path deadlines (record { 0 = n }) → ((s : StationId) → s.0 < n → IsLeftTooLate net path deadlines s)
+    → (s : StationId) → s.0 < n + 1 → IsLeftTooLate net path deadlines s
+left_more net path deadlines n here before s l = by (cases_lt s.0 n)
+  where
+    by : (s.0 < n) ⊎ (n ≤ s.0) → IsLeftTooLate net path deadlines s
+    by (inl m) = before s m
+    by (inr m) = let e : n ≡ s.0 = omega arith in let same : record { 0 = n } ≡ s = (λ i. record { 0 = e i }) in subst (IsLeftTooLate net path deadlines) same here
 
--- ---- at first all deadlines are the end of the arrival window
+pub all_left : (net : Net) (path : Path) (deadlines : List ℕ) (n : ℕ) → length net.stations ≤ n → AreBounded net path deadlines → ((s : StationId) → s.0 < n → IsLeftTooLate net path deadlines s) → AreDeadlines net path deadlines
+all_left net path deadlines n l h late = record {
+  proper = h.proper;
+  count = h.count;
+  arrive = h.arrive;
+  most = h.most;
+  holds = λ track station tail.
+      let there = tail_within net track.0 station h.proper tail in
+      All-contains (IsTooLate net path deadlines (get_or deadlines station.0 0)) (out_tracks_of net.tracks station) track (late station (omega (arith, there, l))) (out_contains net station track tail);
+}
+
+-- ---- all deadlines at the end of the arrival window
 
 limit_most : (path : Path) (n : ℕ) (head : StationId) → limit_of path (replicate n path.arrive.to) head ≤ path.arrive.to + 1
 limit_most path n head = by (nat_eq head.0 path.destination.0)
   where
-    few : (n k x : ℕ) → get_or (replicate n x) k 0 ≤ x
-    few zero k x = omega arith
-    few (suc n) zero x = omega arith
-    few (suc n) (suc k) x = few n k x
-
     by : (b : Bool) → cond b (path.arrive.to + 1) (get_or (replicate n path.arrive.to) head.0 0) ≤ path.arrive.to + 1
     by true = omega arith
-    by false = let f = few n head.0 path.arrive.to in omega (arith, f)
+    by false = let f = few_same n head.0 path.arrive.to path.arrive.to (omega arith) in omega (arith, f)
 
 pub first_deadlines : (net : Net) (path : Path) (deadlines : List ℕ) → IsProper net → IsWindow path.arrive → deadlines ≡ replicate (length net.stations) path.arrive.to → AreDeadlines net path deadlines
 first_deadlines net path deadlines proper arrive e = subst (AreDeadlines net path) (sym e) (record {
   proper = proper;
   count = length-replicate (length net.stations) path.arrive.to;
   arrive = arrive;
-  most = λ k. few (length net.stations) k path.arrive.to;
+  most = λ k. few_same (length net.stations) k path.arrive.to path.arrive.to (omega arith);
   holds = λ track s tail head a b run at time.
       let r = run_within net track path.kind a b run proper time in
       let there = tail_within net track.0 s proper tail in
@@ -159,21 +172,3 @@ first_deadlines net path deadlines proper arrive e = subst (AreDeadlines net pat
       let l = limit_most path (length net.stations) head in
       omega (arith, r.0, f, l);
 })
-  where
-    few : (n k x : ℕ) → get_or (replicate n x) k 0 ≤ x
-    few zero k x = omega arith
-    few (suc n) zero x = omega arith
-    few (suc n) (suc k) x = few n k x
-
-    tail_within : (net : Net) (n : ℕ) (s : StationId) → IsProper net → option_map (λ (t : Track). t.tail) (slice_get net.tracks n) ≡ Some s → s.0 < length net.stations
-    tail_within net n s proper e = by (slice_get net.tracks n) refl e
-      where
-        by : (o : Option Track) → slice_get net.tracks n ≡ o → option_map (λ (t : Track). t.tail) o ≡ Some s → s.0 < length net.stations
-        by None m f = cc
-        by (Some t) m f =
-            let l = slice_get_within net.tracks n t m in
-            let ends = proper.built.ends n t l in
-            let same : get_or net.tracks n t ≡ t = get_or_from_slice_get net.tracks n t t m in
-            let e : t.tail ≡ s = cc in
-            let below = ends.0 in
-            omega (arith, ap (λ (t : Track). t.tail.0) same, ap (λ (s : StationId). s.0) e, below)

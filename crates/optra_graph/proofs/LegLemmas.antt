@@ -1,5 +1,5 @@
 -- What the arcs of one more place ask for.
-use Rattle.std.proofs.Common.{◌≡◌, ℕ, ◌+◌, ◌*◌, ◌%◌, ◌≤◌, ◌<◌, ◌⊎◌, inl, inr, Bool, List, ◌++◌, length, get_or, map, filter, sym, ap, ◌∙◌, subst, arith, All, length-append}
+use Rattle.std.proofs.Common.{◌≡◌, ℕ, zero, suc, ◌+◌, ◌-◌, ◌*◌, ◌%◌, ◌≤◌, ◌<◌, ◌⊎◌, inl, inr, Bool, List, ◌++◌, length, get_or, map, filter, sym, ap, ◌∙◌, subst, arith, All, length-append}
 use Rattle.std.proofs.lemmas.Bool.{cases_lt}
 use Rattle.std.proofs.lemmas.List.{length-map}
 use Rattle.std.proofs.lemmas.List.Sums.{length-filter, count_by-le-length}
@@ -87,3 +87,18 @@ module _ (net : Net) (path : Path) (layout : Layout) (setting : IsSetting net pa
         let tracks = setting.proper.built.counts.few_tracks in
         let r = few_room net path layout setting (layout.minutes * layout.slots) place row column count (length steps) within (omega arith) tracks under (few_more (length steps) l) h in
         omega arith
+
+-- with as many arcs at a later place
+few_along : (net : Net) (path : Path) (layout : Layout) (setting : IsSetting net path layout) (flags : List Bool) (place count n : ℕ) → place + n ≤ places_of layout
+    → (r : ℕ) × (c : ℕ) × IsFew net.tracks layout place r c count → (r : ℕ) × (c : ℕ) × IsFew net.tracks layout (place + n) r c count
+few_along net path layout setting flags place count zero l h = let e : place ≡ place + 0 = omega arith in subst (λ p. (r : ℕ) × (c : ℕ) × IsFew net.tracks layout p r c count) e h
+few_along net path layout setting flags place count (suc n) l h =
+    let w = few_along net path layout setting flags place count n (omega arith) h in
+    let e : place + n + 1 ≡ place + suc n = omega arith in
+    subst (λ p. (r : ℕ) × (c : ℕ) × IsFew net.tracks layout p r c count) e (legs_same net path layout setting flags (place + n) (omega arith) w.0 w.1 count w.2)
+
+pub few_to : (net : Net) (path : Path) (layout : Layout) (setting : IsSetting net path layout) (flags : List Bool) (place to count : ℕ) → place ≤ to → to ≤ places_of layout
+    → (r : ℕ) × (c : ℕ) × IsFew net.tracks layout place r c count → (r : ℕ) × (c : ℕ) × IsFew net.tracks layout to r c count
+few_to net path layout setting flags place to count l m h =
+    let e : place + (to - place) ≡ to = omega arith in
+    subst (λ p. (r : ℕ) × (c : ℕ) × IsFew net.tracks layout p r c count) e (few_along net path layout setting flags place count (to - place) (omega arith) h)

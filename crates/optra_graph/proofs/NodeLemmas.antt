@@ -1,8 +1,7 @@
 -- The nodes of kept places.
-use Rattle.std.proofs.Common.{◌≡◌, ℕ, zero, suc, ◌+◌, ◌-◌, ◌≤◌, ◌<◌, ◌⊎◌, inl, inr, Bool, true, false, List, [], ◌∷◌, ◌++◌, length, get_or, take, refl, sym, ap, ◌∙◌, arith, true≢false, add-one}
+use Rattle.std.proofs.Common.{◌≡◌, ℕ, zero, suc, ◌+◌, ◌-◌, ◌≤◌, ◌<◌, ◌⊎◌, inl, inr, Bool, true, false, List, [], ◌∷◌, length, get_or, take, refl, sym, ap, ◌∙◌, arith, true≢false, add-one, set, subst, get_or-set_other, get_or-set_same}
 use Rattle.std.proofs.Math.ListN.{length-map}
-use Rattle.std.proofs.lemmas.List.{get_or-map, get_or_append_left}
-use Rattle.std.proofs.Math.Seq.{get_or-append_seam}
+use Rattle.std.proofs.lemmas.List.{get_or-map}
 use Rattle.std.proofs.lemmas.Bool.{cases_lt}
 use Rattle.optra_graph.specs.declared.states.Layout.{Layout}
 use Rattle.optra_graph.specs.Flags.{is_set, IsSet}
@@ -142,11 +141,12 @@ module _ (layout : Layout) (flags : List Bool) (n : ℕ) (len : length flags ≡
       (w.0, below, sym (set_take flags n w.0 below) ∙ w.2, omega (arith, w.3, back))
 
 -- one more number
-pub number_more : (flags : List Bool) (numbers new : List ℕ) (x i : ℕ) → new ≡ numbers ++ x ∷ [] → length numbers ≡ i → x ≡ node_of flags i
-    → ((place : ℕ) → place < i → get_or numbers place 0 ≡ node_of flags place) → (place : ℕ) → place < i + 1 → get_or new place 0 ≡ node_of flags place
-number_more flags numbers new x i e n f h place l = ap (λ (xs : List ℕ). get_or xs place 0) e ∙ by (cases_lt place i)
+pub number_more : (flags : List Bool) (numbers : List ℕ) (x i : ℕ) → i < length numbers → x ≡ node_of flags i
+    → ((place : ℕ) → place < i → get_or numbers place 0 ≡ node_of flags place) → (place : ℕ) → place < i + 1 → get_or (set numbers i x) place 0 ≡ node_of flags place
+number_more flags numbers x i w f h place l = by (cases_lt place i)
   where
-    by : (place < i) ⊎ (i ≤ place) → get_or (numbers ++ x ∷ []) place 0 ≡ node_of flags place
-    by (inl m) = get_or_append_left numbers (x ∷ []) 0 place (omega arith) ∙ h place m
-    by (inr m) = let s : place ≡ length numbers = omega arith in let t : i ≡ place = omega arith in
-        ap (λ k. get_or (numbers ++ x ∷ []) k 0) s ∙ get_or-append_seam numbers x [] 0 ∙ f ∙ ap (node_of flags) t
+    by : (place < i) ⊎ (i ≤ place) → get_or (set numbers i x) place 0 ≡ node_of flags place
+    by (inl m) = get_or-set_other numbers i place x 0 (λ e. omega (arith, e)) ∙ h place m
+    by (inr m) =
+        let t : i ≡ place = omega arith in
+        subst (λ p. get_or (set numbers i x) p 0 ≡ node_of flags p) t (get_or-set_same numbers i x 0 w ∙ f)

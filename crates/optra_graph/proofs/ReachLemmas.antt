@@ -191,8 +191,25 @@ module _ (net : Net) (path : Path) (layout : Layout) (setting : IsSetting net pa
       keep p step l m s w o (inl e) = absurd (stuck step (subst (λ q. At q step) e w) (old step.to o))
       keep p step l m s w o (inr e) = set_there flags n p false e ∙ h.whole p step (omega (arith, e)) m s w (old step.to o)
 
-  pub trimmed_skip : (n : ℕ) (reached flags : List Bool) → n < places_of layout → is_set flags n ≡ false → IsTrimmedTo net path layout (n + 1) reached flags → IsTrimmedTo net path layout n reached flags
-  trimmed_skip n reached flags b e h = trimmed_same n reached flags b (λ s. absurd (true≢false (sym s ∙ e))) h
+  -- places that are not reached are trimmed
+  pub trimmed_to : (m n : ℕ) (reached flags : List Bool) → m ≤ n → ((place : ℕ) → m ≤ place → place < n → IsSet reached place → ⊥) → IsTrimmedTo net path layout n reached flags → IsTrimmedTo net path layout m reached flags
+  trimmed_to m n reached flags l none h = record {
+    len = h.len;
+    few = let f = h.few in omega arith;
+    below = λ p b. h.below p (omega arith);
+    end = h.end;
+    only = h.only;
+    goes_on = λ p b k s. by p b k s (cases_lt p n);
+    whole = λ p step b k s w o. keep p step b k s w o (cases_lt p n);
+  }
+    where
+      by : (p : ℕ) → m ≤ p → p < places_of layout → IsSet flags p → (p < n) ⊎ (n ≤ p) → (step : Step) × At p step × IsSet flags step.to
+      by p b k s (inl c) = absurd (none p b c (h.only p s))
+      by p b k s (inr c) = h.goes_on p c k s
+
+      keep : (p : ℕ) (step : Step) → m ≤ p → p < places_of layout → IsSet reached p → At p step → IsSet flags step.to → (p < n) ⊎ (n ≤ p) → IsSet flags p
+      keep p step b k s w o (inl c) = absurd (none p b c s)
+      keep p step b k s w o (inr c) = h.whole p step c k s w o
 
   pub trimmed_more : (n : ℕ) (steps : List Step) (reached flags new : List Bool) (on : ℕ) → n < places_of layout → n < length flags → AreSteps net path layout (state_of layout n) steps
       → on ≡ count_by (λ step. is_set flags step.to) steps → new ≡ cond (nat_eq on 0) (set flags n false) flags

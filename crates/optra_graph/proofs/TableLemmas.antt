@@ -1,42 +1,61 @@
 -- A table of steps with the steps of one more place.
-use Rattle.std.proofs.Common.{◌≡◌, ℕ, ◌+◌, ◌-◌, ◌*◌, ◌≤◌, ◌<◌, ◌⊎◌, inl, inr, Bool, List, [], ◌∷◌, ◌++◌, length, take, drop, sym, ap, ◌∙◌, subst, arith, length-append}
+use Rattle.std.proofs.Common.{◌≡◌, ℕ, ◌+◌, ◌-◌, ◌*◌, ◌≤◌, ◌<◌, ◌⊎◌, inl, inr, Bool, false, true≢false, List, [], ◌∷◌, ◌++◌, length, take, drop, sym, ap, ◌∙◌, subst, arith, length-append}
 use Rattle.std.specs.Prelude.{slice_index, slice_range}
 use Rattle.std.proofs.lemmas.Bool.{cases_lt}
-use Rattle.std.proofs.lemmas.List.{take_all, take-append-le, drop-append-le, get_or_append_left, length-drop}
+use Rattle.std.proofs.lemmas.List.{take_all, take-append-le, drop-append-le, get_or_append_left, get_or_default, get_or_past, length-drop}
+use Rattle.std.proofs.Math.Nat.{eq-or-lt_of_le}
 use Rattle.std.proofs.Math.Seq.{drop-append_seam, get_or-append_seam}
 use Rattle.optra_network.specs.Net.{Net, out_tracks_of}
 use Rattle.optra_bid.specs.Specs.{Path}
 use Rattle.optra_graph.specs.declared.states.Layout.{Layout}
 use Rattle.optra_graph.specs.declared.step_table.StepTable.{StepTable}
 use Rattle.optra_graph.specs.declared.stepping.Step.{Step}
-use Rattle.optra_graph.specs.Flags.{IsSet}
+use Rattle.optra_graph.specs.Flags.{is_set, IsSet}
 use Rattle.optra_graph.specs.Places.{state_of}
 use Rattle.optra_graph.specs.Steps.{AreSteps}
-use Rattle.optra_graph.specs.StepTables.{AreStepsTo, HasRange, IsGrown, IsEmpty, steps_at}
+use Rattle.optra_graph.specs.StepTables.{AreStepsTo, HasRange, IsGrown, IsEmpty, place_at, place_or, rows_of, steps_at}
 
 pub table_start : (net : Net) (path : Path) (layout : Layout) (flags : List Bool) (table : StepTable) → IsEmpty table → AreStepsTo net path layout 0 flags table
-table_start net path layout flags table e = record {
-  count = ap length e.starts;
-  last = ap (λ (xs : List ℕ). slice_index xs 0) e.starts ∙ sym (ap length e.steps);
-  ranges = λ place l. absurd (omega arith);
-  steps = λ place l s. absurd (omega arith);
-  few = λ place l s. absurd (omega arith);
-}
+table_start net path layout flags table e =
+    let z : rows_of table ≡ 0 = ap length e.places in
+    let n : length table.starts.items ≡ 1 = ap length e.starts in
+    record {
+      count = omega arith;
+      last = ap (slice_index table.starts.items) z ∙ ap (λ (xs : List ℕ). slice_index xs 0) e.starts ∙ sym (ap length e.steps);
+      rising = λ j k l m. absurd (omega arith);
+      within = λ row l. absurd (omega arith);
+      listed = λ place l s. absurd (omega arith);
+      ranges = λ row l. absurd (omega arith);
+      steps = λ row l. absurd (omega arith);
+      few = λ row l. absurd (omega arith);
+    }
 
 module _ (net : Net) (path : Path) (layout : Layout) (before : ℕ) (flags more : List Bool) (table new : StepTable) (steps : List Step)
     (old : (place : ℕ) → place < before → IsSet more place → IsSet flags place)
-    (h : AreStepsTo net path layout before flags table) (added : IsGrown table steps new) where
-  start_kept : (place : ℕ) → place ≤ before → slice_index new.starts.items place ≡ slice_index table.starts.items place
-  start_kept place l =
-      let n = h.count in
-      ap (λ (xs : List ℕ). slice_index xs place) added.starts ∙ get_or_append_left table.starts.items ((length table.steps.items + length steps) ∷ []) 0 place (omega arith)
+    (h : AreStepsTo net path layout before flags table) (added : IsGrown table before steps new) where
+  abbrev rows : ℕ
+  rows = rows_of table
 
-  start_new : slice_index new.starts.items (before + 1) ≡ length table.steps.items + length steps
+  start_kept : (row : ℕ) → row ≤ rows → slice_index new.starts.items row ≡ slice_index table.starts.items row
+  start_kept row l =
+      let n = h.count in
+      ap (λ (xs : List ℕ). slice_index xs row) added.starts ∙ get_or_append_left table.starts.items ((length table.steps.items + length steps) ∷ []) 0 row (omega arith)
+
+  start_new : slice_index new.starts.items (rows + 1) ≡ length table.steps.items + length steps
   start_new =
       let n = h.count in
-      ap (λ (xs : List ℕ). slice_index xs (before + 1)) added.starts
+      ap (λ (xs : List ℕ). slice_index xs (rows + 1)) added.starts
       ∙ ap (slice_index (table.starts.items ++ (length table.steps.items + length steps) ∷ [])) (sym n)
       ∙ get_or-append_seam table.starts.items (length table.steps.items + length steps) [] 0
+
+  place_kept : (row : ℕ) → row < rows → place_at new row ≡ place_at table row
+  place_kept row l = ap (λ (xs : List ℕ). slice_index xs row) added.places ∙ get_or_append_left table.places.items (before ∷ []) 0 row l
+
+  place_new : place_at new rows ≡ before
+  place_new = ap (λ (xs : List ℕ). slice_index xs rows) added.places ∙ get_or-append_seam table.places.items before [] 0
+
+  more_rows : rows_of new ≡ rows + 1
+  more_rows = ap length added.places ∙ length-append table.places.items (before ∷ [])
 
   total : length new.steps.items ≡ length table.steps.items + length steps
   total = ap length added.steps ∙ length-append table.steps.items steps
@@ -47,82 +66,159 @@ module _ (net : Net) (path : Path) (layout : Layout) (before : ℕ) (flags more 
       let n : b - a ≤ length (drop a table.steps.items) = omega (arith, length-drop a table.steps.items) in
       ap (take (b - a)) e ∙ take-append-le (b - a) (drop a table.steps.items) steps n
 
-  steps_kept : (place : ℕ) → place < before → steps_at new place ≡ steps_at table place
-  steps_kept place l =
-      let r = h.ranges place l in
-      (λ i. slice_range (added.steps i) (start_kept place (omega arith) i) (start_kept (place + 1) (omega arith) i))
-      ∙ part_kept (slice_index table.starts.items place) (slice_index table.starts.items (place + 1)) r.ordered r.within
+  steps_kept : (row : ℕ) → row < rows → steps_at new row ≡ steps_at table row
+  steps_kept row l =
+      let r = h.ranges row l in
+      (λ i. slice_range (added.steps i) (start_kept row (omega arith) i) (start_kept (row + 1) (omega arith) i))
+      ∙ part_kept (slice_index table.starts.items row) (slice_index table.starts.items (row + 1)) r.ordered r.within
 
-  steps_new : steps_at new before ≡ steps
+  steps_new : steps_at new rows ≡ steps
   steps_new =
-      let a = start_kept before (omega arith) ∙ h.last in
+      let a = start_kept rows (omega arith) ∙ h.last in
       let seam = drop-append_seam table.steps.items steps in
       let n : length steps ≤ length table.steps.items + length steps - length table.steps.items = omega arith in
       (λ i. slice_range (added.steps i) (a i) (start_new i))
       ∙ ap (take (length table.steps.items + length steps - length table.steps.items)) seam ∙ take_all (length table.steps.items + length steps - length table.steps.items) steps n
 
-  pub table_more : (IsSet more before → AreSteps net path layout (state_of layout before) steps)
-      → (IsSet more before → length steps ≤ 63 * length (out_tracks_of net.tracks (state_of layout before).station)) → AreStepsTo net path layout (before + 1) more new
+  -- what holds of each row that was there and of the new one holds of each
+  each_row : (P : ℕ → Type 0) → ((row : ℕ) → row < rows → P row) → P rows → (row : ℕ) → row < rows_of new → P row
+  each_row P kept last row l = by (cases_lt row rows)
+    where
+      by : (row < rows) ⊎ (rows ≤ row) → P row
+      by (inl m) = kept row m
+      by (inr m) = let n = more_rows in let e : rows ≡ row = omega arith in subst P e last
+
+  pub table_more : AreSteps net path layout (state_of layout before) steps → length steps ≤ 63 * length (out_tracks_of net.tracks (state_of layout before).station)
+      → AreStepsTo net path layout (before + 1) more new
   table_more are fit = record {
-    count = let n = h.count in let m = ap length added.starts in omega (arith, n, m, length-append table.starts.items ((length table.steps.items + length steps) ∷ []));
-    last = start_new ∙ sym total;
-    ranges = λ place l. range place l (cases_lt place before);
-    steps = λ place l s. by place l s (cases_lt place before);
-    few = λ place l s. fits place l s (cases_lt place before);
+    count = let n = h.count in let m = ap length added.starts in omega (arith, n, m, more_rows, length-append table.starts.items ((length table.steps.items + length steps) ∷ []));
+    last = ap (slice_index new.starts.items) more_rows ∙ start_new ∙ sym total;
+    rising = λ j k l m. each_row (λ k. (j : ℕ) → j < k → place_at new j < place_at new k)
+        (λ k m j l. let e = place_kept j (omega arith) in let f = place_kept k m in let r = h.rising j k l m in omega arith)
+        (λ j l. let e = place_kept j l in let f = place_new in let w = h.within j l in omega arith) k m j l;
+    within = each_row (λ row. place_at new row < before + 1) (λ row l. let e = place_kept row l in let w = h.within row l in omega arith) (let e = place_new in omega arith);
+    listed = λ place l s. list place l s (cases_lt place before);
+    ranges = each_row (HasRange new)
+        (λ row l.
+        let r = h.ranges row l in
+        let a = start_kept row (omega arith) in
+        let b = start_kept (row + 1) (omega arith) in
+        let n = h.count in
+        let o = r.ordered in
+        let w = r.within in
+        let c = ap length added.starts in
+        record {
+          started = omega (arith, n, c, length-append table.starts.items ((length table.steps.items + length steps) ∷ []));
+          ordered = omega (arith, a, b, o);
+          within = omega (arith, b, w, total);
+        })
+        (let a = start_kept rows (omega arith) in
+        let z = h.last in
+        let n = h.count in
+        let c = ap length added.starts in
+        record {
+          started = omega (arith, n, c, length-append table.starts.items ((length table.steps.items + length steps) ∷ []));
+          ordered = omega (arith, a, z, start_new);
+          within = omega (arith, start_new, total);
+        });
+    steps = each_row (λ row. AreSteps net path layout (state_of layout (place_at new row)) (steps_at new row))
+        (λ row l. subst (λ p. AreSteps net path layout (state_of layout p) (steps_at new row)) (sym (place_kept row l)) (subst (AreSteps net path layout (state_of layout (place_at table row))) (sym (steps_kept row l)) (h.steps row l)))
+        (subst (λ p. AreSteps net path layout (state_of layout p) (steps_at new rows)) (sym place_new) (subst (AreSteps net path layout (state_of layout before)) (sym steps_new) are));
+    few = each_row (λ row. length (steps_at new row) ≤ 63 * length (out_tracks_of net.tracks (state_of layout (place_at new row)).station))
+        (λ row l. subst (λ p. length (steps_at new row) ≤ 63 * length (out_tracks_of net.tracks (state_of layout p).station)) (sym (place_kept row l)) (let e = ap length (steps_kept row l) in let f = h.few row l in omega arith))
+        (subst (λ p. length (steps_at new rows) ≤ 63 * length (out_tracks_of net.tracks (state_of layout p).station)) (sym place_new) (let n = ap length steps_new in omega arith));
   }
     where
-      range : (place : ℕ) → place < before + 1 → (place < before) ⊎ (before ≤ place) → HasRange new place
-      range place l (inl m) =
-          let r = h.ranges place m in
-          let a = start_kept place (omega arith) in
-          let b = start_kept (place + 1) (omega arith) in
-          let n = h.count in
-          let o = r.ordered in
-          let w = r.within in
-          let c = ap length added.starts in
-          record {
-            started = omega (arith, n, c, length-append table.starts.items ((length table.steps.items + length steps) ∷ []));
-            ordered = omega (arith, a, b, o);
-            within = omega (arith, b, w, total);
-          }
-      range place l (inr m) =
-          let e : before ≡ place = omega arith in
-          let a = start_kept before (omega arith) in
-          let z = h.last in
-          let n = h.count in
-          let c = ap length added.starts in
-          subst (HasRange new) e (record {
-            started = omega (arith, n, c, length-append table.starts.items ((length table.steps.items + length steps) ∷ []));
-            ordered = omega (arith, a, z, start_new);
-            within = omega (arith, start_new, total);
-          })
+      list : (place : ℕ) → place < before + 1 → IsSet more place → (place < before) ⊎ (before ≤ place) → (row : ℕ) × (row < rows_of new) × (place_at new row ≡ place)
+      list place l s (inl m) = let w = h.listed place m (old place m s) in let n = more_rows in (w.0, omega (arith, n, w.1), place_kept w.0 w.1 ∙ w.2)
+      list place l s (inr m) = let e : before ≡ place = omega arith in let n = more_rows in (rows, omega (arith, n), place_new ∙ e)
 
-      by : (place : ℕ) → place < before + 1 → IsSet more place → (place < before) ⊎ (before ≤ place) → AreSteps net path layout (state_of layout place) (steps_at new place)
-      by place l s (inl m) = subst (AreSteps net path layout (state_of layout place)) (sym (steps_kept place m)) (h.steps place m (old place m s))
-      by place l s (inr m) =
-          let e : before ≡ place = omega arith in
-          subst (λ p. AreSteps net path layout (state_of layout p) (steps_at new p)) e (subst (AreSteps net path layout (state_of layout before)) (sym steps_new) (are (subst (IsSet more) (sym e) s)))
+module _ (net : Net) (path : Path) (layout : Layout) where
+  -- a place whose flag is not set adds no row
+  pub table_skip : (before : ℕ) (flags : List Bool) (table : StepTable) → is_set flags before ≡ false → AreStepsTo net path layout before flags table → AreStepsTo net path layout (before + 1) flags table
+  table_skip before flags table unset h = record {
+    count = h.count;
+    last = h.last;
+    rising = h.rising;
+    within = λ row l. let w = h.within row l in omega arith;
+    listed = λ place l s. list place l s (cases_lt place before);
+    ranges = h.ranges;
+    steps = h.steps;
+    few = h.few;
+  }
+    where
+      list : (place : ℕ) → place < before + 1 → IsSet flags place → (place < before) ⊎ (before ≤ place) → (row : ℕ) × (row < rows_of table) × (place_at table row ≡ place)
+      list place l s (inl m) = h.listed place m s
+      list place l s (inr m) = let e : place ≡ before = omega arith in absurd (true≢false (sym s ∙ ap (is_set flags) e ∙ unset))
 
-      fits : (place : ℕ) → place < before + 1 → IsSet more place → (place < before) ⊎ (before ≤ place) → length (steps_at new place) ≤ 63 * length (out_tracks_of net.tracks (state_of layout place).station)
-      fits place l s (inl m) = let e = ap length (steps_kept place m) in let f = h.few place m (old place m s) in omega (arith, e, f)
-      fits place l s (inr m) =
-          let e : before ≡ place = omega arith in
-          let n = ap length steps_new in
-          let f = fit (subst (IsSet more) (sym e) s) in
-          subst (λ p. length (steps_at new p) ≤ 63 * length (out_tracks_of net.tracks (state_of layout p).station)) e (omega (arith, n, f))
+  -- fewer flags, fewer places that are known to have a row
+  pub table_fewer : (before : ℕ) (flags fewer : List Bool) (table : StepTable) → ((place : ℕ) → IsSet fewer place → IsSet flags place)
+      → AreStepsTo net path layout before flags table → AreStepsTo net path layout before fewer table
+  table_fewer before flags fewer table old h = record {
+    count = h.count;
+    last = h.last;
+    rising = h.rising;
+    within = h.within;
+    listed = λ place l s. h.listed place l (old place s);
+    ranges = h.ranges;
+    steps = h.steps;
+    few = h.few;
+  }
 
--- the steps that the table gives for a place whose flag is set
-pub steps_of : (net : Net) (path : Path) (layout : Layout) (before : ℕ) (flags : List Bool) (table : StepTable) → AreStepsTo net path layout before flags table
-    → (place : ℕ) → place < before → IsSet flags place → (steps : List Step) → steps ≡ steps_at table place → AreSteps net path layout (state_of layout place) steps
-steps_of net path layout before flags table h place l s steps e = subst (AreSteps net path layout (state_of layout place)) (sym e) (h.steps place l s)
+  module _ (end : ℕ) (flags : List Bool) (table : StepTable) (h : AreStepsTo net path layout end flags table) where
+    -- the steps that the table gives for a row
+    pub steps_of : (row place : ℕ) (steps : List Step) → row < rows_of table → place ≡ place_at table row → steps ≡ steps_at table row → AreSteps net path layout (state_of layout place) steps
+    steps_of row place steps l p e = subst (λ q. AreSteps net path layout (state_of layout q) steps) (sym p) (subst (AreSteps net path layout (state_of layout (place_at table row))) (sym e) (h.steps row l))
 
--- fewer flags, fewer steps that are known
-pub table_fewer : (net : Net) (path : Path) (layout : Layout) (before : ℕ) (flags fewer : List Bool) (table : StepTable) → ((place : ℕ) → IsSet fewer place → IsSet flags place)
-    → AreStepsTo net path layout before flags table → AreStepsTo net path layout before fewer table
-table_fewer net path layout before flags fewer table old h = record {
-  count = h.count;
-  last = h.last;
-  ranges = h.ranges;
-  steps = λ place l s. h.steps place l (old place s);
-  few = λ place l s. h.few place l (old place s);
-}
+    pub few_of : (row place : ℕ) (steps : List Step) → row < rows_of table → place ≡ place_at table row → steps ≡ steps_at table row → length steps ≤ 63 * length (out_tracks_of net.tracks (state_of layout place).station)
+    few_of row place steps l p e = subst (λ q. length steps ≤ 63 * length (out_tracks_of net.tracks (state_of layout q).station)) (sym p) (let f = h.few row l in let n = ap length e in omega arith)
+
+    -- behind all rows comes the end
+    pub place_end : (row : ℕ) → rows_of table ≤ row → place_or table row end ≡ end
+    place_end row l = get_or_past table.places.items row end l
+
+    pub place_here : (row : ℕ) → row < rows_of table → place_or table row end ≡ place_at table row
+    place_here row l = get_or_default table.places.items row end 0 l
+
+    -- the next row is of a later place, or is the end
+    pub place_next : (row : ℕ) → row < rows_of table → place_at table row + 1 ≤ place_or table (row + 1) end
+    place_next row l = by (cases_lt (row + 1) (rows_of table))
+      where
+        by : (row + 1 < rows_of table) ⊎ (rows_of table ≤ row + 1) → place_at table row + 1 ≤ place_or table (row + 1) end
+        by (inl m) = let e = place_here (row + 1) m in let r = h.rising row (row + 1) (omega arith) m in omega arith
+        by (inr m) = let e = place_end (row + 1) m in let w = h.within row l in omega arith
+
+    pub place_most : (row : ℕ) → place_or table row end ≤ end
+    place_most row = by (cases_lt row (rows_of table))
+      where
+        by : (row < rows_of table) ⊎ (rows_of table ≤ row) → place_or table row end ≤ end
+        by (inl m) = let e = place_here row m in let w = h.within row m in omega arith
+        by (inr m) = let e = place_end row m in omega arith
+
+    -- no flag is set behind the places of the rows before one and before its own
+    gap : (row place : ℕ) → ((r : ℕ) → r < row → r < rows_of table → place_at table r < place) → place < place_or table row end → IsSet flags place → ⊥
+    gap row place low high s =
+        let m = place_most row in
+        let w = h.listed place (omega arith) s in
+        by w.0 w.1 w.2 (cases_lt w.0 row)
+      where
+        by : (r : ℕ) → r < rows_of table → place_at table r ≡ place → (r < row) ⊎ (row ≤ r) → ⊥
+        by r l e (inl b) = let a = low r b l in absurd (omega arith)
+        by r l e (inr b) = let f = place_here row (omega arith) in on (eq-or-lt_of_le b) f
+          where
+            on : (row ≡ r) ⊎ (row < r) → place_or table row end ≡ place_at table row → ⊥
+            on (inl c) f = let g = ap (place_at table) c in absurd (omega arith)
+            on (inr c) f = let g = h.rising row r c l in absurd (omega arith)
+
+    pub gap_first : (place : ℕ) → 0 ≤ place → place < place_or table 0 end → IsSet flags place → ⊥
+    gap_first place _ high s = gap 0 place (λ r b l. absurd (omega arith)) high s
+
+    pub gap_next : (row : ℕ) → row < rows_of table → (place : ℕ) → place_at table row + 1 ≤ place → place < place_or table (row + 1) end → IsSet flags place → ⊥
+    gap_next row l place a high s = gap (row + 1) place (λ r b m. low r b m (eq-or-lt_of_le (r_most r b))) high s
+      where
+        r_most : (r : ℕ) → r < row + 1 → r ≤ row
+        r_most r b = omega arith
+
+        low : (r : ℕ) → r < row + 1 → r < rows_of table → (r ≡ row) ⊎ (r < row) → place_at table r < place
+        low r b m (inl c) = let g = ap (place_at table) c in omega arith
+        low r b m (inr c) = let g = h.rising r row c l in omega arith

@@ -83,7 +83,7 @@ fn make_graph(alloc: Global, net: &Network, bid: &Bid) -> Result<TimeGraph, NoMe
 {
     let columns = Columns::new(alloc, net, bid)?;
     let layout = make_layout(net, bid, &columns);
-    let mut table = StepTable::new(alloc, layout.places())?;
+    let mut table = StepTable::new(alloc)?;
     let mut flags = reach(alloc, net, bid, layout, &mut table)?;
     let arcs = trim(net, bid, layout, &mut flags, &table);
     let numbers = number(alloc, &flags)?;

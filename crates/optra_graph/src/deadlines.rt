@@ -1,58 +1,67 @@
 //! The deadlines of stations: from then on it is too late to leave a station, since no way on from it comes to the
 //! destination within the arrival window.
-ghost use Rattle.std.specs.Prelude.{◌≡◌, ℕ, Bool, ◌<◌, ◌≤◌, length, All, IfOk, IsSomeAnd, Some};
+ghost use Rattle.std.specs.Prelude.{◌≡◌, ℕ, Bool, ◌<◌, ◌≤◌, length, All, IfOk, IfSome, IsSomeAnd, Some, false};
 ghost use Rattle.std.specs.Option.{option_map};
 ghost use Rattle.optra_bid.specs.Specs.{IsPathOn, IsWindow};
 ghost use Rattle.optra_network.specs.Net.{IsProper, IsStation, IsTrack, minutes_by, out_tracks_of, times_of};
-ghost use Rattle.optra_graph.specs.Deadlines.{AreDeadlines, IsTooLate, limit_of};
+ghost use Rattle.optra_graph.specs.Deadlines.{AreBounded, AreDeadlines, IsLeftTooLate, IsTooLate, limit_of};
 
 use optra_bid::Bid;
 use optra_network::{Minute, Network, NoMemory, StationId, TrackId};
 use std::alloc::Global;
 
-/// The deadline of each station. All begin with the last minute of the arrival window, and each pass over the stations
-/// makes them earlier by what their tracks allow, until none changes.
+/// The deadline of each station. All begin with the first departure, and each pass over the stations makes them later by
+/// what their tracks allow, until none changes. A line of stations takes a pass or two, and no network more than one for
+/// each station; were one to take more, the last minute of the arrival window would do for all.
 pub fn make_deadlines(alloc: Global, net: &Network, bid: &Bid) -> Result<Vec<Minute>, NoMemory>
     requires { IsPathOn net.now bid.now.path }
     ensures { IfOk result (λ deadlines. AreDeadlines net.now bid.now.path deadlines.items) }
 {
-    let path = &bid.path;
-    let mut deadlines = vec![in alloc; path.arrive.to; net.station_count() as usize]?;
-    for _ in path.depart.from..path.arrive.to {
-        if !tighten_all(net, bid, &mut deadlines) {
+    let mut deadlines = vec![in alloc; first_minute(bid); net.station_count() as usize]?;
+    for _ in 0..=net.station_count() {
+        if !raise_all(net, bid, &mut deadlines) {
             return Ok(deadlines);
         }
     }
+    deadlines.fill(bid.path.arrive.to);
     Ok(deadlines)
 }
 
-/// Makes the deadlines earlier in one pass over the stations, and tells whether one has changed.
-fn tighten_all(net: &Network, bid: &Bid, deadlines: &mut [Minute]) -> bool
-    requires { AreDeadlines net.now bid.now.path deadlines.old }
-    ensures { AreDeadlines net.now bid.now.path deadlines.new }
+/// No deadline is earlier than this minute: no walk leaves a station before it.
+fn first_minute(bid: &Bid) -> Minute
+    ensures { result ≤ bid.now.path.arrive.to }
 {
+    bid.path.depart.from.min(bid.path.arrive.to)
+}
+
+/// Makes the deadlines later in one pass over the stations, which goes up and down at once, and tells whether one has
+/// changed.
+fn raise_all(net: &Network, bid: &Bid, deadlines: &mut [Minute]) -> bool
+    requires { AreBounded net.now bid.now.path deadlines.old }
+    ensures bounded { AreBounded net.now bid.now.path deadlines.new }
+    ensures done { result ≡ false → AreDeadlines net.now bid.now.path deadlines.new }
+{
+    let count = net.station_count();
     let mut changed = false;
-    for station in 0..net.station_count() {
-        if tighten(net, bid, deadlines, StationId(station)) {
-            changed = true;
-        }
+    for station in 0..count {
+        let down = raise(net, bid, deadlines, StationId(count - 1 - station));
+        let up = raise(net, bid, deadlines, StationId(station));
+        changed = changed | down | up;
     }
     changed
 }
 
-/// Makes the deadline of one station earlier, where its tracks allow it, and tells whether it has changed. One that is
-/// not after the first departure stays.
-fn tighten(net: &Network, bid: &Bid, deadlines: &mut [Minute], station: StationId) -> bool
-    requires deadlines { AreDeadlines net.now bid.now.path deadlines.old }
+/// Makes the deadline of one station later, where its tracks ask for it, and tells whether it has changed.
+fn raise(net: &Network, bid: &Bid, deadlines: &mut [Minute], station: StationId) -> bool
+    requires bounded { AreBounded net.now bid.now.path deadlines.old }
     requires station { IsStation net.now station }
-    ensures { AreDeadlines net.now bid.now.path deadlines.new }
+    ensures bounded { AreBounded net.now bid.now.path deadlines.new }
+    ensures same { result ≡ false → deadlines.new ≡ deadlines.old }
+    ensures late { result ≡ false → IsLeftTooLate net.now bid.now.path deadlines.old station }
 {
     let place = station.0 as usize;
-    if deadlines[place] <= bid.path.depart.from {
-        return false;
-    }
     let deadline = find_deadline(net, bid, deadlines, station);
-    if deadline >= deadlines[place] {
+    if deadline <= deadlines[place] {
         return false;
     }
     deadlines[place] = deadline;
@@ -61,12 +70,13 @@ fn tighten(net: &Network, bid: &Bid, deadlines: &mut [Minute], station: StationI
 
 /// The first minute, from the start of the departure window on, at which it is too late to leave by any of the tracks.
 fn find_deadline(net: &Network, bid: &Bid, deadlines: &[Minute], station: StationId) -> Minute
-    requires deadlines { AreDeadlines net.now bid.now.path deadlines.now }
+    requires deadlines { AreBounded net.now bid.now.path deadlines.now }
     requires station { IsStation net.now station }
-    ensures { All (IsTooLate net.now bid.now.path deadlines.now result)
+    ensures most { result ≤ bid.now.path.arrive.to }
+    ensures late { All (IsTooLate net.now bid.now.path deadlines.now result)
         (out_tracks_of net.now.tracks station) }
 {
-    let mut deadline = bid.path.depart.from;
+    let mut deadline = first_minute(bid);
     for track in net.out_tracks(station) {
         deadline = deadline.max(track_deadline(net, bid, deadlines, *track));
     }
@@ -75,9 +85,10 @@ fn find_deadline(net: &Network, bid: &Bid, deadlines: &[Minute], station: Statio
 
 /// A minute at which it is too late to leave by the track.
 fn track_deadline(net: &Network, bid: &Bid, deadlines: &[Minute], track: TrackId) -> Minute
-    requires deadlines { AreDeadlines net.now bid.now.path deadlines.now }
+    requires deadlines { AreBounded net.now bid.now.path deadlines.now }
     requires track { IsTrack net.now track }
-    ensures { IsTooLate net.now bid.now.path deadlines.now result track }
+    ensures most { result ≤ bid.now.path.arrive.to }
+    ensures late { IsTooLate net.now bid.now.path deadlines.now result track }
 {
     let Some(least) = least_run(net, bid, track) else {
         return 0;
@@ -100,7 +111,8 @@ fn limit(bid: &Bid, deadlines: &[Minute], station: StationId) -> Minute
 
 /// The least of the running times of the bid's type on the track.
 fn least_run(net: &Network, bid: &Bid, track: TrackId) -> Option<u16>
-    ensures { (a b : Bool) (minutes : ℕ) → option_map (minutes_by a b) (times_of net.now track
+    ensures some { IfSome result (λ least. 1 ≤ least) }
+    ensures least { (a b : Bool) (minutes : ℕ) → option_map (minutes_by a b) (times_of net.now track
         bid.now.path.kind) ≡ Some minutes → IsSomeAnd result (λ least. least ≤ minutes) }
 {
     let kind = bid.path.kind;

@@ -67,12 +67,12 @@ pub fn add_legs(
         (places_of layout.entry) dag.old.arcs dag.new.arcs legs.new.items) }
     ensures ends { OnOk result (dag.new.ends ≡ dag.old.ends) }
 {
-    for place in 0..layout.places() {
-        if !kept.flags[place as usize] {
+    for row in 0..table.rows() {
+        let place = table.place(row) as usize;
+        if !kept.flags[place] {
             continue;
         }
-        let from = kept.numbers[place as usize];
-        add_arcs(dag, legs, from, table.of(place), kept)?;
+        add_arcs(dag, legs, kept.numbers[place], table.of(row), kept)?;
     }
     Ok(())
 }

@@ -10,13 +10,22 @@ pub fn number(alloc: Global, flags: &[bool]) -> Result<Vec<u32>, NoMemory>
     requires { length flags.now < 2 ^ 32 - 1 }
     ensures { IfOk result (λ numbers. AreNumbers flags.now numbers.items) }
 {
-    let mut numbers = Vec::with_capacity(alloc, flags.len())?;
+    let mut numbers = vec![in alloc; 0; flags.len()]?;
+    fill(&mut numbers, flags);
+    Ok(numbers)
+}
+
+/// Puts the numbers into an array of as many.
+fn fill(numbers: &mut [u32], flags: &[bool])
+    requires room { length flags.now < 2 ^ 32 - 1 }
+    requires len { length numbers.old ≡ length flags.now }
+    ensures { AreNumbers flags.now numbers.new }
+{
     let mut next = 1;
-    for flag in flags {
-        numbers.push(next)?;
-        if *flag {
+    for place in 0..numbers.len().min(flags.len()) {
+        numbers[place] = next;
+        if flags[place] {
             next += 1;
         }
     }
-    Ok(numbers)
 }

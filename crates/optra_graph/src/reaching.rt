@@ -58,9 +58,7 @@ pub fn reach(
         if flags[place as usize] {
             fill_steps(net, bid, layout, layout.state(place), &mut steps)?;
             mark(&mut flags, &steps);
-            table.add(&steps)?;
-        } else {
-            table.skip()?;
+            table.add(place, &steps)?;
         }
     }
     Ok(flags)
@@ -106,12 +104,10 @@ pub fn trim(
         flags.new.items table.now }
 {
     let mut arcs: usize = 0;
-    let mut left = layout.places();
+    let mut left = table.rows();
     while left > 0 {
         left -= 1;
-        if flags[left as usize] {
-            arcs = arcs.saturating_add(settle(flags, left, table.of(left)));
-        }
+        arcs = arcs.saturating_add(settle(flags, table.place(left), table.of(left)));
     }
     arcs
 }

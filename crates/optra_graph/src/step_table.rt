@@ -1,55 +1,65 @@
-//! The steps of all places, made once.
-ghost use Rattle.std.specs.Prelude.{◌≡◌, ℕ, ◌+◌, ◌<◌, [], ◌∷◌, length, IfOk, OnOk};
-ghost use Rattle.optra_graph.specs.StepTables.{IsEmpty, IsGrown, HasRange, steps_at};
+//! The steps of the places that are reached, made once.
+ghost use Rattle.std.specs.Prelude.{◌≡◌, ℕ, ◌+◌, ◌<◌, [], ◌∷◌, IfOk, OnOk};
+ghost use Rattle.optra_graph.specs.StepTables.{IsEmpty, IsGrown, HasRange, place_at, rows_of, steps_at};
 
 use crate::stepping::Step;
 use optra_network::NoMemory;
 use std::alloc::Global;
 
-/// The steps of the places from 0 on, one place after the other.
+/// The steps of some places, in rows, one place after the other.
 #[derive(Drop)]
 pub struct StepTable {
     pub steps: Vec<Step>,
-    /// Where the steps of each place begin, and at last where all end.
+    /// The place of each row, ascending.
+    pub places: Vec<u32>,
+    /// Where the steps of each row begin, and at last where all end.
     pub starts: Vec<usize>,
 }
 
 impl StepTable {
-    /// Has no place yet, and room for so many.
-    pub fn new(alloc: Global, places: u32) -> Result<StepTable, NoMemory>
+    /// Has no place yet.
+    pub fn new(alloc: Global) -> Result<StepTable, NoMemory>
         ensures { IfOk result IsEmpty }
     {
-        let mut starts = Vec::with_capacity(alloc, places as usize + 1)?;
+        let mut starts = Vec::new(alloc);
         starts.push(0)?;
         Ok(StepTable {
             steps: Vec::new(alloc),
+            places: Vec::new(alloc),
             starts,
         })
     }
 
-    /// Adds the steps of the next place.
-    pub fn add(&mut self, steps: &[Step]) -> Result<(), NoMemory>
-        ensures { OnOk result (IsGrown self.old steps.now self.new) }
+    /// Adds the steps of a place that comes after all others.
+    pub fn add(&mut self, place: u32, steps: &[Step]) -> Result<(), NoMemory>
+        ensures { OnOk result (IsGrown self.old place steps.now self.new) }
     {
         self.steps.extend_from_slice(steps)?;
+        self.places.push(place)?;
         self.starts.push(self.steps.len())?;
         Ok(())
     }
 
-    /// The next place has no steps.
-    pub fn skip(&mut self) -> Result<(), NoMemory>
-        ensures { OnOk result (IsGrown self.old [] self.new) }
+    /// How many rows there are.
+    pub fn rows(&self) -> usize
+        ensures { result ≡ rows_of self.now }
     {
-        self.starts.push(self.steps.len())?;
-        Ok(())
+        self.places.len()
     }
 
-    /// The steps of a place.
-    pub fn of(&self, place: u32) -> &[Step]
-        requires { HasRange self.now place }
-        ensures { result.now ≡ steps_at self.now place }
+    /// The place of a row.
+    pub fn place(&self, row: usize) -> u32
+        requires { row < rows_of self.now }
+        ensures { result ≡ place_at self.now row }
     {
-        let place = place as usize;
-        &self.steps[self.starts[place]..self.starts[place + 1]]
+        self.places[row]
+    }
+
+    /// The steps of a row.
+    pub fn of(&self, row: usize) -> &[Step]
+        requires { HasRange self.now row }
+        ensures { result.now ≡ steps_at self.now row }
+    {
+        &self.steps[self.starts[row]..self.starts[row + 1]]
     }
 }

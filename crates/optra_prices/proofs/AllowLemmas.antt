@@ -51,12 +51,12 @@ module _ {R : Type 0} (rows : Rows R) (bids : List Bid) (numbered : List R) (nod
   own_load : (n : ℕ) (row : R) → slice_get numbered n ≡ Some row → placed_uses claims places n ≡ yes_load rows bids (decisions_for node number) row
   own_load n row at = placed_load rows bids numbered n row at node claims are places (decisions_for node number) own
 
-  pub room_without : (old new : Room) → IsRoom rows numbered (yes_load rows bids node) old → TakesUses (placed_uses claims places) old.uses.items new.uses.items → new.capacities ≡ old.capacities → IsRoom rows numbered (others_load rows bids node number) new
+  pub room_without : (old new : Room) → IsRoom rows numbered (yes_load rows bids node) old → TakesUses (placed_uses claims places) old.loads.uses new.loads.uses → new.loads.capacities ≡ old.loads.capacities → IsRoom rows numbered (others_load rows bids node number) new
   room_without old new is =
       room_takes rows numbered (placed_uses claims places) (others_load rows bids node number) (yes_load rows bids (decisions_for node number)) own_load old new
       (same_room rows numbered (yes_load rows bids node) both old (λ row. load_split rows bids number row node) is)
 
-  pub room_with : (old new : Room) → IsRoom rows numbered (others_load rows bids node number) old → AddsUses (placed_uses claims places) old.uses.items new.uses.items → new.capacities ≡ old.capacities → IsRoom rows numbered (yes_load rows bids node) new
+  pub room_with : (old new : Room) → IsRoom rows numbered (others_load rows bids node number) old → AddsUses (placed_uses claims places) old.loads.uses new.loads.uses → new.loads.capacities ≡ old.loads.capacities → IsRoom rows numbered (yes_load rows bids node) new
   room_with old new is adds kept =
       same_room rows numbered both (yes_load rows bids node) new (λ row. sym (load_split rows bids number row node))
       (room_adds rows numbered (placed_uses claims places) (others_load rows bids node number) (yes_load rows bids (decisions_for node number)) own_load old new is adds kept)
@@ -65,14 +65,14 @@ module _ {R : Type 0} (rows : Rows R) (bids : List Bid) (numbered : List R) (nod
 module _ {R : Type 0} (cmp : R → R → Ordering) (net : Net) (proper : IsProper net) (rows : Rows R) (used : TypeId → Leg → List R)
     (lists : (kind : TypeId) (leg : Leg) → IsUsable net kind leg → ListsRows cmp rows.is_row (rows.uses kind leg) (used kind leg)) (bids : List Bid) (node : List Decision) (number : ℕ) (numbered : List R) (room : Room)
     (is : IsRoom rows numbered (others_load rows bids node number) room) (groups : Groups) (table : BidTable) where
-  pub table_tells : IsTableFor net rows used bids numbered groups number table → RoomTells rows bids node number room table.graph.now groups table.arcs.items
+  pub table_tells : IsTableFor net rows used bids numbered groups number table → RoomTells rows bids node number room table.graph.now groups table.arcs
   table_tells (bid, here, at) = record {
     count = at.arcs_are.count;
     groups_are = at.arcs_are.groups;
     within = at.arcs_are.terms.within;
     starts_are = λ k minute arc arc_at start. (at.arcs_are.terms.starts_are k minute arc arc_at start).group_is;
     legs_are = λ k leg arc arc_at there.
-        let within = slice_get_within table.arcs.items k arc arc_at in
+        let within = slice_get_within table.arcs k arc arc_at in
         let count = at.arcs_are.count in
         let usable = arc_usable net proper bid table.graph.now at.arcs_are.graph k leg (omega (arith, within, count)) there in
         let group = group_at groups.starts.items groups.touches.items arc.group in
@@ -215,18 +215,18 @@ module _ {R : Type 0} (net : Net) (rows : Rows R) (used : TypeId → Leg → Lis
   table_anew number bid here old new anew is =
       let starts = groups.starts.items in
       let touches = groups.touches.items in
-      let terms = terms_anew number old.graph.now old.arcs.items new.arcs.items anew.arcs bid starts touches is.arcs_are.terms in
-      let marks = marks_anew number old.graph.now old.arcs.items new.arcs.items anew.arcs bid here in
+      let terms = terms_anew number old.graph.now old.arcs new.arcs anew.arcs bid starts touches is.arcs_are.terms in
+      let marks = marks_anew number old.graph.now old.arcs new.arcs anew.arcs bid here in
       record {
         arcs_are = record {
           graph = subst (IsGraphOf net bid.path) (sym anew.graph) is.arcs_are.graph;
           count = anew.arcs.count_is ∙ is.arcs_are.count ∙ ap (λ (t : Timed). length t.dag.arcs) (sym anew.graph);
           groups = is.arcs_are.groups;
-          terms = subst (λ (t : Timed). AreTerms net rows used bid t numbered starts touches new.arcs.items) (sym anew.graph) terms;
-          marks = subst (λ (t : Timed). AreMarked now number bid.path.kind t new.arcs.items) (sym anew.graph) marks;
+          terms = subst (λ (t : Timed). AreTerms net rows used bid t numbered starts touches new.arcs) (sym anew.graph) terms;
+          marks = subst (λ (t : Timed). AreMarked now number bid.path.kind t new.arcs) (sym anew.graph) marks;
           forced_is = anew.forced_is;
         };
-        covers = subst (λ (most : ℤ). Covers most new.arcs.items) (sym anew.most) (covers_anew number old.graph.now old.arcs.items new.arcs.items anew.arcs old.most is.covers);
+        covers = subst (λ (most : ℤ). Covers most new.arcs) (sym anew.most) (covers_anew number old.graph.now old.arcs new.arcs anew.arcs old.most is.covers);
       }
 
 -- the first tables are at the node, and the others as they were made

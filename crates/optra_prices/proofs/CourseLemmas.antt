@@ -38,10 +38,10 @@ numbered_once cmp c is i j row i_at j_at = same_Some i j (sym (is.known i row i_
 
 module _ {R : Type 0} (cmp : R → R → Ordering) (total : IsTotalOrder cmp) (apart : TellsApart cmp) (s : Setting R) (c : ArcTables R) (ordered : AreUp cmp c.numbering.order.items) where
   -- the price of all capacity by number is that of the prices
-  pub capacity_is : AreSetUp cmp s c → capacity_below c.levels.prices.items c.levels.capacities.items (length c.levels.prices.items) ≡ capacity_price s.rows (prices_at c)
-  capacity_is is = sym by_number ∙ capacity_listed s.rows c.levels.prices.items c.levels.capacities.items is.levels.range c.numbering.order.items
-      (entries_all cmp total apart s.rows c.numbering.order.items c.numbering.rows.items is.numbering is.rows ordered (λ (e : R × ℕ). slice_index c.levels.capacities.items e.1 ≡ s.rows.capacity e.0)
-      (λ e at. get_or_from_slice_get c.levels.capacities.items e.1 (s.rows.capacity e.0) 0 (is.capacities e.1 e.0 at)))
+  pub capacity_is : AreSetUp cmp s c → capacity_below c.levels.prices.items c.levels.loads.capacities (length c.levels.prices.items) ≡ capacity_price s.rows (prices_at c)
+  capacity_is is = sym by_number ∙ capacity_listed s.rows c.levels.prices.items c.levels.loads.capacities is.levels.range c.numbering.order.items
+      (entries_all cmp total apart s.rows c.numbering.order.items c.numbering.rows.items is.numbering is.rows ordered (λ (e : R × ℕ). slice_index c.levels.loads.capacities e.1 ≡ s.rows.capacity e.0)
+      (λ e at. get_or_from_slice_get c.levels.loads.capacities e.1 (s.rows.capacity e.0) 0 (is.capacities e.1 e.0 at)))
     where
       rows : List R
       rows = c.numbering.rows.items
@@ -52,10 +52,10 @@ module _ {R : Type 0} (cmp : R → R → Ordering) (total : IsTotalOrder cmp) (a
       once : (i : ℕ) → i < length rows → times i c.numbering.order.items ≡ 1
       once = numbers_once cmp total apart c.numbering.order.items rows is.numbering ordered (entries (λ (e : R × ℕ). slice_get rows e.1 ≡ Some e.0) (λ e at. at))
 
-      by_number : capacity_sum c.numbering.order.items c.levels.prices.items c.levels.capacities.items ≡ capacity_below c.levels.prices.items c.levels.capacities.items (length c.levels.prices.items)
+      by_number : capacity_sum c.numbering.order.items c.levels.prices.items c.levels.loads.capacities ≡ capacity_below c.levels.prices.items c.levels.loads.capacities (length c.levels.prices.items)
       by_number =
-          subst (λ (n : ℕ). capacity_sum c.numbering.order.items c.levels.prices.items c.levels.capacities.items ≡ capacity_below c.levels.prices.items c.levels.capacities.items n) (sym is.price_count)
-          (sum_numbers (λ (k : ℕ). slice_index_or c.levels.prices.items k (pos 0) *ℤ pos (slice_index c.levels.capacities.items k)) (length rows) c.numbering.order.items
+          subst (λ (n : ℕ). capacity_sum c.numbering.order.items c.levels.prices.items c.levels.loads.capacities ≡ capacity_below c.levels.prices.items c.levels.loads.capacities n) (sym is.price_count)
+          (sum_numbers (λ (k : ℕ). slice_index_or c.levels.prices.items k (pos 0) *ℤ pos (slice_index c.levels.loads.capacities k)) (length rows) c.numbering.order.items
           (entries (λ (e : R × ℕ). e.1 < length rows) (λ e at. slice_get_within rows e.1 e.0 at)) once)
 
   -- a course with its value is priced
@@ -101,15 +101,15 @@ module _ {R : Type 0} (cmp : R → R → Ordering) (s : Setting R) (c : ArcTable
   tables_same = subst (λ groups. AreTables s (length s.bids) c.numbering.rows.items groups c.tables.items) (sym is_columns.groups_are)
 
   -- after prices of rows have moved on and other paths were counted, what is set up stays so
-  pub counted_on : (levels : Levels) (counted : Vec (Vec ℕ Global) Global) → AreSetUp cmp s c → IsLevels levels → AreCounted c.columns.groups c.tables.items (paths_in counted.items) levels.uses.items → length levels.prices.items ≡ length c.levels.prices.items → levels.capacities ≡ c.levels.capacities → columns.grouped ≡ c.columns.grouped
+  pub counted_on : (levels : Levels) (counted : Vec (Vec ℕ Global) Global) → AreSetUp cmp s c → IsLevels levels → AreCounted c.columns.groups c.tables.items (paths_in counted.items) levels.loads.uses → length levels.prices.items ≡ length c.levels.prices.items → levels.loads.capacities ≡ c.levels.loads.capacities → columns.grouped ≡ c.columns.grouped
       → AreSetUp cmp s (record c { levels = levels; columns = columns; counted = counted })
   counted_on levels counted is is_levels counts count capacities grouped = record {
     numbering = is.numbering;
     rows = is.rows;
-    capacities = subst (λ cs. HaveCapacities s.rows c.numbering.rows.items cs.items) (sym capacities) is.capacities;
+    capacities = subst (λ (cs : List ℕ). HaveCapacities s.rows c.numbering.rows.items cs) (sym capacities) is.capacities;
     price_count = count ∙ is.price_count;
     levels = is_levels;
-    counted = subst (λ groups. AreCounted groups c.tables.items (paths_in counted.items) levels.uses.items) (sym is_columns.groups_are) counts;
+    counted = subst (λ groups. AreCounted groups c.tables.items (paths_in counted.items) levels.loads.uses) (sym is_columns.groups_are) counts;
     columns = own_columns c.columns.groups columns is_columns;
     tables = tables_same is.tables;
     stand = subst (λ prices. AllStand c.tables.items prices.items c.standings.items) (sym grouped) is.stand;
@@ -119,6 +119,6 @@ module _ {R : Type 0} (cmp : R → R → Ordering) (s : Setting R) (c : ArcTable
   }
 
   -- so does it where uses stay
-  pub set_up_on : (levels : Levels) → AreSetUp cmp s c → IsLevels levels → levels.uses ≡ c.levels.uses → length levels.prices.items ≡ length c.levels.prices.items → levels.capacities ≡ c.levels.capacities → columns.grouped ≡ c.columns.grouped
+  pub set_up_on : (levels : Levels) → AreSetUp cmp s c → IsLevels levels → levels.loads.uses ≡ c.levels.loads.uses → length levels.prices.items ≡ length c.levels.prices.items → levels.loads.capacities ≡ c.levels.loads.capacities → columns.grouped ≡ c.columns.grouped
       → AreSetUp cmp s (record c { levels = levels; columns = columns })
-  set_up_on levels is is_levels uses = counted_on levels c.counted is is_levels (subst (λ v. AreCounted c.columns.groups c.tables.items (paths_in c.counted.items) v.items) (sym uses) is.counted)
+  set_up_on levels is is_levels uses = counted_on levels c.counted is is_levels (subst (λ (us : List ℕ). AreCounted c.columns.groups c.tables.items (paths_in c.counted.items) us) (sym uses) is.counted)

@@ -59,7 +59,7 @@ module _ {R : Type 0} (rows : Rows R) (bids : List Bid) (numbered : List R) (roo
   none_overfull node claims are is all row over =
       let a = over.above in
       let w = some_part (yes_uses rows bids row) (IsWithinAt row) node (decisions_within node claims are all row) (omega (arith, a)) in
-      let u : get_or room.uses.items w.0 0 ≡ yes_load rows bids node row = get_or_from_slice_get room.uses.items w.0 (yes_load rows bids node row) 0 (is.uses_are w.0 row w.1) in
-      let c : get_or room.capacities.items w.0 0 ≡ rows.capacity row = get_or_from_slice_get room.capacities.items w.0 (rows.capacity row) 0 (is.capacities_are w.0 row w.1) in
+      let u : get_or room.loads.uses w.0 0 ≡ yes_load rows bids node row = get_or_from_slice_get room.loads.uses w.0 (yes_load rows bids node row) 0 (is.uses_are w.0 row w.1) in
+      let c : get_or room.loads.capacities w.0 0 ≡ rows.capacity row = get_or_from_slice_get room.loads.capacities w.0 (rows.capacity row) 0 (is.capacities_are w.0 row w.1) in
       let fits = w.2 in
       omega (arith, a, u, c, fits)

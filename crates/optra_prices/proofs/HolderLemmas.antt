@@ -90,7 +90,7 @@ pub record AreListedBelow (n : ℕ) (tables : List BidTable) (starts : List ℕ)
   pub last_start : slice_index starts n ≡ length held.groups.items
   pub spans : AreSpans starts (length held.groups.items)
   pub most : (g : ℕ) → slice_index held.last.items g ≤ n
-  pub each : (number : ℕ) (table : BidTable) → number < n → slice_get tables number ≡ Some table → All (IsOf starts held.groups.items number) (groups_of table.arcs.items)
+  pub each : (number : ℕ) (table : BidTable) → number < n → slice_get tables number ≡ Some table → All (IsOf starts held.groups.items number) (groups_of table.arcs)
 
 pub listed_none : (tables : List BidTable) (starts : List ℕ) (held : Held) → starts ≡ 0 ∷ [] → held.groups.items ≡ [] → held.last.items ≡ [] → AreListedBelow 0 tables starts held
 listed_none tables starts held is groups last = record {
@@ -104,20 +104,20 @@ listed_none tables starts held is groups last = record {
   each = λ number table l. absurd (omega arith);
 }
 
-pub listed_more : (n : ℕ) (tables : List BidTable) (starts next : List ℕ) (old new : Held) (table : BidTable) → AreListedBelow n tables starts old → slice_get tables n ≡ Some table → HoldsArcs (n + 1) table.arcs.items old new → next ≡ starts ++ length new.groups.items ∷ []
+pub listed_more : (n : ℕ) (tables : List BidTable) (starts next : List ℕ) (old new : Held) (table : BidTable) → AreListedBelow n tables starts old → slice_get tables n ≡ Some table → HoldsArcs (n + 1) table.arcs old new → next ≡ starts ++ length new.groups.items ∷ []
     → AreListedBelow (n + 1) tables next new
 listed_more n tables starts next old new table below at holds pushed = record {
   count = ap length pushed ∙ length_push starts (length new.groups.items) ∙ ap (λ (k : ℕ). k + 1) below.count;
   last_start = last;
   spans = record { ordered = ordered; within = within };
   most = (holds.listing (length old.groups.items) listing).most;
-  each = λ number x l x_at. elim (cases_eq number n) as (λ _. All (IsOf next new.groups.items number) (groups_of x.arcs.items)) [
+  each = λ number x l x_at. elim (cases_eq number n) as (λ _. All (IsOf next new.groups.items number) (groups_of x.arcs)) [
     | inl e ↦
         let same : table ≡ x = same_Some table x (sym at ∙ ap (slice_get tables) (sym e) ∙ x_at) in
-        subst (λ (y : BidTable). All (IsOf next new.groups.items number) (groups_of y.arcs.items)) same
-        (subst (λ (k : ℕ). All (IsOf next new.groups.items k) (groups_of table.arcs.items)) (sym e) (All-weaker (StandsFrom new.groups.items (length old.groups.items)) (IsOf next new.groups.items n) (λ g stands. now g stands) (groups_of table.arcs.items)
+        subst (λ (y : BidTable). All (IsOf next new.groups.items number) (groups_of y.arcs)) same
+        (subst (λ (k : ℕ). All (IsOf next new.groups.items k) (groups_of table.arcs)) (sym e) (All-weaker (StandsFrom new.groups.items (length old.groups.items)) (IsOf next new.groups.items n) (λ g stands. now g stands) (groups_of table.arcs)
         (holds.here (length old.groups.items) listing)))
-    | inr apart ↦ All-weaker (IsOf starts old.groups.items number) (IsOf next new.groups.items number) (λ g is. before number g (omega arith) is) (groups_of x.arcs.items) (below.each number x (omega arith) x_at)
+    | inr apart ↦ All-weaker (IsOf starts old.groups.items number) (IsOf next new.groups.items number) (λ g is. before number g (omega arith) is) (groups_of x.arcs) (below.each number x (omega arith) x_at)
   ];
 }
   where
@@ -186,7 +186,7 @@ holders_all n tables starts groups held holders past is below index inverts = re
       let w = slice_get_within tables number table at in
       let count = below.count in
       All-weaker (IsOf starts held.groups.items number) (λ g. IndexHas holders g number)
-      (λ g has. subst (λ (h : ℕ). IndexHas holders h number) (ap (λ (gs : List ℕ). slice_index gs has.0) is ∙ has.3) (inverts number has.0 (omega arith) has.1 has.2)) (groups_of table.arcs.items) (below.each number table (omega arith) at);
+      (λ g has. subst (λ (h : ℕ). IndexHas holders h number) (ap (λ (gs : List ℕ). slice_index gs has.0) is ∙ has.3) (inverts number has.0 (omega arith) has.1 has.2)) (groups_of table.arcs) (below.each number table (omega arith) at);
 }
 
 -- the groups of arcs stay when tables are brought to a node, and so do the bids that have them
@@ -291,7 +291,7 @@ pub tells_all : (n : ℕ) (marks : List Mark) (due : List ℕ) (tables : List Bi
 tells_all n marks due tables holders old now past count listed are below = record {
   count = below.keeps.count ∙ count;
   each = λ number table at untold k d l fell.
-      let g = get_or (groups_of table.arcs.items) k d in
+      let g = get_or (groups_of table.arcs) k d in
       let w = slice_get_within tables number table at in
       let on = listed g (λ still. clash (sym still ∙ fell)) in
       let told = below.here on.0 (omega (arith, on.1)) (at_due g on fell) number (omega arith) (has_due g number on (are.held number table at k d l)) in

@@ -33,8 +33,8 @@ use Rattle.optra_prices.proofs.SettledLemmas.{stuck_at, settled_valuation}
 -- where nothing has changed, what was known stands
 pub brought_stands : (c : Bool) (before after : BidTable) (grouped : List ℤ) (standing : Standing) → c ≡ false → IsBrought c before after → Stands before grouped standing → Stands after grouped standing
 brought_stands c before after grouped standing same is stands =
-    subst (λ (forced : Bool). IsFound after.graph.now.dag (allows_by after.arcs.items) (weight_by after.arcs.items grouped) forced standing.path.items standing.term standing.stuck) (sym (is.forced same))
-    (found_moves before.graph.now.dag after.graph.now.dag before.arcs.items after.arcs.items grouped grouped before.forced standing.path.items standing.term standing.term standing.stuck
+    subst (λ (forced : Bool). IsFound after.graph.now.dag (allows_by after.arcs) (weight_by after.arcs grouped) forced standing.path.items standing.term standing.stuck) (sym (is.forced same))
+    (found_moves before.graph.now.dag after.graph.now.dag before.arcs after.arcs grouped grouped before.forced standing.path.items standing.term standing.term standing.stuck
     (ap (λ (t : Timed). t.dag) (sym is.graph)) (sym (is.arcs same)) refl refl stands)
 
 -- without prices a group costs nothing

@@ -11,7 +11,7 @@ use Rattle.std.proofs.lemmas.Nat.{mul-le}
 use Rattle.std.proofs.Math.IntN.{pos-*ℤ-pos, zero-*ℤ}
 use Rattle.optra_bid.specs.Specs.{IsBetween}
 use Rattle.optra_node.proofs.LoadLemmas.{contains_cases, contains_head, contains_later}
-use Rattle.optra_prices.specs.Counts.{Numbers}
+use Rattle.optra_prices.specs.Loads.{RowLoads, SetsUses}
 use Rattle.optra_prices.specs.Levels.{IsLevels, IsIdle, IsLeft, StandOnce, AreUnused, IsMove, GoesOn, MovesRow, MovesTo, HoldsPrices, moved_by, price_of, use_of, capacity_of, is_listed}
 use Rattle.optra_prices.specs.Listings.{capacity_below}
 use Rattle.optra_prices.specs.Tables.{IsRowPrice}
@@ -438,58 +438,61 @@ covers_priced prices uses capacities active k x has covers n l = elim (cases_eq 
 ]
 
 -- or when a row has another use, unless it was idle, isn't active and is used above its capacity now
-pub used_levels : (old : Levels) (uses : Numbers) (k x : ℕ) → IsLevels old → k < length old.prices.items → uses.items ≡ set old.uses.items k x → (IsIdle old k → (x ≤ capacity_of old k) ⊎ Contains old.active.items k)
-    → IsLevels (record old { uses = uses })
-used_levels old uses k x is l e active = record {
-  use_count = ap length e ∙ length-set old.uses.items k x ∙ is.use_count;
-  capacity_count = is.capacity_count;
+pub used_levels : (old : Levels) (loads : RowLoads) (k x : ℕ) → IsLevels old → k < length old.prices.items → SetsUses k x old.loads loads → (IsIdle old k → (x ≤ capacity_of old k) ⊎ Contains old.active.items k)
+    → IsLevels (record old { loads = loads })
+used_levels old loads k x is l sets active = record {
+  use_count = ap length sets.uses_are ∙ length-set old.loads.uses k x ∙ is.use_count;
+  capacity_count = ap length sets.capacities ∙ is.capacity_count;
   mark_count = is.mark_count;
   range = is.range;
-  small = is.small;
-  capacity_is = is.capacity_is;
+  small = subst (All (λ (c : ℕ). c ≤ 65535)) (sym sets.capacities) is.small;
+  capacity_is = is.capacity_is ∙ ap (λ (cs : List ℕ). capacity_below old.prices.items cs (length old.prices.items)) (sym sets.capacities);
   within = is.within;
   once = is.once;
   marked = is.marked;
   found = is.found;
-  covers = λ n m. elim (cases_eq n k) as (λ _. IsIdle (record old { uses = uses }) n ⊎ Contains old.active.items n) [
-    | inl same ↦ subst (λ (i : ℕ). IsIdle (record old { uses = uses }) i ⊎ Contains old.active.items i) (sym same) at_row
-    | inr apart ↦ elim (is.covers n m) as (λ _. IsIdle (record old { uses = uses }) n ⊎ Contains old.active.items n) [
-      | inl idle ↦ inl (idle.0, let u = elsewhere n apart in let few = idle.1 in omega arith)
+  covers = λ n m. elim (cases_eq n k) as (λ _. IsIdle (record old { loads = loads }) n ⊎ Contains old.active.items n) [
+    | inl same ↦ subst (λ (i : ℕ). IsIdle (record old { loads = loads }) i ⊎ Contains old.active.items i) (sym same) at_row
+    | inr apart ↦ elim (is.covers n m) as (λ _. IsIdle (record old { loads = loads }) n ⊎ Contains old.active.items n) [
+      | inl idle ↦ inl (idle.0, let u = elsewhere n apart in let few = idle.1 in let room = room_at n in omega arith)
       | inr has ↦ inr has
     ]
   ];
 }
   where
-    here : slice_index uses.items k ≡ x
-    here = ap (λ (us : List ℕ). slice_index us k) e ∙ get_or-set_same old.uses.items k x 0 (let count = is.use_count in omega arith)
+    room_at : (n : ℕ) → slice_index loads.capacities n ≡ capacity_of old n
+    room_at n = ap (λ (cs : List ℕ). slice_index cs n) sets.capacities
 
-    elsewhere : (n : ℕ) → (n ≡ k → ⊥) → slice_index uses.items n ≡ use_of old n
-    elsewhere n apart = ap (λ (us : List ℕ). slice_index us n) e ∙ get_or-set_other old.uses.items k n x 0 apart
+    here : slice_index loads.uses k ≡ x
+    here = ap (λ (us : List ℕ). slice_index us k) sets.uses_are ∙ get_or-set_same old.loads.uses k x 0 (let count = is.use_count in omega arith)
 
-    at_row : IsIdle (record old { uses = uses }) k ⊎ Contains old.active.items k
-    at_row = elim (is.covers k l) as (λ _. IsIdle (record old { uses = uses }) k ⊎ Contains old.active.items k) [
-      | inl idle ↦ elim (active idle) as (λ _. IsIdle (record old { uses = uses }) k ⊎ Contains old.active.items k) [
-        | inl few ↦ inl (idle.0, let u = here in omega arith)
+    elsewhere : (n : ℕ) → (n ≡ k → ⊥) → slice_index loads.uses n ≡ use_of old n
+    elsewhere n apart = ap (λ (us : List ℕ). slice_index us n) sets.uses_are ∙ get_or-set_other old.loads.uses k n x 0 apart
+
+    at_row : IsIdle (record old { loads = loads }) k ⊎ Contains old.active.items k
+    at_row = elim (is.covers k l) as (λ _. IsIdle (record old { loads = loads }) k ⊎ Contains old.active.items k) [
+      | inl idle ↦ elim (active idle) as (λ _. IsIdle (record old { loads = loads }) k ⊎ Contains old.active.items k) [
+        | inl few ↦ inl (idle.0, let u = here in let room = room_at k in omega arith)
         | inr has ↦ inr has
       ]
       | inr has ↦ inr has
     ]
 
 -- or when no row has more uses
-pub less_levels : (old : Levels) (uses : Numbers) → IsLevels old → length uses.items ≡ length old.uses.items → ((n : ℕ) → slice_index uses.items n ≤ use_of old n) → IsLevels (record old { uses = uses })
-less_levels old uses is count less = record {
+pub less_levels : (old : Levels) (loads : RowLoads) → IsLevels old → length loads.uses ≡ length old.loads.uses → loads.capacities ≡ old.loads.capacities → ((n : ℕ) → slice_index loads.uses n ≤ use_of old n) → IsLevels (record old { loads = loads })
+less_levels old loads is count same less = record {
   use_count = count ∙ is.use_count;
-  capacity_count = is.capacity_count;
+  capacity_count = ap length same ∙ is.capacity_count;
   mark_count = is.mark_count;
   range = is.range;
-  small = is.small;
-  capacity_is = is.capacity_is;
+  small = subst (All (λ (c : ℕ). c ≤ 65535)) (sym same) is.small;
+  capacity_is = is.capacity_is ∙ ap (λ (cs : List ℕ). capacity_below old.prices.items cs (length old.prices.items)) (sym same);
   within = is.within;
   once = is.once;
   marked = is.marked;
   found = is.found;
-  covers = λ n m. elim (is.covers n m) as (λ _. IsIdle (record old { uses = uses }) n ⊎ Contains old.active.items n) [
-    | inl idle ↦ inl (idle.0, let l = less n in let few = idle.1 in omega arith)
+  covers = λ n m. elim (is.covers n m) as (λ _. IsIdle (record old { loads = loads }) n ⊎ Contains old.active.items n) [
+    | inl idle ↦ inl (idle.0, let l = less n in let few = idle.1 in let room = ap (λ (cs : List ℕ). slice_index cs n) same in omega arith)
     | inr has ↦ inr has
   ];
 }
@@ -546,15 +549,15 @@ capacity_push prices capacities capacity count =
     ap (capacity_below (prices ++ pos 0 ∷ []) (capacities ++ capacity ∷ [])) long ∙ omega (arith, ints)
 
 -- the level of one more row
-pub pushed_levels : (old new : Levels) (capacity : ℕ) → IsLevels old → AreUnused new → capacity ≤ 65535 → new.prices.items ≡ old.prices.items ++ pos 0 ∷ [] → new.capacities.items ≡ old.capacities.items ++ capacity ∷ []
-    → length new.uses.items ≡ length old.uses.items + 1 → new.active ≡ old.active → new.listed.items ≡ old.listed.items ++ false ∷ [] → new.capacity ≡ old.capacity → IsLevels new
+pub pushed_levels : (old new : Levels) (capacity : ℕ) → IsLevels old → AreUnused new → capacity ≤ 65535 → new.prices.items ≡ old.prices.items ++ pos 0 ∷ [] → new.loads.capacities ≡ old.loads.capacities ++ capacity ∷ []
+    → length new.loads.uses ≡ length old.loads.uses + 1 → new.active ≡ old.active → new.listed.items ≡ old.listed.items ++ false ∷ [] → new.capacity ≡ old.capacity → IsLevels new
 pushed_levels old new capacity is unused fits prices capacities uses active marks total = record {
   use_count = let a = is.use_count in let b = count in omega arith;
-  capacity_count = let a = is.capacity_count in let b = count in let c = ap length capacities ∙ length-append old.capacities.items (capacity ∷ []) in omega arith;
+  capacity_count = let a = is.capacity_count in let b = count in let c = ap length capacities ∙ length-append old.loads.capacities (capacity ∷ []) in omega arith;
   mark_count = let a = is.mark_count in let b = count in let c = ap length marks ∙ length-append old.listed.items (false ∷ []) in omega arith;
   range = subst (All IsRowPrice) (sym prices) (All-push IsRowPrice old.prices.items (pos 0) is.range (omega (arith, ints), omega (arith, ints)));
-  small = subst (All (λ (c : ℕ). c ≤ 65535)) (sym capacities) (All-push (λ (c : ℕ). c ≤ 65535) old.capacities.items capacity is.small fits);
-  capacity_is = total ∙ is.capacity_is ∙ sym (capacity_push old.prices.items old.capacities.items capacity is.capacity_count) ∙ ap (λ (ps : List ℤ). capacity_below ps (old.capacities.items ++ capacity ∷ []) (length ps)) (sym prices)
+  small = subst (All (λ (c : ℕ). c ≤ 65535)) (sym capacities) (All-push (λ (c : ℕ). c ≤ 65535) old.loads.capacities capacity is.small fits);
+  capacity_is = total ∙ is.capacity_is ∙ sym (capacity_push old.prices.items old.loads.capacities capacity is.capacity_count) ∙ ap (λ (ps : List ℤ). capacity_below ps (old.loads.capacities ++ capacity ∷ []) (length ps)) (sym prices)
       ∙ ap (λ (cs : List ℕ). capacity_below new.prices.items cs (length new.prices.items)) (sym capacities);
   within = subst (λ v. All (λ (n : ℕ). n < length new.prices.items) v.items) (sym active)
       (All-weaker (λ (n : ℕ). n < length old.prices.items) (λ (n : ℕ). n < length new.prices.items) (λ n l. let b = count in omega arith) old.active.items is.within);

@@ -7,6 +7,7 @@ pub mod ArcLemmas
 pub mod MarkLemmas
 pub mod NumberLemmas
 pub mod RankLemmas
+pub mod NumberingLemmas
 pub mod PlaceLemmas
 pub mod NumberSumLemmas
 pub mod GroupLemmas
@@ -14,6 +15,7 @@ pub mod PriceSumLemmas
 pub mod FoundLemmas
 pub mod SkipLemmas
 pub mod NarrowLemmas
+pub mod NarrowArcLemmas
 pub mod ChoiceLemmas
 pub mod TermLemmas
 pub mod MakingLemmas
@@ -34,11 +36,14 @@ pub mod ColumnLemmas
 pub mod PathLemmas
 pub mod UseLemmas
 pub mod CountLemmas
+pub mod PairLemmas
+pub mod KeyLemmas
 pub mod CourseLemmas
 pub mod StepCourseLemmas
 pub mod OverfullLemmas
 pub mod AdmitLemmas
 pub mod ListingLemmas
+pub mod ActivePriceLemmas
 pub mod LoadingLemmas
 pub mod AllowLemmas
 pub mod ArcTermLemmas

@@ -22,7 +22,7 @@ use Rattle.optra_prices.specs.Arcs.{path_reply}
 use Rattle.optra_prices.specs.Holdings.{entries_one, part_of}
 use Rattle.optra_prices.specs.Tables.{AreTouches, no_arc}
 use Rattle.optra_prices.specs.Terms.{Setting, AreBidArcs}
-use Rattle.optra_prices.specs.Standings.{Stands, AreTables, AllStand, IsSound, replies_of}
+use Rattle.optra_prices.specs.Standings.{AreTables, AllStand, IsSound, replies_of}
 use Rattle.optra_prices.specs.Uses.{touch_use, touch_uses, arc_touches, path_uses, all_uses, paths_of, HasGroups}
 use Rattle.optra_prices.specs.declared.numbering.BidTable.{BidTable}
 use Rattle.optra_prices.specs.declared.numbering.Groups.{Groups}
@@ -98,39 +98,39 @@ first_load rows row bid (Some legs) bids walks = sum_by-append (λ (e : Entry). 
 
 module _ {R : Type 0} (cmp : R → R → Ordering) (total : IsTotalOrder cmp) (apart : TellsApart cmp) (s : Setting R) (proper : IsProper s.net)
     (lists : (kind : TypeId) (leg : Leg) → IsUsable s.net kind leg → ListsRows cmp s.rows.is_row (s.rows.uses kind leg) (s.used kind leg)) (numbered : List R) (groups : Groups) where
-  module _ (number : ℕ) (bid : Bid) (table : BidTable) (are : AreBidArcs s number bid table.graph.now numbered table.arcs.items groups.starts.items groups.touches.items table.forced)
-      (path : List ℕ) (within : All (λ k. k < length table.arcs.items) path) (route : (path ≡ [] → ⊥) → IsRoute table.graph.now path) where
-    pub arc_there : (k : ℕ) → k < length table.arcs.items → slice_get table.arcs.items k ≡ Some (get_or table.arcs.items k no_arc)
-    arc_there k l = slice_get-get_or table.arcs.items k no_arc l
+  module _ (number : ℕ) (bid : Bid) (table : BidTable) (are : AreBidArcs s number bid table.graph.now numbered table.arcs groups.starts.items groups.touches.items table.forced)
+      (path : List ℕ) (within : All (λ k. k < length table.arcs) path) (route : (path ≡ [] → ⊥) → IsRoute table.graph.now path) where
+    pub arc_there : (k : ℕ) → k < length table.arcs → slice_get table.arcs k ≡ Some (get_or table.arcs k no_arc)
+    arc_there k l = slice_get-get_or table.arcs k no_arc l
 
-    pub leg_touches : (k : ℕ) (leg : Leg) → k < length table.arcs.items → leg_of table.graph.now k ≡ Some leg → AreTouches numbered (s.rows.uses bid.path.kind leg) (arc_touches groups table k) (s.used bid.path.kind leg)
-    leg_touches k leg l at = (are.terms.legs_are k leg (get_or table.arcs.items k no_arc) (arc_there k l) at).group_is
+    pub leg_touches : (k : ℕ) (leg : Leg) → k < length table.arcs → leg_of table.graph.now k ≡ Some leg → AreTouches numbered (s.rows.uses bid.path.kind leg) (arc_touches groups table k) (s.used bid.path.kind leg)
+    leg_touches k leg l at = (are.terms.legs_are k leg (get_or table.arcs k no_arc) (arc_there k l) at).group_is
 
-    pub usable : (k : ℕ) (leg : Leg) → k < length table.arcs.items → leg_of table.graph.now k ≡ Some leg → IsUsable s.net bid.path.kind leg
+    pub usable : (k : ℕ) (leg : Leg) → k < length table.arcs → leg_of table.graph.now k ≡ Some leg → IsUsable s.net bid.path.kind leg
     usable k leg l at = arc_usable s.net proper bid table.graph.now are.graph k leg (let n = are.count in omega arith) at
 
     -- a path by what its arcs use of a row
-    path_load : (row : R) (spent : ℕ → ℕ) → ((k minute : ℕ) → k < length table.arcs.items → start_of table.graph.now k ≡ Some minute → spent k ≡ 0)
-        → ((k : ℕ) (leg : Leg) → k < length table.arcs.items → leg_of table.graph.now k ≡ Some leg → spent k ≡ s.rows.uses bid.path.kind leg row)
+    path_load : (row : R) (spent : ℕ → ℕ) → ((k minute : ℕ) → k < length table.arcs → start_of table.graph.now k ≡ Some minute → spent k ≡ 0)
+        → ((k : ℕ) (leg : Leg) → k < length table.arcs → leg_of table.graph.now k ≡ Some leg → spent k ≡ s.rows.uses bid.path.kind leg row)
         → sum_by spent path ≡ load_of s.rows row (entries_one bid (path_reply table.graph.now path))
     path_load row spent first others = by path within route
       where
-        by : (path : List ℕ) → All (λ k. k < length table.arcs.items) path → ((path ≡ [] → ⊥) → IsRoute table.graph.now path)
+        by : (path : List ℕ) → All (λ k. k < length table.arcs) path → ((path ≡ [] → ⊥) → IsRoute table.graph.now path)
             → sum_by spent path ≡ load_of s.rows row (entries_one bid (path_reply table.graph.now path))
         by [] within route = refl
         by (k ∷ arcs) within route =
             let begins = are.graph.begins (k ∷ arcs) (route (λ e. cc)) in
             let a = sum_by-cons spent k arcs in
-            let z = first k _ (All-head (λ (j : ℕ). j < length table.arcs.items) k arcs within) begins.0.0 in
+            let z = first k _ (All-head (λ (j : ℕ). j < length table.arcs) k arcs within) begins.0.0 in
             let rest = arcs_load s.rows row bid.path.kind table.graph.now spent arcs
-            (all_both (λ (j : ℕ). j < length table.arcs.items) (IsLegArc table.graph.now) (λ (j : ℕ). spent j ≡ s.rows.uses bid.path.kind (leg_at table.graph.now j) row)
-            (λ j l is. others j (leg_at table.graph.now j) l (leg_there table.graph.now j is.0)) arcs (All-tail (λ (j : ℕ). j < length table.arcs.items) k arcs within) begins.1) in
+            (all_both (λ (j : ℕ). j < length table.arcs) (IsLegArc table.graph.now) (λ (j : ℕ). spent j ≡ s.rows.uses bid.path.kind (leg_at table.graph.now j) row)
+            (λ j l is. others j (leg_at table.graph.now j) l (leg_there table.graph.now j is.0)) arcs (All-tail (λ (j : ℕ). j < length table.arcs) k arcs within) begins.1) in
             omega arith
 
     pub numbered_load : (once : (i j : ℕ) (row : R) → slice_get numbered i ≡ Some row → slice_get numbered j ≡ Some row → i ≡ j) (n : ℕ) (row : R) → slice_get numbered n ≡ Some row
         → path_uses groups table path n ≡ load_of s.rows row (entries_one bid (path_reply table.graph.now path))
     numbered_load once n row at = path_load row (λ k. touch_uses (arc_touches groups table k) n)
-        (λ k minute l start. ap (λ (touches : List Touch). touch_uses touches n) (are.terms.starts_are k minute (get_or table.arcs.items k no_arc) (arc_there k l) start).group_is)
+        (λ k minute l start. ap (λ (touches : List Touch). touch_uses touches n) (are.terms.starts_are k minute (get_or table.arcs k no_arc) (arc_there k l) start).group_is)
         (λ k leg l is.
         let listed = lists bid.path.kind leg (usable k leg l is) in
         touch_part cmp total apart numbered once (s.rows.uses bid.path.kind leg) n row at (arc_touches groups table k) (s.used bid.path.kind leg) (leg_touches k leg l is)

@@ -99,7 +99,7 @@ part_told room touches arc part fits value allowed tells = record {
 -- of a free copy of a room nothing is used
 pub free_is : {R : Type 0} (rows : Rows R) (numbered : List R) (total : R → ℕ) (room copy : Room) → IsRoom rows numbered total room → IsFreeCopy room copy → IsRoom rows numbered (λ row. 0) copy
 free_is rows numbered total room copy is free = record {
-  uses_are = λ n row at. ap (λ (us : List ℕ). slice_get us n) free.uses_are ∙ zero_at (length room.uses.items) n (slice_get_within room.uses.items n (total row) (is.uses_are n row at));
+  uses_are = λ n row at. ap (λ (us : List ℕ). slice_get us n) free.uses_are ∙ zero_at (length room.loads.uses) n (slice_get_within room.loads.uses n (total row) (is.uses_are n row at));
   capacities_are = λ n row at. ap (λ (cs : List ℕ). slice_get cs n) free.capacities_are ∙ is.capacities_are n row at;
 }
   where

@@ -35,14 +35,14 @@ path_within_at Q groups table path n all some =
     some_part (λ k. touch_uses (arc_touches groups table k) n) (Q n) path (λ i d l used. touch_within Q (arc_touches groups table (get_or path i d)) n (all i d l) used) some
 
 -- the arcs of a path of the table's graph are arcs of the table
-pub route_within : (table : BidTable) → length table.arcs.items ≡ length table.graph.now.dag.arcs → (path : List ℕ) → ((path ≡ [] → ⊥) → IsRoute table.graph.now path) → All (λ k. k < length table.arcs.items) path
-route_within table count [] route = All-nil (λ k. k < length table.arcs.items)
+pub route_within : (table : BidTable) → length table.arcs ≡ length table.graph.now.dag.arcs → (path : List ℕ) → ((path ≡ [] → ⊥) → IsRoute table.graph.now path) → All (λ k. k < length table.arcs) path
+route_within table count [] route = All-nil (λ k. k < length table.arcs)
 route_within table count (k ∷ arcs) route = subst (λ (n : ℕ). All (λ j. j < n) (k ∷ arcs)) (sym count) (leads_within table.graph.now.dag 0 (k ∷ arcs) (route (λ e. cc)).leads)
 
 module _ {R : Type 0} (cmp : R → R → Ordering) (order : IsTotalOrder cmp) (apart : TellsApart cmp) (s : Setting R) (proper : IsProper s.net)
     (lists : (kind : TypeId) (leg : Leg) → IsUsable s.net kind leg → ListsRows cmp s.rows.is_row (s.rows.uses kind leg) (s.used kind leg)) (numbers : List (R × ℕ)) (numbered : List R) (numbering : IsNumbering cmp numbers numbered)
-    (groups : Groups) (number : ℕ) (bid : Bid) (table : BidTable) (are : AreBidArcs s number bid table.graph.now numbered table.arcs.items groups.starts.items groups.touches.items table.forced)
-    (path : List ℕ) (within : All (λ k. k < length table.arcs.items) path) (route : (path ≡ [] → ⊥) → IsRoute table.graph.now path) (total : R → ℕ) where
+    (groups : Groups) (number : ℕ) (bid : Bid) (table : BidTable) (are : AreBidArcs s number bid table.graph.now numbered table.arcs groups.starts.items groups.touches.items table.forced)
+    (path : List ℕ) (within : All (λ k. k < length table.arcs) path) (route : (path ≡ [] → ⊥) → IsRoute table.graph.now path) (total : R → ℕ) where
   once : (i j : ℕ) (row : R) → slice_get numbered i ≡ Some row → slice_get numbered j ≡ Some row → i ≡ j
   once i j row a b = same (sym (numbering.known i row a) ∙ numbering.known j row b)
     where
@@ -63,19 +63,19 @@ module _ {R : Type 0} (cmp : R → R → Ordering) (order : IsTotalOrder cmp) (a
   uses_at n row at = numbered_load cmp order apart s proper lists numbered groups number bid table are path within route once n row at ∙ spent_is row
 
   -- the path was added
-  pub adds_path : (old new : Room) → IsRoom s.rows numbered total old → AddsUses (path_uses groups table path) old.uses.items new.uses.items → new.capacities ≡ old.capacities → IsRoom s.rows numbered (λ row. total row + spent row) new
+  pub adds_path : (old new : Room) → IsRoom s.rows numbered total old → AddsUses (path_uses groups table path) old.loads.uses new.loads.uses → new.loads.capacities ≡ old.loads.capacities → IsRoom s.rows numbered (λ row. total row + spent row) new
   adds_path old new = room_adds s.rows numbered (path_uses groups table path) total spent uses_at old new
 
   -- and taken away again
-  pub takes_path : (old new : Room) → IsRoom s.rows numbered (λ row. total row + spent row) old → TakesUses (path_uses groups table path) old.uses.items new.uses.items → new.capacities ≡ old.capacities → IsRoom s.rows numbered total new
+  pub takes_path : (old new : Room) → IsRoom s.rows numbered (λ row. total row + spent row) old → TakesUses (path_uses groups table path) old.loads.uses new.loads.uses → new.loads.capacities ≡ old.loads.capacities → IsRoom s.rows numbered total new
   takes_path old new = room_takes s.rows numbered (path_uses groups table path) total spent uses_at old new
 
   module _ (new : Room) (is : IsRoom s.rows numbered (λ row. total row + spent row) new) where
     -- with the path in it, no more is used of a numbered row than there is exactly where its legs have room together
     number_fits : (n : ℕ) (row : R) → slice_get numbered n ≡ Some row → IsNumberWithin new n ↔ (total row + spent row ≤ s.rows.capacity row)
     number_fits n row at =
-        let u : get_or new.uses.items n 0 ≡ total row + spent row = get_or_from_slice_get new.uses.items n (total row + spent row) 0 (is.uses_are n row at) in
-        let c : get_or new.capacities.items n 0 ≡ s.rows.capacity row = get_or_from_slice_get new.capacities.items n (s.rows.capacity row) 0 (is.capacities_are n row at) in
+        let u : get_or new.loads.uses n 0 ≡ total row + spent row = get_or_from_slice_get new.loads.uses n (total row + spent row) 0 (is.uses_are n row at) in
+        let c : get_or new.loads.capacities n 0 ≡ s.rows.capacity row = get_or_from_slice_get new.loads.capacities n (s.rows.capacity row) 0 (is.capacities_are n row at) in
         ((λ w. omega (arith, w, u, c)), (λ f. omega (arith, f, u, c)))
 
     pub path_fits : KeepsWithin s.rows total → All (λ k. All (λ touch. IsNumberWithin new touch.row) (arc_touches groups table k)) path → HaveRoomFor s.rows total bid.path.kind (walk_of table.graph.now path)
@@ -101,24 +101,24 @@ module _ {R : Type 0} (cmp : R → R → Ordering) (order : IsTotalOrder cmp) (a
         W : Touch → Type 0
         W touch = IsNumberWithin new touch.row
 
-        leg_told : (k : ℕ) → k < length table.arcs.items → IsLegArc table.graph.now k → All W (arc_touches groups table k)
+        leg_told : (k : ℕ) → k < length table.arcs → IsLegArc table.graph.now k → All W (arc_touches groups table k)
         leg_told k l is =
             let leg = leg_at table.graph.now k in
             let touches = leg_touches cmp order apart s proper lists numbered groups number bid table are path within route k leg l (leg_there table.graph.now k is.0) in
             zip_all (IsTouch numbered (s.rows.uses bid.path.kind leg)) W (arc_touches groups table k) (s.used bid.path.kind leg) touches
             (λ touch row has touched. (number_fits touch.row row touched.number).1 (have row (all_at (λ row. s.rows.is_row row ≡ true) numbered touch.row row are_rows touched.number)))
 
-        by : (arcs : List ℕ) → All (λ k. k < length table.arcs.items) arcs → ((arcs ≡ [] → ⊥) → IsRoute table.graph.now arcs) → All (λ k. All W (arc_touches groups table k)) arcs
+        by : (arcs : List ℕ) → All (λ k. k < length table.arcs) arcs → ((arcs ≡ [] → ⊥) → IsRoute table.graph.now arcs) → All (λ k. All W (arc_touches groups table k)) arcs
         by [] inside is = All-nil (λ k. All W (arc_touches groups table k))
         by (k ∷ arcs) inside is =
             let begins = are.graph.begins (k ∷ arcs) (is (λ e. cc)) in
-            let l = All-head (λ (j : ℕ). j < length table.arcs.items) k arcs inside in
-            let none = (are.terms.starts_are k _ (get_or table.arcs.items k no_arc) (arc_there cmp order apart s proper lists numbered groups number bid table are path within route k l) begins.0.0).group_is in
+            let l = All-head (λ (j : ℕ). j < length table.arcs) k arcs inside in
+            let none = (are.terms.starts_are k _ (get_or table.arcs k no_arc) (arc_there cmp order apart s proper lists numbered groups number bid table are path within route k l) begins.0.0).group_is in
             All-cons (λ k. All W (arc_touches groups table k)) k arcs (subst (All W) (sym none) (All-nil W))
-            (λ i d m. leg_told (get_or arcs i d) ((All-tail (λ (j : ℕ). j < length table.arcs.items) k arcs inside) i d m) (begins.1 i d m))
+            (λ i d m. leg_told (get_or arcs i d) ((All-tail (λ (j : ℕ). j < length table.arcs) k arcs inside) i d m) (begins.1 i d m))
 
   module _ (room : Room) (is : IsRoom s.rows numbered total room) where
-    leg_tells : (k : ℕ) → k < length table.arcs.items → IsLegArc table.graph.now k → HasRoomForAll room (arc_touches groups table k) ↔ HasRoom s.rows total bid.path.kind (leg_at table.graph.now k)
+    leg_tells : (k : ℕ) → k < length table.arcs → IsLegArc table.graph.now k → HasRoomForAll room (arc_touches groups table k) ↔ HasRoom s.rows total bid.path.kind (leg_at table.graph.now k)
     leg_tells k l leg_arc =
         let leg = leg_at table.graph.now k in
         let there = leg_there table.graph.now k leg_arc.0 in
@@ -126,12 +126,12 @@ module _ {R : Type 0} (cmp : R → R → Ordering) (order : IsTotalOrder cmp) (a
         let law = lists bid.path.kind leg (usable cmp order apart s proper lists numbered groups number bid table are path within route k leg l there) in
         room_tells cmp s.rows numbered total room is (arc_touches groups table k) bid.path.kind leg (s.used bid.path.kind leg) touches law
 
-    arcs_tell : (arcs : List ℕ) → All (λ k. k < length table.arcs.items) arcs → All (IsLegArc table.graph.now) arcs
+    arcs_tell : (arcs : List ℕ) → All (λ k. k < length table.arcs) arcs → All (IsLegArc table.graph.now) arcs
         → All (λ k. HasRoomForAll room (arc_touches groups table k)) arcs ↔ All (HasRoom s.rows total bid.path.kind) (map (leg_at table.graph.now) arcs)
     arcs_tell [] inside legs = ((λ all. All-nil (HasRoom s.rows total bid.path.kind)), (λ all. All-nil (λ k. HasRoomForAll room (arc_touches groups table k))))
     arcs_tell (k ∷ arcs) inside legs =
-        let here = leg_tells k (All-head (λ (j : ℕ). j < length table.arcs.items) k arcs inside) (All-head (IsLegArc table.graph.now) k arcs legs) in
-        let rest = arcs_tell arcs (All-tail (λ (j : ℕ). j < length table.arcs.items) k arcs inside) (All-tail (IsLegArc table.graph.now) k arcs legs) in
+        let here = leg_tells k (All-head (λ (j : ℕ). j < length table.arcs) k arcs inside) (All-head (IsLegArc table.graph.now) k arcs legs) in
+        let rest = arcs_tell arcs (All-tail (λ (j : ℕ). j < length table.arcs) k arcs inside) (All-tail (IsLegArc table.graph.now) k arcs legs) in
         let by_arc = λ (j : ℕ). HasRoomForAll room (arc_touches groups table j) in
         let by_leg = HasRoom s.rows total bid.path.kind in (
           (λ all. All-cons by_leg (leg_at table.graph.now k) (map (leg_at table.graph.now) arcs) (here.0 (All-head by_arc k arcs all)) (rest.0 (All-tail by_arc k arcs all))),
@@ -142,13 +142,13 @@ module _ {R : Type 0} (cmp : R → R → Ordering) (order : IsTotalOrder cmp) (a
     pub each_tells : All (λ k. HasRoomForAll room (arc_touches groups table k)) path ↔ All (HasRoom s.rows total bid.path.kind) (walk_of table.graph.now path)
     each_tells = by path within route
       where
-        by : (arcs : List ℕ) → All (λ k. k < length table.arcs.items) arcs → ((arcs ≡ [] → ⊥) → IsRoute table.graph.now arcs)
+        by : (arcs : List ℕ) → All (λ k. k < length table.arcs) arcs → ((arcs ≡ [] → ⊥) → IsRoute table.graph.now arcs)
             → All (λ k. HasRoomForAll room (arc_touches groups table k)) arcs ↔ All (HasRoom s.rows total bid.path.kind) (walk_of table.graph.now arcs)
         by [] inside some = ((λ all. All-nil (HasRoom s.rows total bid.path.kind)), (λ all. All-nil (λ k. HasRoomForAll room (arc_touches groups table k))))
         by (k ∷ arcs) inside some =
             let begins = are.graph.begins (k ∷ arcs) (some (λ e. cc)) in
-            let l = All-head (λ (j : ℕ). j < length table.arcs.items) k arcs inside in
-            let none = (are.terms.starts_are k _ (get_or table.arcs.items k no_arc) (arc_there cmp order apart s proper lists numbered groups number bid table are path within route k l) begins.0.0).group_is in
-            let rest = arcs_tell arcs (All-tail (λ (j : ℕ). j < length table.arcs.items) k arcs inside) begins.1 in
+            let l = All-head (λ (j : ℕ). j < length table.arcs) k arcs inside in
+            let none = (are.terms.starts_are k _ (get_or table.arcs k no_arc) (arc_there cmp order apart s proper lists numbered groups number bid table are path within route k l) begins.0.0).group_is in
+            let rest = arcs_tell arcs (All-tail (λ (j : ℕ). j < length table.arcs) k arcs inside) begins.1 in
             let by_arc = λ (j : ℕ). HasRoomForAll room (arc_touches groups table j) in
             ((λ all. rest.0 (All-tail by_arc k arcs all)), (λ all. All-cons by_arc k arcs (room_for_none room (arc_touches groups table k) none) (rest.1 all)))

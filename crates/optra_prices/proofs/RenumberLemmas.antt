@@ -85,13 +85,13 @@ tables_renumbered net rows used bids count named numbered before after tables sa
       let touches = map (renumbered renumbers.numbers) before.touches.items in
       let starts = before.starts.items in
       record {
-        arcs_are = subst (λ (vs : List ℕ). AreArcs net rows used bid table.graph.now numbered table.arcs.items vs after.touches.items) (sym same)
-            (subst (λ (ts : List Touch). AreArcs net rows used bid table.graph.now numbered table.arcs.items starts ts) (sym renumbers.touches_are)
+        arcs_are = subst (λ (vs : List ℕ). AreArcs net rows used bid table.graph.now numbered table.arcs vs after.touches.items) (sym same)
+            (subst (λ (ts : List Touch). AreArcs net rows used bid table.graph.now numbered table.arcs starts ts) (sym renumbers.touches_are)
             (record {
               graph = is.arcs_are.graph;
               count = is.arcs_are.count;
               groups = groups_renumbered renumbers.numbers starts before.touches.items is.arcs_are.groups;
-              terms = terms_renumbered named numbered renumbers.numbers renumbers.are net rows used bid table.graph.now starts before.touches.items table.arcs.items is.arcs_are.terms;
+              terms = terms_renumbered named numbered renumbers.numbers renumbers.are net rows used bid table.graph.now starts before.touches.items table.arcs is.arcs_are.terms;
             }));
         covers = is.covers;
       };

@@ -43,8 +43,8 @@ module _ {R : Type 0} (cmp : R → R → Ordering) (rows : Rows R) (numbered : L
 
   touch_fits : (touch : Touch) (row : R) → IsTouch numbered (rows.uses kind leg) touch row → HasRoomFor room touch ↔ fits row
   touch_fits touch row touched =
-      let u : get_or room.uses.items touch.row 0 ≡ total row = get_or_from_slice_get room.uses.items touch.row (total row) 0 (is.uses_are touch.row row touched.number) in
-      let c : get_or room.capacities.items touch.row 0 ≡ rows.capacity row = get_or_from_slice_get room.capacities.items touch.row (rows.capacity row) 0 (is.capacities_are touch.row row touched.number) in
+      let u : get_or room.loads.uses touch.row 0 ≡ total row = get_or_from_slice_get room.loads.uses touch.row (total row) 0 (is.uses_are touch.row row touched.number) in
+      let c : get_or room.loads.capacities touch.row 0 ≡ rows.capacity row = get_or_from_slice_get room.loads.capacities touch.row (rows.capacity row) 0 (is.capacities_are touch.row row touched.number) in
       let by = touched.use_is in
       ((λ has. omega (arith, has, u, c, by)), (λ fit. omega (arith, fit, u, c, by)))
 
@@ -82,33 +82,33 @@ same_room rows numbered before after room same is = record {
 
 module _ {R : Type 0} (rows : Rows R) (numbered : List R) (extra : ℕ → ℕ) (total more : R → ℕ) (same : (n : ℕ) (row : R) → slice_get numbered n ≡ Some row → extra n ≡ more row) (old new : Room) where
   -- more is used
-  pub room_adds : IsRoom rows numbered total old → AddsUses extra old.uses.items new.uses.items → new.capacities ≡ old.capacities → IsRoom rows numbered (λ row. total row + more row) new
+  pub room_adds : IsRoom rows numbered total old → AddsUses extra old.loads.uses new.loads.uses → new.loads.capacities ≡ old.loads.capacities → IsRoom rows numbered (λ row. total row + more row) new
   room_adds is adds kept = record {
     uses_are = λ n row at.
         let before = is.uses_are n row at in
-        let l : n < length old.uses.items = slice_get_within old.uses.items n (total row) before in
-        let e : get_or old.uses.items n 0 ≡ total row = get_or_from_slice_get old.uses.items n (total row) 0 before in
+        let l : n < length old.loads.uses = slice_get_within old.loads.uses n (total row) before in
+        let e : get_or old.loads.uses n 0 ≡ total row = get_or_from_slice_get old.loads.uses n (total row) 0 before in
         let a = adds.each n l in
         let u = same n row at in
         let c = adds.count in
-        let m : n < length new.uses.items = omega (arith, c, l) in
-        let v : get_or new.uses.items n 0 ≡ total row + more row = omega (arith, a, e, u) in
-        slice_get-get_or new.uses.items n 0 m ∙ ap Some v;
-    capacities_are = λ n row at. ap (λ c. slice_get c.items n) kept ∙ is.capacities_are n row at;
+        let m : n < length new.loads.uses = omega (arith, c, l) in
+        let v : get_or new.loads.uses n 0 ≡ total row + more row = omega (arith, a, e, u) in
+        slice_get-get_or new.loads.uses n 0 m ∙ ap Some v;
+    capacities_are = λ n row at. ap (λ (cs : List ℕ). slice_get cs n) kept ∙ is.capacities_are n row at;
   }
 
   -- less is used
-  pub room_takes : IsRoom rows numbered (λ row. total row + more row) old → TakesUses extra old.uses.items new.uses.items → new.capacities ≡ old.capacities → IsRoom rows numbered total new
+  pub room_takes : IsRoom rows numbered (λ row. total row + more row) old → TakesUses extra old.loads.uses new.loads.uses → new.loads.capacities ≡ old.loads.capacities → IsRoom rows numbered total new
   room_takes is takes kept = record {
     uses_are = λ n row at.
         let before = is.uses_are n row at in
-        let l : n < length old.uses.items = slice_get_within old.uses.items n (total row + more row) before in
-        let e : get_or old.uses.items n 0 ≡ total row + more row = get_or_from_slice_get old.uses.items n (total row + more row) 0 before in
+        let l : n < length old.loads.uses = slice_get_within old.loads.uses n (total row + more row) before in
+        let e : get_or old.loads.uses n 0 ≡ total row + more row = get_or_from_slice_get old.loads.uses n (total row + more row) 0 before in
         let a = takes.each n l in
         let u = same n row at in
         let c = takes.count in
-        let m : n < length new.uses.items = omega (arith, c, l) in
-        let v : get_or new.uses.items n 0 ≡ total row = omega (arith, a, e, u) in
-        slice_get-get_or new.uses.items n 0 m ∙ ap Some v;
-    capacities_are = λ n row at. ap (λ c. slice_get c.items n) kept ∙ is.capacities_are n row at;
+        let m : n < length new.loads.uses = omega (arith, c, l) in
+        let v : get_or new.loads.uses n 0 ≡ total row = omega (arith, a, e, u) in
+        slice_get-get_or new.loads.uses n 0 m ∙ ap Some v;
+    capacities_are = λ n row at. ap (λ (cs : List ℕ). slice_get cs n) kept ∙ is.capacities_are n row at;
   }

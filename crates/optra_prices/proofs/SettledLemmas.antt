@@ -42,54 +42,54 @@ group_used {R} cmp numbered prices listed uses agrees (touch ∷ touches) (row �
 
 module _ {R : Type 0} (cmp : R → R → Ordering) (s : Setting R) (proper : IsProper s.net) (law : TestsTellAllowed s.net s.rows s.bids) (by_used : PricesByUsedRows s.net s.rows cmp s.used) (numbered : List R) (prices : List ℤ) (listed : PriceList R) (agrees : Agrees cmp numbered prices listed)
     (groups : Groups) (grouped : List ℤ) (priced : AreGroupPrices prices groups.starts.items groups.touches.items grouped) where
-  module _ (number : ℕ) (bid : Bid) (table : BidTable) (are : AreBidArcs s number bid table.graph.now numbered table.arcs.items groups.starts.items groups.touches.items table.forced) where
-    arc_there : (k : ℕ) → k < length table.graph.now.dag.arcs → slice_get table.arcs.items k ≡ Some (get_or table.arcs.items k no_arc)
-    arc_there k l = slice_get-get_or table.arcs.items k no_arc (let n = are.count in omega arith)
+  module _ (number : ℕ) (bid : Bid) (table : BidTable) (are : AreBidArcs s number bid table.graph.now numbered table.arcs groups.starts.items groups.touches.items table.forced) where
+    arc_there : (k : ℕ) → k < length table.graph.now.dag.arcs → slice_get table.arcs k ≡ Some (get_or table.arcs k no_arc)
+    arc_there k l = slice_get-get_or table.arcs k no_arc (let n = are.count in omega arith)
 
     group_is : (k : ℕ) → k < length table.graph.now.dag.arcs
-        → slice_index_or grouped (get_or table.arcs.items k no_arc).group (pos 0) ≡ group_price prices (group_at groups.starts.items groups.touches.items (get_or table.arcs.items k no_arc).group)
+        → slice_index_or grouped (get_or table.arcs k no_arc).group (pos 0) ≡ group_price prices (group_at groups.starts.items groups.touches.items (get_or table.arcs k no_arc).group)
     group_is k l =
-        priced (get_or table.arcs.items k no_arc).group (all_at (λ (a : ArcTerm). a.group + 1 < length groups.starts.items) table.arcs.items k (get_or table.arcs.items k no_arc) are.terms.within (arc_there k l))
+        priced (get_or table.arcs k no_arc).group (all_at (λ (a : ArcTerm). a.group + 1 < length groups.starts.items) table.arcs k (get_or table.arcs k no_arc) are.terms.within (arc_there k l))
 
-    pub weighed : AreWeighed s.net s.rows s.bids s.node listed number bid table.graph.now (allows_by table.arcs.items) (weight_by table.arcs.items grouped)
+    pub weighed : AreWeighed s.net s.rows s.bids s.node listed number bid table.graph.now (allows_by table.arcs) (weight_by table.arcs grouped)
     weighed = record {
-      start_allowed = λ k minute l at. are.marks.starts_are k minute (get_or table.arcs.items k no_arc) (arc_there k l) at;
+      start_allowed = λ k minute l at. are.marks.starts_are k minute (get_or table.arcs k no_arc) (arc_there k l) at;
       start_weight = λ k minute l at.
-          let is = are.terms.starts_are k minute (get_or table.arcs.items k no_arc) (arc_there k l) at in
+          let is = are.terms.starts_are k minute (get_or table.arcs k no_arc) (arc_there k l) at in
           let g = group_is k l in
           let none = ap (group_price prices) is.group_is in
           let v = is.value_is in
           omega (arith, ints);
-      leg_allowed = λ k leg l at. are.marks.legs_are k leg (get_or table.arcs.items k no_arc) (arc_there k l) at;
+      leg_allowed = λ k leg l at. are.marks.legs_are k leg (get_or table.arcs k no_arc) (arc_there k l) at;
       leg_weight = λ k leg l at.
-          let is = are.terms.legs_are k leg (get_or table.arcs.items k no_arc) (arc_there k l) at in
+          let is = are.terms.legs_are k leg (get_or table.arcs k no_arc) (arc_there k l) at in
           let g = group_is k l in
           let usable = arc_usable s.net proper bid table.graph.now are.graph k leg l at in
-          let used = group_used cmp numbered prices listed (s.rows.uses bid.path.kind leg) agrees (group_at groups.starts.items groups.touches.items (get_or table.arcs.items k no_arc).group) (s.used bid.path.kind leg) is.group_is in
+          let used = group_used cmp numbered prices listed (s.rows.uses bid.path.kind leg) agrees (group_at groups.starts.items groups.touches.items (get_or table.arcs k no_arc).group) (s.used bid.path.kind leg) is.group_is in
           let price = by_used listed bid.path.kind leg usable in
           let v = is.value_is in
           omega (arith, ints);
     }
 
   module _ (number : ℕ) (bid : Bid) (table : BidTable) (standing : Standing)
-      (are : AreBidArcs s number bid table.graph.now numbered table.arcs.items groups.starts.items groups.touches.items table.forced) (stands : Stands table grouped standing) where
-    by_table : AreWeighed s.net s.rows s.bids s.node listed number bid table.graph.now (allows_by table.arcs.items) (weight_by table.arcs.items grouped)
+      (are : AreBidArcs s number bid table.graph.now numbered table.arcs groups.starts.items groups.touches.items table.forced) (stands : Stands table grouped standing) where
+    by_table : AreWeighed s.net s.rows s.bids s.node listed number bid table.graph.now (allows_by table.arcs) (weight_by table.arcs grouped)
     by_table = weighed number bid table are
 
     pub reply_is : IsReply s.net s.rows s.bids s.node listed number bid (path_reply table.graph.now standing.path.items)
     reply_is =
-        found_reply s.net proper s.rows s.bids law s.node listed number bid table.graph.now are.graph (allows_by table.arcs.items) (weight_by table.arcs.items grouped) by_table
+        found_reply s.net proper s.rows s.bids law s.node listed number bid table.graph.now are.graph (allows_by table.arcs) (weight_by table.arcs grouped) by_table
         table.forced standing.stuck standing.path.items standing.term are.forced_is stands
 
     pub term_is : IsTerm s.net s.rows s.bids s.node listed number bid standing.term
     term_is =
-        found_term s.net proper s.rows s.bids law s.node listed number bid table.graph.now are.graph (allows_by table.arcs.items) (weight_by table.arcs.items grouped) by_table
+        found_term s.net proper s.rows s.bids law s.node listed number bid table.graph.now are.graph (allows_by table.arcs) (weight_by table.arcs grouped) by_table
         table.forced standing.stuck standing.path.items standing.term are.forced_is stands
 
     pub stuck_is : (standing.stuck ≡ true) ↔ IsStuck s.net s.rows s.bids s.node number bid
     stuck_is =
-        found_stuck s.net proper s.rows s.bids law s.node listed number bid table.graph.now are.graph (allows_by table.arcs.items) (weight_by table.arcs.items grouped) by_table
-        (weight_by table.arcs.items grouped) table.forced standing.stuck standing.path.items standing.term are.forced_is stands
+        found_stuck s.net proper s.rows s.bids law s.node listed number bid table.graph.now are.graph (allows_by table.arcs) (weight_by table.arcs grouped) by_table
+        (weight_by table.arcs grouped) table.forced standing.stuck standing.path.items standing.term are.forced_is stands
 
 -- a place of the lists of replies and of terms
 replies_at : (tables : List BidTable) (standings : List Standing) (k : ℕ) (reply : Option (List Leg)) → slice_get (replies_of tables standings) k ≡ Some reply

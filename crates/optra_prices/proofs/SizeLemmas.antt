@@ -55,15 +55,15 @@ weight_in arcs grouped values prices k l =
 pub term_size : (table : BidTable) (grouped : List ℤ) (standing : Standing) → IsSound table → All IsGroupPrice grouped → Stands table grouped standing → IsTermSize standing.term
 term_size table grouped standing sound range stands = by stands
   where
-    by : IsFound table.graph.now.dag (allows_by table.arcs.items) (weight_by table.arcs.items grouped) table.forced standing.path.items standing.term standing.stuck → IsTermSize standing.term
+    by : IsFound table.graph.now.dag (allows_by table.arcs) (weight_by table.arcs grouped) table.forced standing.path.items standing.term standing.stuck → IsTermSize standing.term
     by (inl none) = let z = none.term_is in (omega (arith, ints), omega (arith, ints))
     by (inr (inl nothing)) = let z = nothing.term_is in (omega (arith, ints), omega (arith, ints))
     by (inr (inr found)) =
         let n = sound.count in
-        let small = λ (k : ℕ) (l : k < length table.graph.now.dag.arcs). weight_in table.arcs.items grouped sound.values range k (omega arith) in
-        let short = path_short table.graph.now.dag sound.forward (allows_by table.arcs.items) 0 standing.path.items sound.forward.start found.best.path.leads in
+        let small = λ (k : ℕ) (l : k < length table.graph.now.dag.arcs). weight_in table.arcs grouped sound.values range k (omega arith) in
+        let short = path_short table.graph.now.dag sound.forward (allows_by table.arcs) 0 standing.path.items sound.forward.start found.best.path.leads in
         let few = sound.forward.few_nodes in
-        let size = path_size table.graph.now.dag (allows_by table.arcs.items) (weight_by table.arcs.items grouped) small 0 standing.path.items found.best.path.leads in
+        let size = path_size table.graph.now.dag (allows_by table.arcs) (weight_by table.arcs grouped) small 0 standing.path.items found.best.path.leads in
         let sum = found.best.sum in
         let a = size.0 in
         let b = size.1 in

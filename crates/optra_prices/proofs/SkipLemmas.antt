@@ -58,36 +58,36 @@ group_at_arc P [] k all l = absurd (omega arith)
 group_at_arc P (arc ∷ arcs) zero all l = All-head P arc.group (groups_of arcs) all
 group_at_arc P (arc ∷ arcs) (suc k) all l = group_at_arc P arcs k (All-tail P arc.group (groups_of arcs) all) (omega arith)
 
-module _ (table : BidTable) (old new : List ℤ) (marks : List Mark) (sound : IsSound table) (tell : MarksTell old new marks) (unfallen : HaveNotFallen marks table.arcs.items) where
+module _ (table : BidTable) (old new : List ℤ) (marks : List Mark) (sound : IsSound table) (tell : MarksTell old new marks) (unfallen : HaveNotFallen marks table.arcs) where
   abbrev pub arc_at : ℕ → ArcTerm
-  arc_at k = get_or table.arcs.items k no_arc
+  arc_at k = get_or table.arcs k no_arc
 
-  arc_fell : (k : ℕ) → k < length table.graph.now.dag.arcs → weight_by table.arcs.items new k ≤ℤ weight_by table.arcs.items old k
+  arc_fell : (k : ℕ) → k < length table.graph.now.dag.arcs → weight_by table.arcs new k ≤ℤ weight_by table.arcs old k
   arc_fell k l =
       let count = sound.count in
-      let up = (tell (arc_at k).group).unless_fell (group_at_arc (HasNotFallen marks) table.arcs.items k unfallen (omega arith)) in
+      let up = (tell (arc_at k).group).unless_fell (group_at_arc (HasNotFallen marks) table.arcs k unfallen (omega arith)) in
       omega (arith, ints)
 
-  arc_same : (k : ℕ) → k < length table.graph.now.dag.arcs → HasNotRisen marks (arc_at k).group → weight_by table.arcs.items new k ≡ weight_by table.arcs.items old k
+  arc_same : (k : ℕ) → k < length table.graph.now.dag.arcs → HasNotRisen marks (arc_at k).group → weight_by table.arcs new k ≡ weight_by table.arcs old k
   arc_same k l unrisen =
       let up = arc_fell k l in
       let down = (tell (arc_at k).group).unless_rose unrisen in
       omega (arith, ints)
 
-  path_same : (n : ℕ) (path : List ℕ) → LeadsToEnd table.graph.now.dag (allows_by table.arcs.items) n path → All (λ k. HasNotRisen marks (arc_at k).group) path
-      → All (λ k. weight_by table.arcs.items new k ≡ weight_by table.arcs.items old k) path
+  path_same : (n : ℕ) (path : List ℕ) → LeadsToEnd table.graph.now.dag (allows_by table.arcs) n path → All (λ k. HasNotRisen marks (arc_at k).group) path
+      → All (λ k. weight_by table.arcs new k ≡ weight_by table.arcs old k) path
   path_same n [] h unrisen k d l = absurd (omega arith)
   path_same n (k ∷ path) h unrisen zero d l = arc_same k h.0 (All-head (λ j. HasNotRisen marks (arc_at j).group) k path unrisen)
   path_same n (k ∷ path) h unrisen (suc j) d l = path_same (to_of table.graph.now.dag k) path h.3 (All-tail (λ j. HasNotRisen marks (arc_at j).group) k path unrisen) j d (omega arith)
 
-  kept_same : (path : List ℕ) (term : ℤ) (stuck : Bool) → All (λ k. HasNotRisen marks (arc_at k).group) path → IsFound table.graph.now.dag (allows_by table.arcs.items) (weight_by table.arcs.items old) table.forced path term stuck
-      → All (λ k. weight_by table.arcs.items new k ≡ weight_by table.arcs.items old k) path
-  kept_same path term stuck unrisen (inl none) = subst (All (λ k. weight_by table.arcs.items new k ≡ weight_by table.arcs.items old k)) (sym none.path_is) (λ k d l. absurd (omega arith))
-  kept_same path term stuck unrisen (inr (inl nothing)) = subst (All (λ k. weight_by table.arcs.items new k ≡ weight_by table.arcs.items old k)) (sym nothing.path_is) (λ k d l. absurd (omega arith))
+  kept_same : (path : List ℕ) (term : ℤ) (stuck : Bool) → All (λ k. HasNotRisen marks (arc_at k).group) path → IsFound table.graph.now.dag (allows_by table.arcs) (weight_by table.arcs old) table.forced path term stuck
+      → All (λ k. weight_by table.arcs new k ≡ weight_by table.arcs old k) path
+  kept_same path term stuck unrisen (inl none) = subst (All (λ k. weight_by table.arcs new k ≡ weight_by table.arcs old k)) (sym none.path_is) (λ k d l. absurd (omega arith))
+  kept_same path term stuck unrisen (inr (inl nothing)) = subst (All (λ k. weight_by table.arcs new k ≡ weight_by table.arcs old k)) (sym nothing.path_is) (λ k d l. absurd (omega arith))
   kept_same path term stuck unrisen (inr (inr found)) = path_same 0 path found.best.path.leads unrisen
 
   -- where no group of the bid fell and none of its reply rose, what is known of it stands
   pub stands_still : (standing : Standing) → All (λ k. HasNotRisen marks (arc_at k).group) standing.path.items → Stands table old standing → Stands table new standing
   stands_still standing unrisen stands =
-      found_stays table.graph.now.dag (allows_by table.arcs.items) (weight_by table.arcs.items old) (weight_by table.arcs.items new) arc_fell table.forced standing.path.items standing.term standing.stuck
+      found_stays table.graph.now.dag (allows_by table.arcs) (weight_by table.arcs old) (weight_by table.arcs new) arc_fell table.forced standing.path.items standing.term standing.stuck
       (kept_same standing.path.items standing.term standing.stuck unrisen stands) stands

@@ -96,7 +96,7 @@ terms_small tables grouped standings sound range stand k d l =
 -- a copy of what stands stands
 pub copy_stands : (table : BidTable) (grouped : List ℤ) (standing copy : Standing) → IsCopy standing copy → Stands table grouped standing → Stands table grouped copy
 copy_stands table grouped standing copy same is =
-    let found = λ (path : List ℕ) (term : ℤ) (stuck : Bool). IsFound table.graph.now.dag (allows_by table.arcs.items) (weight_by table.arcs.items grouped) table.forced path term stuck in
+    let found = λ (path : List ℕ) (term : ℤ) (stuck : Bool). IsFound table.graph.now.dag (allows_by table.arcs) (weight_by table.arcs grouped) table.forced path term stuck in
     subst (λ (b : Bool). found copy.path.items copy.term b) (sym same.stuck)
     (subst (λ (z : ℤ). found copy.path.items z standing.stuck) (sym same.term)
     (subst (λ (xs : List ℕ). found xs standing.term standing.stuck) (sym same.path) is))
@@ -133,7 +133,7 @@ pub stand_free : (tables : List BidTable) (grouped : List ℤ) (standings : List
 stand_free tables grouped standings free stand = record {
   count_is = stand.count_is;
   each = λ number table standing t s.
-      let same = λ (k : ℕ). ap (λ (z : ℤ). (slice_index_or table.arcs.items k no_arc).value -ℤ z) (free (slice_index_or table.arcs.items k no_arc).group) in
-      found_stays table.graph.now.dag (allows_by table.arcs.items) (weight_by table.arcs.items []) (weight_by table.arcs.items grouped) (λ k l. let e = same k in omega (arith, ints)) table.forced standing.path.items standing.term standing.stuck
+      let same = λ (k : ℕ). ap (λ (z : ℤ). (slice_index_or table.arcs k no_arc).value -ℤ z) (free (slice_index_or table.arcs k no_arc).group) in
+      found_stays table.graph.now.dag (allows_by table.arcs) (weight_by table.arcs []) (weight_by table.arcs grouped) (λ k l. let e = same k in omega (arith, ints)) table.forced standing.path.items standing.term standing.stuck
       (λ k d l. same (get_or standing.path.items k d)) (stand.each number table standing t s);
 }

@@ -95,20 +95,20 @@ module _ {R : Type 0} (cmp : R → R → Ordering) (net : Net) (proper : IsPrope
   Unused row = (yes_load rows bids (drop k before) row ≡ 0) × (yes_load rows bids (drop k node) row ≡ 0)
 
   module _ (number : ℕ) (bid : Bid) (table : BidTable) (apart_before : All (λ (d : Decision). d.bid ≢ number) (drop k before)) (apart_node : All (λ (d : Decision). d.bid ≢ number) (drop k node))
-      (unused : (n : ℕ) (row : R) → slice_get numbered n ≡ Some row → IsRowOf groups table.arcs.items n → Unused row) (is : IsBidTable (setting net rows used bids before) number numbered groups bid table) where
+      (unused : (n : ℕ) (row : R) → slice_get numbered n ≡ Some row → IsRowOf groups table.arcs n → Unused row) (is : IsBidTable (setting net rows used bids before) number numbered groups bid table) where
     -- a row that a leg uses is one that its arc touches
-    leg_unused : (j : ℕ) (leg : Leg) (arc : ArcTerm) → slice_get table.arcs.items j ≡ Some arc → leg_of table.graph.now j ≡ Some leg → (row : R) → 0 < rows.uses bid.path.kind leg row → Unused row
+    leg_unused : (j : ℕ) (leg : Leg) (arc : ArcTerm) → slice_get table.arcs j ≡ Some arc → leg_of table.graph.now j ≡ Some leg → (row : R) → 0 < rows.uses bid.path.kind leg row → Unused row
     leg_unused j leg arc at there row some =
-        let w = slice_get_within table.arcs.items j arc at in
+        let w = slice_get_within table.arcs j arc at in
         let count = is.arcs_are.count in
         let usable = arc_usable net proper bid table.graph.now is.arcs_are.graph j leg (omega (arith, w, count)) there in
         let touches = group_at groups.starts.items groups.touches.items arc.group in
         let term = is.arcs_are.terms.legs_are j leg arc at there in
         let touch = zip_second (IsTouch numbered (rows.uses bid.path.kind leg)) touches (used bid.path.kind leg) term.group_is row (((lists bid.path.kind leg usable).used row).0 some) in
         unused touch.0.row row touch.2.number
-        (record { group = arc.group; has = contains-map (λ (a : ArcTerm). a.group) table.arcs.items arc (contains_at table.arcs.items j arc at); touched = contains-map (λ (t : Touch). t.row) touches touch.0 touch.1 })
+        (record { group = arc.group; has = contains-map (λ (a : ArcTerm). a.group) table.arcs arc (contains_at table.arcs j arc at); touched = contains-map (λ (t : Touch). t.row) touches touch.0 touch.1 })
 
-    others : (j : ℕ) (leg : Leg) (arc : ArcTerm) → slice_get table.arcs.items j ≡ Some arc → leg_of table.graph.now j ≡ Some leg → (row : R) → 0 < rows.uses bid.path.kind leg row → others_load rows bids before number row ≡ others_load rows bids node number row
+    others : (j : ℕ) (leg : Leg) (arc : ArcTerm) → slice_get table.arcs j ≡ Some arc → leg_of table.graph.now j ≡ Some leg → (row : R) → 0 < rows.uses bid.path.kind leg row → others_load rows bids before number row ≡ others_load rows bids node number row
     others j leg arc at there row some = let free = leg_unused j leg arc at there row some in others_same rows bids number k before node row shared free.0 free.1
 
     stays : IsBidTable (setting net rows used bids node) number numbered groups bid table
@@ -154,7 +154,7 @@ module _ {R : Type 0} (cmp : R → R → Ordering) (net : Net) (proper : IsPrope
       let w = slice_get_within c.fallen.items number false told_at in
       let untold : is_told c.fallen.items number ≡ false = get_or_from_slice_get c.fallen.items number false false told_at in
       let rows_named : (n : ℕ) (row : R) → slice_get numbered n ≡ Some row → slice_get c.numbering.rows.items n ≡ Some row = λ n row at. subst (λ (rs : List R). slice_get rs n ≡ Some row) (sym named) at in
-      let row_of : (n : ℕ) → IsRowOf groups table.arcs.items n → IsRowOf c.columns.groups table.arcs.items n = λ n of. subst (λ (gs : Groups). IsRowOf gs table.arcs.items n) (sym grouped) of in
+      let row_of : (n : ℕ) → IsRowOf groups table.arcs n → IsRowOf c.columns.groups table.arcs n = λ n of. subst (λ (gs : Groups). IsRowOf gs table.arcs n) (sym grouped) of in
       stays number bid table (left.own number w untold) (entered.own number w untold)
       (λ n row at of. (left.apart number table table_at untold n row (rows_named n row at) (row_of n of), entered.apart number table table_at untold n row (rows_named n row at) (row_of n of)))
       (tables.each number bid table bid_at table_at)

@@ -41,8 +41,8 @@ module _ {R : Type 0} (cmp : R → R → Ordering) (total : IsTotalOrder cmp) (a
   no_uses row e =
       no_load cmp total apart s proper lists c.numbering.rows.items c.columns.groups c.tables.items c.columns.grouped.items c.standings.items is.tables sound is.stand row (λ n at. none-some n (sym e ∙ is.numbering.known n row at))
 
-  module _ (l : Levels) (same_prices : l.prices ≡ c.levels.prices) (same_capacities : l.capacities ≡ c.levels.capacities) (use_count : length l.uses.items ≡ length l.prices.items)
-      (uses : AreUses c.columns.groups c.tables.items (paths_of c.standings.items) l.uses.items) (n : ℕ) (row : R) (at : slice_get c.numbering.rows.items n ≡ Some row) where
+  module _ (l : Levels) (same_prices : l.prices ≡ c.levels.prices) (same_capacities : l.loads.capacities ≡ c.levels.loads.capacities) (use_count : length l.loads.uses ≡ length l.prices.items)
+      (uses : AreUses c.columns.groups c.tables.items (paths_of c.standings.items) l.loads.uses) (n : ℕ) (row : R) (at : slice_get c.numbering.rows.items n ≡ Some row) where
     -- so much is used of a row with a number as the replies use
     used_at : use_of l n ≡ reply_load s.rows s.bids (replies_at c) row
     used_at =
@@ -55,10 +55,10 @@ module _ {R : Type 0} (cmp : R → R → Ordering) (total : IsTotalOrder cmp) (a
 
     -- its capacity
     room_at : capacity_of l n ≡ s.rows.capacity row
-    room_at = ap (λ v. slice_index v.items n) same_capacities ∙ get_or_from_slice_get c.levels.capacities.items n (s.rows.capacity row) 0 (is.capacities n row at)
+    room_at = ap (λ (cs : List ℕ). slice_index cs n) same_capacities ∙ get_or_from_slice_get c.levels.loads.capacities n (s.rows.capacity row) 0 (is.capacities n row at)
 
   -- the rows of which more is used than their capacity are those that the replies overfill
-  pub overfilled : (l : Levels) → l.prices ≡ c.levels.prices → l.capacities ≡ c.levels.capacities → length l.uses.items ≡ length l.prices.items → AreUses c.columns.groups c.tables.items (paths_of c.standings.items) l.uses.items
+  pub overfilled : (l : Levels) → l.prices ≡ c.levels.prices → l.loads.capacities ≡ c.levels.loads.capacities → length l.loads.uses ≡ length l.prices.items → AreUses c.columns.groups c.tables.items (paths_of c.standings.items) l.loads.uses
       → (listed : List R) → ListsAbove c.numbering.rows.items l listed → AreOverfilled s.rows s.bids (replies_at c) listed
   overfilled l same_prices same_capacities use_count uses listed are = record {
     sound = All-weaker (IsRowAbove c.numbering.rows.items l) (λ row. (s.rows.is_row row ≡ true) × (s.rows.capacity row < reply_load s.rows s.bids (replies_at c) row))
@@ -78,8 +78,8 @@ module _ {R : Type 0} (cmp : R → R → Ordering) (total : IsTotalOrder cmp) (a
           are.whole row (n, at, omega arith)
 
   -- prices that are moved by the uses of the replies are those of the step
-  pub step_made : AreUp cmp c.numbering.order.items → (k : ℕ) (by : ℤ) → by ≡ step_length s.bids k → pos 1 ≤ℤ by → (l moved : Levels) → l.prices ≡ c.levels.prices → l.capacities ≡ c.levels.capacities
-      → length l.uses.items ≡ length l.prices.items → AreUses c.columns.groups c.tables.items (paths_of c.standings.items) l.uses.items → All IsRowPrice moved.prices.items → MovesTo (next_at by l) l moved
+  pub step_made : AreUp cmp c.numbering.order.items → (k : ℕ) (by : ℤ) → by ≡ step_length s.bids k → pos 1 ≤ℤ by → (l moved : Levels) → l.prices ≡ c.levels.prices → l.loads.capacities ≡ c.levels.loads.capacities
+      → length l.loads.uses ≡ length l.prices.items → AreUses c.columns.groups c.tables.items (paths_of c.standings.items) l.loads.uses → All IsRowPrice moved.prices.items → MovesTo (next_at by l) l moved
       → IsStep cmp s.rows s.bids (replies_at c) k (prices_at c) (listed c.numbering.order.items moved.prices.items)
   step_made ordered k by by_is low l moved same_prices same_capacities use_count uses range moves =
       record {
@@ -113,6 +113,6 @@ module _ {R : Type 0} (cmp : R → R → Ordering) (total : IsTotalOrder cmp) (a
           let old : slice_index_or l.prices.items n (pos 0) ≡ slice_index_or c.levels.prices.items n (pos 0) = ap (λ v. slice_index_or v.items n (pos 0)) same_prices in
           price_numbered cmp total apart s.rows c.numbering.order.items rows is.numbering is.rows ordered new range n row at
           ∙ moves.each n (omega arith)
-          ∙ ap (λ (z : ℤ). next_price by z (slice_index l.uses.items n) (slice_index l.capacities.items n)) (old ∙ sym old_price)
-          ∙ ap (λ (m : ℕ). next_price by (price_of (eq_by_cmp cmp) (listed c.numbering.order.items c.levels.prices.items) row) m (slice_index l.capacities.items n)) used
+          ∙ ap (λ (z : ℤ). next_price by z (slice_index l.loads.uses n) (slice_index l.loads.capacities n)) (old ∙ sym old_price)
+          ∙ ap (λ (m : ℕ). next_price by (price_of (eq_by_cmp cmp) (listed c.numbering.order.items c.levels.prices.items) row) m (slice_index l.loads.capacities n)) used
           ∙ ap (λ (m : ℕ). next_price by (price_of (eq_by_cmp cmp) (listed c.numbering.order.items c.levels.prices.items) row) (reply_load s.rows s.bids (replies_at c) row) m) room

@@ -33,7 +33,7 @@ module _ {R : Type 0} (net : Net) (rows : Rows R) (used : TypeId → Leg → Lis
       graph = is.arcs_are.graph;
       count = is.arcs_are.count;
       groups = are;
-      terms = terms_kept net rows used bid table.graph.now numbered after groups.starts.items grown.starts.items groups.touches.items grown.touches.items table.arcs.items extends keeps is.arcs_are.terms;
+      terms = terms_kept net rows used bid table.graph.now numbered after groups.starts.items grown.starts.items groups.touches.items grown.touches.items table.arcs extends keeps is.arcs_are.terms;
     };
     covers = is.covers;
   }
@@ -69,7 +69,7 @@ module _ {R : Type 0} (s : Setting R) where
       graph = is.arcs_are.graph;
       count = is.arcs_are.count;
       groups = is.arcs_are.groups;
-      terms = terms_kept s.net s.rows s.used bid table.graph.now numbered after groups.starts.items groups.starts.items groups.touches.items groups.touches.items table.arcs.items extends
+      terms = terms_kept s.net s.rows s.used bid table.graph.now numbered after groups.starts.items groups.starts.items groups.touches.items groups.touches.items table.arcs extends
           (groups_stay groups.starts.items groups.touches.items) is.arcs_are.terms;
       marks = is.arcs_are.marks;
       forced_is = is.arcs_are.forced_is;

@@ -119,7 +119,7 @@ due_all n c tables holders old now columns are count past below number table at 
 ]
   where
     g : ℕ
-    g = get_or (groups_of table.arcs.items) k d
+    g = get_or (groups_of table.arcs) k d
 
     clash : true ≡ false → ⊥
     clash q = cc
@@ -167,16 +167,16 @@ rest_is xs ys k e = take_all (length xs - k) (drop k xs) (let l = length-drop k 
 module _ {R : Type 0} (s : Setting R) (c : ArcTables R) (marked : Columns) (told : List Bool) (columns : IsColumns c.columns.groups marked)
     (tables : AreTables s (length s.bids) c.numbering.rows.items c.columns.groups c.tables.items) (due : TellsDue marked.marks.items c.tables.items told) (keeps : KeepsTold told c.fallen.items) (count : length told ≡ length c.tables.items) where
   -- the groups of a bid's arcs are among the groups
-  within : (number : ℕ) (table : BidTable) → slice_get c.tables.items number ≡ Some table → (g : ℕ) → Contains (groups_of table.arcs.items) g → g + 1 < length c.columns.groups.starts.items
+  within : (number : ℕ) (table : BidTable) → slice_get c.tables.items number ≡ Some table → (g : ℕ) → Contains (groups_of table.arcs) g → g + 1 < length c.columns.groups.starts.items
   within number table at g (k, l, e) =
       let w = slice_get_within c.tables.items number table at in
       let n = tables.count_is in
       let bid = some_at s.bids number (omega arith) in
       let all = (tables.each number bid.0 table bid.1 at).arcs_are.terms.within in
-      let shorter : length (groups_of table.arcs.items) ≡ length table.arcs.items = length-map table.arcs.items (λ (arc : ArcTerm). arc.group) in
-      let arc = some_at table.arcs.items k (omega arith) in
-      let same : arc.0.group ≡ g = same_Some arc.0.group g (sym (map_at (λ (x : ArcTerm). x.group) table.arcs.items k arc.0 arc.1) ∙ slice_get-get_or (groups_of table.arcs.items) k g l ∙ ap Some e) in
-      subst (λ (h : ℕ). h + 1 < length c.columns.groups.starts.items) same (all_at (λ (x : ArcTerm). x.group + 1 < length c.columns.groups.starts.items) table.arcs.items k arc.0 all arc.1)
+      let shorter : length (groups_of table.arcs) ≡ length table.arcs = length-map table.arcs (λ (arc : ArcTerm). arc.group) in
+      let arc = some_at table.arcs k (omega arith) in
+      let same : arc.0.group ≡ g = same_Some arc.0.group g (sym (map_at (λ (x : ArcTerm). x.group) table.arcs k arc.0 arc.1) ∙ slice_get-get_or (groups_of table.arcs) k g l ∙ ap Some e) in
+      subst (λ (h : ℕ). h + 1 < length c.columns.groups.starts.items) same (all_at (λ (x : ArcTerm). x.group + 1 < length c.columns.groups.starts.items) table.arcs k arc.0 all arc.1)
 
   pub moved : (decisions : List Decision) (claims : List Claim) (old : Columns) → AreClaims s.rows s.bids c.numbering.rows.items decisions claims → MarksUsed (claim_uses claims) old marked → TellsOwn decisions c.fallen.items → TellsMoved s.rows s.bids decisions c
   moved decisions claims old are marks own = record {

@@ -65,11 +65,11 @@ takes_on old mid new extra more whole same a b = record {
 }
 
 -- each arc has a group; past the last one it is that without a touch
-pub arc_grouped : (groups : Groups) (table : BidTable) (k : ℕ) → HasGroups groups table → (slice_index_or table.arcs.items k no_arc).group + 1 < length groups.starts.items
-arc_grouped groups table k has = elim (cases_lt k (length table.arcs.items)) as (λ _. (slice_index_or table.arcs.items k no_arc).group + 1 < length groups.starts.items) [
+pub arc_grouped : (groups : Groups) (table : BidTable) (k : ℕ) → HasGroups groups table → (slice_index_or table.arcs k no_arc).group + 1 < length groups.starts.items
+arc_grouped groups table k has = elim (cases_lt k (length table.arcs)) as (λ _. (slice_index_or table.arcs k no_arc).group + 1 < length groups.starts.items) [
   | inl within ↦ has.within k no_arc within
   | inr past ↦
-      let none = ap (λ (arc : ArcTerm). arc.group) (get_or_past table.arcs.items k no_arc past) in
+      let none = ap (λ (arc : ArcTerm). arc.group) (get_or_past table.arcs k no_arc past) in
       let two = has.are.two in
       omega arith
 ]
@@ -186,19 +186,19 @@ group_is [] k = refl
 group_is (arc ∷ arcs) zero = refl
 group_is (arc ∷ arcs) (suc k) = group_is arcs k
 
-path_same : (groups : Groups) (old new : BidTable) (n : ℕ) → groups_of new.arcs.items ≡ groups_of old.arcs.items → (path : List ℕ) → path_uses groups new path n ≡ path_uses groups old path n
+path_same : (groups : Groups) (old new : BidTable) (n : ℕ) → groups_of new.arcs ≡ groups_of old.arcs → (path : List ℕ) → path_uses groups new path n ≡ path_uses groups old path n
 path_same groups old new n same [] = refl
 path_same groups old new n same (k ∷ path) =
     let a = sum_by-cons (λ (j : ℕ). touch_uses (arc_touches groups new j) n) k path in
     let b = sum_by-cons (λ (j : ℕ). touch_uses (arc_touches groups old j) n) k path in
-    let g = group_is new.arcs.items k ∙ ap (λ (gs : List ℕ). get_or gs k 0) same ∙ sym (group_is old.arcs.items k) in
+    let g = group_is new.arcs k ∙ ap (λ (gs : List ℕ). get_or gs k 0) same ∙ sym (group_is old.arcs k) in
     let h = ap (λ (group : ℕ). touch_uses (group_at groups.starts.items groups.touches.items group) n) g in
     let i = path_same groups old new n same path in
     omega arith
 
 -- the paths use what they used
 pub all_brought : (groups : Groups) (old new : List BidTable) (paths : List (List ℕ)) (n : ℕ) → length new ≡ length old
-    → ((number : ℕ) (before after : BidTable) → slice_get old number ≡ Some before → slice_get new number ≡ Some after → groups_of after.arcs.items ≡ groups_of before.arcs.items)
+    → ((number : ℕ) (before after : BidTable) → slice_get old number ≡ Some before → slice_get new number ≡ Some after → groups_of after.arcs ≡ groups_of before.arcs)
     → all_uses groups new paths n ≡ all_uses groups old paths n
 all_brought groups [] [] paths n count same = refl
 all_brought groups [] (y ∷ new) paths n count same = absurd (omega arith)
@@ -227,14 +227,14 @@ leads_within g allows n [] h = All-nil (λ (k : ℕ). k < length g.arcs)
 leads_within g allows n (k ∷ path) h = All-cons (λ (j : ℕ). j < length g.arcs) k path h.0 (leads_within g allows (to_of g k) path h.3)
 
 -- the arcs of a reply's path have groups
-pub path_within : (table : BidTable) (prices : List ℤ) (standing : Standing) → IsSound table → Stands table prices standing → All (λ k. k < length table.arcs.items) standing.path.items
+pub path_within : (table : BidTable) (prices : List ℤ) (standing : Standing) → IsSound table → Stands table prices standing → All (λ k. k < length table.arcs) standing.path.items
 path_within table prices standing sound stands = by stands
   where
-    none : standing.path.items ≡ [] → All (λ k. k < length table.arcs.items) standing.path.items
-    none e = subst (All (λ (k : ℕ). k < length table.arcs.items)) (sym e) (All-nil (λ (k : ℕ). k < length table.arcs.items))
+    none : standing.path.items ≡ [] → All (λ k. k < length table.arcs) standing.path.items
+    none e = subst (All (λ (k : ℕ). k < length table.arcs)) (sym e) (All-nil (λ (k : ℕ). k < length table.arcs))
 
-    by : Stands table prices standing → All (λ k. k < length table.arcs.items) standing.path.items
+    by : Stands table prices standing → All (λ k. k < length table.arcs) standing.path.items
     by (inl nowhere) = none nowhere.path_is
     by (inr (inl nothing)) = none nothing.path_is
     by (inr (inr found)) =
-        subst (λ (count : ℕ). All (λ (k : ℕ). k < count) standing.path.items) sound.count (leads_within table.graph.now.dag (allows_by table.arcs.items) 0 standing.path.items found.best.path.leads)
+        subst (λ (count : ℕ). All (λ (k : ℕ). k < count) standing.path.items) sound.count (leads_within table.graph.now.dag (allows_by table.arcs) 0 standing.path.items found.best.path.leads)

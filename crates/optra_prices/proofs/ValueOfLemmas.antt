@@ -60,7 +60,7 @@ pub path_route : (table : BidTable) (prices : List ℤ) (standing : Standing) �
 path_route table prices standing (inl none) some = absurd (some none.path_is)
 path_route table prices standing (inr (inl nothing)) some = absurd (some nothing.path_is)
 path_route table prices standing (inr (inr found)) some =
-    record { some = found.best.path.some; leads = (leads_on table.graph.now.dag (allows_by table.arcs.items) 0 standing.path.items found.best.path.leads).0 }
+    record { some = found.best.path.some; leads = (leads_on table.graph.now.dag (allows_by table.arcs) 0 standing.path.items found.best.path.leads).0 }
 
 -- a place of a list after one was set
 pub set_at : (xs : List ℤ) (k j : ℕ) (x : ℤ) → k < length xs → j ≡ k → slice_index_or (set xs k x) j (pos 0) ≡ x

@@ -34,7 +34,7 @@ pub record AreToldAnew {R : Type 0} (net : Net) (rows : Rows R) (bids : List Bid
 pub record IsTableAnew {R : Type 0} (net : Net) (rows : Rows R) (bids : List Bid) (node : List Decision) (number : ℕ) (old new : BidTable) : Type 0 where
   pub graph : new.graph.now ≡ old.graph.now
   pub most : new.most ≡ old.most
-  pub arcs : AreToldAnew net rows bids node number old.graph.now old.arcs.items new.arcs.items
+  pub arcs : AreToldAnew net rows bids node number old.graph.now old.arcs new.arcs
   pub forced_is : new.forced ≡ has_yes node number
 
 -- the table is that of a bid

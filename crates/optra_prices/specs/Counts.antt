@@ -2,10 +2,6 @@
 use Rattle.std.specs.Prelude.{ℕ, suc, ◌+◌, ◌*◌, List, [], ◌∷◌, nat_eq}
 use Rattle.std.specs.List.{count_by}
 
--- numbers by place
-pub record Numbers : Type 0 where
-  pub items : List ℕ
-
 -- how often a place stands in a list
 abbrev pub times : List ℕ → ℕ → ℕ
 times over place = count_by (λ there. nat_eq there place) over

@@ -64,10 +64,10 @@ HaveCapacities {R} rows numbered capacities = (n : ℕ) (row : R) → slice_get 
 pub record AreSetUp {R : Type 0} (cmp : R → R → Ordering) (s : Setting R) (c : ArcTables R) : Type 0 where
   pub numbering : IsNumbering cmp c.numbering.order.items c.numbering.rows.items
   pub rows : All (λ row. s.rows.is_row row ≡ true) c.numbering.rows.items
-  pub capacities : HaveCapacities s.rows c.numbering.rows.items c.levels.capacities.items
+  pub capacities : HaveCapacities s.rows c.numbering.rows.items c.levels.loads.capacities
   pub price_count : length c.levels.prices.items ≡ length c.numbering.rows.items
   pub levels : IsLevels c.levels
-  pub counted : AreCounted c.columns.groups c.tables.items (paths_in c.counted.items) c.levels.uses.items
+  pub counted : AreCounted c.columns.groups c.tables.items (paths_in c.counted.items) c.levels.loads.uses
   pub columns : IsColumns c.columns.groups c.columns
   pub tables : AreTables s (length s.bids) c.numbering.rows.items c.columns.groups c.tables.items
   pub stand : AllStand c.tables.items c.columns.grouped.items c.standings.items

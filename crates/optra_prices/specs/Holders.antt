@@ -16,7 +16,7 @@ groups_of arcs = map (λ arc. arc.group) arcs
 -- each bid is one of those that have the group, for each group of its arcs
 pub record AreHolders (tables : List BidTable) (holders : Index) : Type 0 where
   pub index : IsIndex holders
-  pub held : (number : ℕ) (table : BidTable) → slice_get tables number ≡ Some table → All (λ g. IndexHas holders g number) (groups_of table.arcs.items)
+  pub held : (number : ℕ) (table : BidTable) → slice_get tables number ≡ Some table → All (λ g. IndexHas holders g number) (groups_of table.arcs)
 
 -- the group stands among groups from a place on
 abbrev pub StandsFrom : List ℕ → ℕ → ℕ → Type 0
@@ -75,4 +75,4 @@ pub record TellsGroup (marks : List Mark) (holders : Index) (g : ℕ) (old new :
 -- of a bid that isn't told no group fell
 pub record TellsFallen (marks : List Mark) (tables : List BidTable) (fallen : List Bool) : Type 0 where
   pub count : length fallen ≡ length tables
-  pub each : (number : ℕ) (table : BidTable) → slice_get tables number ≡ Some table → is_told fallen number ≡ false → HaveNotFallen marks table.arcs.items
+  pub each : (number : ℕ) (table : BidTable) → slice_get tables number ≡ Some table → is_told fallen number ≡ false → HaveNotFallen marks table.arcs

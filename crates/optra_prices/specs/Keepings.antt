@@ -26,8 +26,8 @@ AreKept cmp net rows used bids kept = (node : List Decision) × AreKeptAt cmp ne
 -- a table was brought to a node: it has the graph and the groups that it had; where nothing is said to have changed, nothing has
 pub record IsBrought (changed : Bool) (old new : BidTable) : Type 0 where
   pub graph : new.graph.now ≡ old.graph.now
-  pub groups : groups_of new.arcs.items ≡ groups_of old.arcs.items
-  pub arcs : changed ≡ false → new.arcs.items ≡ old.arcs.items
+  pub groups : groups_of new.arcs ≡ groups_of old.arcs
+  pub arcs : changed ≡ false → new.arcs ≡ old.arcs
   pub forced : changed ≡ false → new.forced ≡ old.forced
 
 -- tables were brought to a node, with what has changed of each

@@ -12,11 +12,11 @@ price_of l n = slice_index_or l.prices.items n (pos 0)
 
 -- how much is used of it
 abbrev pub use_of : Levels → ℕ → ℕ
-use_of l n = slice_index l.uses.items n
+use_of l n = slice_index l.loads.uses n
 
 -- its capacity
 abbrev pub capacity_of : Levels → ℕ → ℕ
-capacity_of l n = slice_index l.capacities.items n
+capacity_of l n = slice_index l.loads.capacities n
 
 -- whether it is marked as active
 abbrev pub is_listed : Levels → ℕ → Bool
@@ -36,12 +36,12 @@ StandOnce xs = (i j : ℕ) → i < j → j < length xs → slice_index xs i ≡ 
 
 -- a price, a use, a capacity and a mark for each row; those with a price or more uses than capacity are active, and none twice; the price of all capacity
 pub record IsLevels (l : Levels) : Type 0 where
-  pub use_count : length l.uses.items ≡ length l.prices.items
-  pub capacity_count : length l.capacities.items ≡ length l.prices.items
+  pub use_count : length l.loads.uses ≡ length l.prices.items
+  pub capacity_count : length l.loads.capacities ≡ length l.prices.items
   pub mark_count : length l.listed.items ≡ length l.prices.items
   pub range : All IsRowPrice l.prices.items
-  pub small : All (λ capacity. capacity ≤ 65535) l.capacities.items
-  pub capacity_is : l.capacity ≡ capacity_below l.prices.items l.capacities.items (length l.prices.items)
+  pub small : All (λ capacity. capacity ≤ 65535) l.loads.capacities
+  pub capacity_is : l.capacity ≡ capacity_below l.prices.items l.loads.capacities (length l.prices.items)
   pub within : All (λ n. n < length l.prices.items) l.active.items
   pub once : StandOnce l.active.items
   pub marked : All (λ n. is_listed l n ≡ true) l.active.items
@@ -55,26 +55,26 @@ AreUnused l = (n : ℕ) → use_of l n ≡ 0
 -- prices stay
 pub record KeepsPrices (old new : Levels) : Type 0 where
   pub prices : new.prices ≡ old.prices
-  pub capacities : new.capacities ≡ old.capacities
+  pub capacities : new.loads.capacities ≡ old.loads.capacities
 
 -- uses stay
 pub record KeepsUses (old new : Levels) : Type 0 where
-  pub uses : new.uses ≡ old.uses
-  pub capacities : new.capacities ≡ old.capacities
+  pub uses : new.loads.uses ≡ old.loads.uses
+  pub capacities : new.loads.capacities ≡ old.loads.capacities
 
 -- the row is active, all else is as it was, and so is the list of active rows where it has the row
 pub record Wakes (number : ℕ) (old new : Levels) : Type 0 where
   pub prices : new.prices ≡ old.prices
-  pub uses : new.uses ≡ old.uses
-  pub capacities : new.capacities ≡ old.capacities
+  pub uses : new.loads.uses ≡ old.loads.uses
+  pub capacities : new.loads.capacities ≡ old.loads.capacities
   pub here : Contains new.active.items number
   pub same : is_listed old number ≡ true → new.active ≡ old.active
 
 -- the row is active where the uses are more than its capacity, and all else is as it was
 pub record WakesAbove (number uses : ℕ) (old new : Levels) : Type 0 where
   pub prices : new.prices ≡ old.prices
-  pub uses_are : new.uses ≡ old.uses
-  pub capacities : new.capacities ≡ old.capacities
+  pub uses_are : new.loads.uses ≡ old.loads.uses
+  pub capacities : new.loads.capacities ≡ old.loads.capacities
   pub here : (uses ≤ capacity_of new number) ⊎ Contains new.active.items number
 
 -- the row stands at this place or at one after it
@@ -94,8 +94,8 @@ pub record GoesOn (k next : ℕ) (old new : List ℕ) : Type 0 where
 -- the row at place k may have been let go; all else is as it was
 pub record Rests (k next : ℕ) (old new : Levels) : Type 0 where
   pub prices : new.prices ≡ old.prices
-  pub uses : new.uses ≡ old.uses
-  pub capacities : new.capacities ≡ old.capacities
+  pub uses : new.loads.uses ≡ old.loads.uses
+  pub capacities : new.loads.capacities ≡ old.loads.capacities
   pub on : GoesOn k next old.active.items new.active.items
 
 -- the row at place k has the price, and may have been let go

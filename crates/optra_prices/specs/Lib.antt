@@ -4,6 +4,7 @@ pub mod Steps
 pub mod Paths
 pub mod Deads
 pub mod Marks
+pub mod NarrowArcs
 pub mod Laws
 pub mod Repairs
 pub mod ArcTerms
@@ -12,7 +13,9 @@ pub mod Arcs
 pub mod Tables
 pub mod Terms
 pub mod Makings
+pub mod Numberings
 pub mod Rankings
+pub mod NumberLists
 pub mod Indexes
 pub mod Users
 pub mod Columns
@@ -25,6 +28,7 @@ pub mod Overfull
 pub mod Keepings
 pub mod Claims
 pub mod Counts
+pub mod Loads
 pub mod Rooms
 pub mod Allowing
 pub mod Following

@@ -16,8 +16,8 @@ use Rattle.optra_prices.specs.declared.rooms.Told.{Told}
 
 -- so much is used of each row that has a number, beside its capacity
 pub record IsRoom {R : Type 0} (rows : Rows R) (numbered : List R) (total : R → ℕ) (room : Room) : Type 0 where
-  pub uses_are : (n : ℕ) (row : R) → slice_get numbered n ≡ Some row → slice_get room.uses.items n ≡ Some (total row)
-  pub capacities_are : (n : ℕ) (row : R) → slice_get numbered n ≡ Some row → slice_get room.capacities.items n ≡ Some (rows.capacity row)
+  pub uses_are : (n : ℕ) (row : R) → slice_get numbered n ≡ Some row → slice_get room.loads.uses n ≡ Some (total row)
+  pub capacities_are : (n : ℕ) (row : R) → slice_get numbered n ≡ Some row → slice_get room.loads.capacities n ≡ Some (rows.capacity row)
 
 -- the decisions are those of the node, with what each of them uses, and so much of each row that has a number is used by its yes legs
 pub record IsDecided {R : Type 0} (net : Net) (rows : Rows R) (bids : List Bid) (numbered : List R) (node : List Decision) (decided : Decided) : Type 0 where
@@ -28,7 +28,7 @@ pub record IsDecided {R : Type 0} (net : Net) (rows : Rows R) (bids : List Bid) 
 
 -- there is room for the touch
 abbrev pub HasRoomFor : Room → Touch → Type 0
-HasRoomFor room touch = slice_index_or room.uses.items touch.row 0 + touch.uses ≤ slice_index_or room.capacities.items touch.row 0
+HasRoomFor room touch = slice_index_or room.loads.uses touch.row 0 + touch.uses ≤ slice_index_or room.loads.capacities touch.row 0
 
 -- there is room for each of the touches
 abbrev pub HasRoomForAll : Room → List Touch → Type 0
@@ -40,12 +40,12 @@ IsTold room groups told = (told.has_room ≡ true) ↔ HasRoomForAll room (group
 
 -- the copy has the same capacities, and nothing is used of it
 pub record IsFreeCopy (room copy : Room) : Type 0 where
-  pub uses_are : copy.uses.items ≡ replicate (length room.uses.items) 0
-  pub capacities_are : copy.capacities.items ≡ room.capacities.items
+  pub uses_are : copy.loads.uses ≡ replicate (length room.loads.uses) 0
+  pub capacities_are : copy.loads.capacities ≡ room.loads.capacities
 
 -- no more is used of the row with number n than there is
 abbrev pub IsNumberWithin : Room → ℕ → Type 0
-IsNumberWithin room n = slice_index_or room.uses.items n 0 ≤ slice_index_or room.capacities.items n 0
+IsNumberWithin room n = slice_index_or room.loads.uses n 0 ≤ slice_index_or room.loads.capacities n 0
 
 -- each row that is claimed has a number, and no more is used of it than there is
 pub record IsClaimWithin (room : Room) (claim : Claim) : Type 0 where

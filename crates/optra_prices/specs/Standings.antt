@@ -26,7 +26,7 @@ use Rattle.optra_prices.specs.declared.sessions.Made.{Made}
 -- the search at these prices of groups found what stands
 abbrev pub Stands : BidTable → List ℤ → Standing → Type 0
 Stands table grouped standing =
-    IsFound table.graph.now.dag (allows_by table.arcs.items) (weight_by table.arcs.items grouped) table.forced standing.path.items standing.term standing.stuck
+    IsFound table.graph.now.dag (allows_by table.arcs) (weight_by table.arcs grouped) table.forced standing.path.items standing.term standing.stuck
 
 -- all that is known of a bid is the same
 pub record IsCopy (standing copy : Standing) : Type 0 where
@@ -50,10 +50,10 @@ pub record Covers (most : ℤ) (arcs : List ArcTerm) : Type 0 where
 
 -- the arcs fit the graph, and their values are covered
 pub record IsSound (table : BidTable) : Type 0 where
-  pub count : length table.graph.now.dag.arcs ≡ length table.arcs.items
+  pub count : length table.graph.now.dag.arcs ≡ length table.arcs
   pub forward : IsForward table.graph.now.dag
-  pub values : All (λ arc. IsArcValue arc.value) table.arcs.items
-  pub covers : Covers table.most table.arcs.items
+  pub values : All (λ arc. IsArcValue arc.value) table.arcs
+  pub covers : Covers table.most table.arcs
 
 -- the prices of the rows with numbers are those of the list
 abbrev pub Agrees : {R : Type 0} → (R → R → Ordering) → List R → List ℤ → PriceList R → Type 0
@@ -61,8 +61,8 @@ Agrees {R} cmp numbered prices listed = (n : ℕ) (row : R) → slice_get number
 
 -- the table has the arcs of the bid, as they are at all nodes
 pub record IsArcTable {R : Type 0} (net : Net) (rows : Rows R) (used : TypeId → Leg → List R) (numbered : List R) (groups : Groups) (bid : Bid) (table : BidTable) : Type 0 where
-  pub arcs_are : AreArcs net rows used bid table.graph.now numbered table.arcs.items groups.starts.items groups.touches.items
-  pub covers : Covers table.most table.arcs.items
+  pub arcs_are : AreArcs net rows used bid table.graph.now numbered table.arcs groups.starts.items groups.touches.items
+  pub covers : Covers table.most table.arcs
 
 -- a table for each bid, as it is at all nodes
 pub record HoldArcs {R : Type 0} (net : Net) (rows : Rows R) (used : TypeId → Leg → List R) (bids : List Bid) (count : ℕ) (numbered : List R) (groups : Groups) (tables : List BidTable) : Type 0 where
@@ -78,8 +78,8 @@ pub record IsMade {R : Type 0} (cmp : R → R → Ordering) (net : Net) (rows : 
 
 -- the table has the arcs of the bid at the node
 pub record IsBidTable {R : Type 0} (s : Setting R) (number : ℕ) (numbered : List R) (groups : Groups) (bid : Bid) (table : BidTable) : Type 0 where
-  pub arcs_are : AreBidArcs s number bid table.graph.now numbered table.arcs.items groups.starts.items groups.touches.items table.forced
-  pub covers : Covers table.most table.arcs.items
+  pub arcs_are : AreBidArcs s number bid table.graph.now numbered table.arcs groups.starts.items groups.touches.items table.forced
+  pub covers : Covers table.most table.arcs
 
 -- a table for each bid at a node
 pub record AreTables {R : Type 0} (s : Setting R) (count : ℕ) (numbered : List R) (groups : Groups) (tables : List BidTable) : Type 0 where

@@ -28,7 +28,7 @@ pub record MarksUsed (uses : ℕ → ℕ) (old new : Columns) : Type 0 where
 
 -- of a bid that isn't told no group is marked
 abbrev pub TellsDue : List Mark → List BidTable → List Bool → Type 0
-TellsDue marks tables told = (number : ℕ) (table : BidTable) → slice_get tables number ≡ Some table → is_told told number ≡ false → All (λ g. mark_at marks g ≡ Still) (groups_of table.arcs.items)
+TellsDue marks tables told = (number : ℕ) (table : BidTable) → slice_get tables number ≡ Some table → is_told told number ≡ false → All (λ g. mark_at marks g ≡ Still) (groups_of table.arcs)
 
 -- none of the decisions is one of a bid that isn't told
 abbrev pub TellsOwn : List Decision → List Bool → Type 0
@@ -45,4 +45,4 @@ pub record TellsMoved {R : Type 0} (rows : Rows R) (bids : List Bid) (decisions 
   pub count : length c.fallen.items ≡ length c.tables.items
   pub own : TellsOwn decisions c.fallen.items
   pub apart : (number : ℕ) (table : BidTable) → slice_get c.tables.items number ≡ Some table → is_told c.fallen.items number ≡ false
-      → (n : ℕ) (row : R) → slice_get c.numbering.rows.items n ≡ Some row → IsRowOf c.columns.groups table.arcs.items n → yes_load rows bids decisions row ≡ 0
+      → (n : ℕ) (row : R) → slice_get c.numbering.rows.items n ≡ Some row → IsRowOf c.columns.groups table.arcs n → yes_load rows bids decisions row ≡ 0

@@ -17,7 +17,7 @@ touch_uses touches n = sum_by (λ touch. touch_use touch n) touches
 
 -- what an arc touches
 abbrev pub arc_touches : Groups → BidTable → ℕ → List Touch
-arc_touches groups table k = group_at groups.starts.items groups.touches.items (slice_index_or table.arcs.items k no_arc).group
+arc_touches groups table k = group_at groups.starts.items groups.touches.items (slice_index_or table.arcs k no_arc).group
 
 -- how much the arcs of a path use of the row with number n
 abbrev pub path_uses : Groups → BidTable → List ℕ → ℕ → ℕ
@@ -69,4 +69,4 @@ pub record CountsPath (groups : Groups) (table : BidTable) (before path : List �
 -- each arc of the table has a group
 pub record HasGroups (groups : Groups) (table : BidTable) : Type 0 where
   pub are : AreGroups groups.starts.items groups.touches.items
-  pub within : All (λ arc. arc.group + 1 < length groups.starts.items) table.arcs.items
+  pub within : All (λ arc. arc.group + 1 < length groups.starts.items) table.arcs

@@ -2,22 +2,25 @@
 //!
 //! The room that the yes legs leave is held by the numbers of rows, so that no row is looked up in a map for an arc. A
 //! bid's own yes legs are taken out of it while the bid's arcs are told.
-ghost use Rattle.std.specs.Prelude.{◌≡◌, ◌<◌, ◌≤◌, [], false, IfOk, OnOk, length};
+ghost use Rattle.std.specs.Prelude.{◌≡◌, ◌<◌, ◌≤◌, [], false, IfOk, OnOk, length, slice_index_or, slice_set};
 ghost use Rattle.optra_node.specs.Summaries.{summed, decisions_for};
 ghost use Rattle.optra_prices.specs.Terms.{setting};
 ghost use Rattle.optra_prices.specs.Keepings.{IsBrought, AreBrought};
 ghost use Rattle.optra_prices.specs.Rooms.{IsDecided};
 ghost use Rattle.optra_prices.specs.Standings.{AreTables, HoldArcs};
+ghost use Rattle.optra_prices.specs.NarrowArcs.{with_mark};
+ghost use Rattle.optra_prices.specs.Tables.{no_arc};
 ghost use Rattle.optra_prices.specs.Allowing.{AreAtUnlessTold, AreToldAnew, IsTableAnew, IsLetMark, RoomTells, IsTableFor};
 
-use crate::arc_term::ArcTerm;
+use crate::arcs::Arcs;
 use crate::claims::{add_placed, take_placed};
 use crate::decided::Decided;
 use crate::grouping::either;
 use crate::marking::has_yes;
-use crate::numbering::{BidTable, Groups, Numbering};
+use crate::numbering::{BidTable, Groups};
 use crate::owning::Owned;
 use crate::rooms::{Room, Told, tell_group};
+use crate::row_numbers::RowNumbers;
 use optra_graph::TimeGraph;
 use optra_network::NoMemory;
 use optra_walk::{Instance, RowFamily};
@@ -51,16 +54,16 @@ fn let_arc<F: RowFamily>(
 }
 
 /// Says whether the arc may be taken, and tells whether that changed.
-fn set_allowed(arc: &mut ArcTerm, allowed: bool) -> bool
-    ensures value { arc.new.value ≡ arc.old.value }
-    ensures group { arc.new.group ≡ arc.old.group }
-    ensures allowed { arc.new.allowed ≡ allowed }
-    ensures same { result ≡ false → arc.new ≡ arc.old }
+fn set_allowed(arcs: &mut Arcs, k: u32, allowed: bool) -> bool
+    requires { k < length arcs.old }
+    ensures set { arcs.new ≡ slice_set arcs.old k (with_mark (slice_index_or arcs.old k no_arc)
+        allowed) }
+    ensures same { result ≡ false → arcs.new ≡ arcs.old }
 {
-    if arc.allowed() == allowed {
+    if arcs.slice().allowed(k as usize) == allowed {
         return false;
     }
-    arc.allow(allowed);
+    arcs.allow(k as usize, allowed);
     true
 }
 
@@ -71,14 +74,14 @@ fn allow_arcs<F: RowFamily>(
     room: &Room,
     graph: &TimeGraph,
     groups: &Groups,
-    arcs: &mut Vec<ArcTerm>,
+    arcs: &mut Arcs,
 ) -> bool
     requires bid { number < length summary.now.bids }
     requires tells { RoomTells (F.rows_of summary.now.family summary.now.net) summary.now.bids
-        summary.now.node number room.now graph.now groups.now arcs.old.items }
+        summary.now.node number room.now graph.now groups.now arcs.old }
     ensures told { AreToldAnew summary.now.net (F.rows_of summary.now.family summary.now.net)
-        summary.now.bids summary.now.node number graph.now arcs.old.items arcs.new.items }
-    ensures same { result ≡ false → arcs.new.items ≡ arcs.old.items }
+        summary.now.bids summary.now.node number graph.now arcs.old arcs.new }
+    ensures same { result ≡ false → arcs.new ≡ arcs.old }
 {
     let has_own = !summary.own(number).is_empty();
     let mut last = Told {
@@ -87,10 +90,9 @@ fn allow_arcs<F: RowFamily>(
     };
     let mut changed = false;
     for k in 0..graph.dag().arcs() {
-        let arc = &mut arcs[k as usize];
-        last = tell_group(room, groups, arc.group(), last);
+        last = tell_group(room, groups, arcs.slice().group(k as usize), last);
         let allowed = let_arc(summary, number, graph, k, has_own, last.has_room);
-        let other = set_allowed(arc, allowed);
+        let other = set_allowed(arcs, k, allowed);
         changed = either(changed, other);
     }
     changed
@@ -116,7 +118,7 @@ fn allow_table<F: RowFamily>(
 ) -> bool
     requires bid { number < length summary.now.bids }
     requires tells { RoomTells (F.rows_of summary.now.family summary.now.net) summary.now.bids
-        summary.now.node number room.now table.old.graph.now groups.now table.old.arcs.items }
+        summary.now.node number room.now table.old.graph.now groups.now table.old.arcs }
     ensures anew { IsTableAnew summary.now.net (F.rows_of summary.now.family summary.now.net)
         summary.now.bids summary.now.node number table.old table.new }
     ensures brought { IsBrought result table.old table.new }
@@ -129,7 +131,7 @@ fn allow_table<F: RowFamily>(
 /// Rows by number, and the groups that touch them.
 #[derive(Drop)]
 pub(crate) struct Grouping<'a, R: Copy + Ord> {
-    pub(crate) numbering: &'a Numbering<R>,
+    pub(crate) numbering: &'a RowNumbers<R>,
     pub(crate) groups: &'a Groups,
 }
 

@@ -4,7 +4,8 @@ use crate::columns::Columns;
 use crate::decided::Decided;
 use crate::index::Index;
 use crate::levels::Levels;
-use crate::numbering::{BidTable, Numbering, Standing};
+use crate::numbering::{BidTable, Standing};
+use crate::row_numbers::RowNumbers;
 use optra_dag::Buffers;
 
 /// Rows by number, and for each bid what its arcs add and which rows they touch. They are made once for a plan, and serve
@@ -12,7 +13,7 @@ use optra_dag::Buffers;
 /// at the prices to which the last one came.
 #[derive(Drop)]
 pub struct ArcTables<'g, R: Copy + Ord> {
-    pub(crate) numbering: Numbering<R>,
+    pub(crate) numbering: RowNumbers<R>,
     /// The prices of rows, by number.
     pub(crate) levels: Levels,
     /// The prices of groups of touches.

@@ -8,9 +8,9 @@ ghost use Rattle.optra_prices.specs.Rooms.{IsClaimWithin};
 ghost use Rattle.optra_prices.specs.Tables.{IsNumbering, number_in};
 ghost use Rattle.optra_prices.specs.Uses.{AddsUses, TakesUses};
 
-use crate::numbering::{Numbering, Touch};
-use crate::ranking::number_of;
+use crate::numbering::Touch;
 use crate::rooms::{Room, add_touches, are_touches_within, take_touches};
+use crate::row_numbers::{RowNumbers, number_of};
 use optra_network::{Network, NoMemory, TrackId, TypeId};
 use optra_node::Decision;
 use optra_walk::{Instance, Leg, RowFamily};
@@ -55,7 +55,7 @@ fn no_claim(alloc: Global) -> Claim
 /// Adds uses of a row to a claim.
 fn claim_row<F: RowFamily>(
     claim: &mut Claim,
-    numbering: &Numbering<F::Row>,
+    numbering: &RowNumbers<F::Row>,
     row: F::Row,
     uses: u32,
 ) -> Result<(), NoMemory>
@@ -75,7 +75,7 @@ fn claim_of_leg<F: RowFamily>(
     alloc: Global,
     net: &Network,
     rows: &F,
-    numbering: &Numbering<F::Row>,
+    numbering: &RowNumbers<F::Row>,
     kind: TypeId,
     leg: Leg,
 ) -> Result<Claim, NoMemory>
@@ -100,7 +100,7 @@ fn claim_of<F: RowFamily>(
     alloc: Global,
     inst: Instance<'_>,
     rows: &F,
-    numbering: &Numbering<F::Row>,
+    numbering: &RowNumbers<F::Row>,
     decision: Decision,
 ) -> Result<Claim, NoMemory>
     requires decision { IsFormedDecision inst.net.now (length inst.bids.now) decision }
@@ -120,7 +120,7 @@ pub(crate) fn claims_of<F: RowFamily>(
     alloc: Global,
     inst: Instance<'_>,
     rows: &F,
-    numbering: &Numbering<F::Row>,
+    numbering: &RowNumbers<F::Row>,
     decisions: &[Decision],
 ) -> Result<Vec<Claim>, NoMemory>
     requires decisions { All (IsFormedDecision inst.net.now (length inst.bids.now)) decisions.now }
@@ -137,9 +137,9 @@ pub(crate) fn claims_of<F: RowFamily>(
 
 /// Adds what is claimed.
 pub(crate) fn add_claims(room: &mut Room, claims: &[Claim]) -> Result<(), NoMemory>
-    ensures uses { OnOk result (AddsUses (claim_uses claims.now) room.old.uses.items
-        room.new.uses.items) }
-    ensures capacities { OnOk result (room.new.capacities ≡ room.old.capacities) }
+    ensures uses { OnOk result (AddsUses (claim_uses claims.now) room.old.loads.uses
+        room.new.loads.uses) }
+    ensures capacities { OnOk result (room.new.loads.capacities ≡ room.old.loads.capacities) }
 {
     for claim in claims {
         add_touches(room, &claim.touches)?;
@@ -149,8 +149,8 @@ pub(crate) fn add_claims(room: &mut Room, claims: &[Claim]) -> Result<(), NoMemo
 
 /// Takes away what is claimed.
 pub(crate) fn take_claims(room: &mut Room, claims: &[Claim])
-    ensures uses { TakesUses (claim_uses claims.now) room.old.uses.items room.new.uses.items }
-    ensures capacities { room.new.capacities ≡ room.old.capacities }
+    ensures uses { TakesUses (claim_uses claims.now) room.old.loads.uses room.new.loads.uses }
+    ensures capacities { room.new.loads.capacities ≡ room.old.loads.capacities }
 {
     for claim in claims {
         take_touches(room, &claim.touches);
@@ -172,9 +172,9 @@ pub(crate) fn add_placed(
     places: &[usize],
 ) -> Result<(), NoMemory>
     requires { All (λ place. place < length claims.now) places.now }
-    ensures uses { OnOk result (AddsUses (placed_uses claims.now places.now) room.old.uses.items
-        room.new.uses.items) }
-    ensures capacities { OnOk result (room.new.capacities ≡ room.old.capacities) }
+    ensures uses { OnOk result (AddsUses (placed_uses claims.now places.now) room.old.loads.uses
+        room.new.loads.uses) }
+    ensures capacities { OnOk result (room.new.loads.capacities ≡ room.old.loads.capacities) }
 {
     for place in places {
         add_touches(room, touches_at(claims, *place))?;
@@ -185,9 +185,9 @@ pub(crate) fn add_placed(
 /// Takes away what the claims at places use.
 pub(crate) fn take_placed(room: &mut Room, claims: &[Claim], places: &[usize])
     requires { All (λ place. place < length claims.now) places.now }
-    ensures uses { TakesUses (placed_uses claims.now places.now) room.old.uses.items
-        room.new.uses.items }
-    ensures capacities { room.new.capacities ≡ room.old.capacities }
+    ensures uses { TakesUses (placed_uses claims.now places.now) room.old.loads.uses
+        room.new.loads.uses }
+    ensures capacities { room.new.loads.capacities ≡ room.old.loads.capacities }
 {
     for place in places {
         take_touches(room, touches_at(claims, *place));

@@ -4,11 +4,12 @@
 //! its price has moved since they were searched last.
 ghost use Rattle.std.specs.Prelude.{◌≡◌, ◌⊎◌, ◌<◌, ℕ, [], All, Contains, IfOk, OnOk, length, slice_set};
 ghost use Rattle.optra_prices.specs.Columns.{IsColumns, AreListed, KeepsMarks, MarksGroups, MarksRow, MarkTells, MarksTell, AreStill, PricesAllButDue, Reprices, mark_at};
+ghost use Rattle.optra_prices.specs.Indexes.{IsIndex, items_at};
 ghost use Rattle.optra_prices.specs.declared.columns.Mark.TheVariants.{Still, Due};
 ghost use Rattle.optra_prices.specs.Tables.{AreGroups, AreGroupPrices, IsRowPrice};
 
 use crate::grouping::price_at;
-use crate::index::{Index, items_of};
+use crate::index::{Index, end_of, start_of};
 use crate::numbering::Groups;
 use crate::users::find_users;
 use optra_network::NoMemory;
@@ -88,18 +89,21 @@ fn mark_group(marks: &mut Vec<Mark>, due: &mut Vec<usize>, g: usize) -> Result<(
     Ok(())
 }
 
-/// Makes groups due.
+/// Makes the groups that the index has for a row due.
 fn mark_groups(
     marks: &mut Vec<Mark>,
     due: &mut Vec<usize>,
-    groups: &[usize],
+    users: &Index,
+    row: usize,
 ) -> Result<(), NoMemory>
+    requires users { IsIndex users.now }
     requires listed { AreListed marks.old.items due.old.items }
     ensures listed { OnOk result (AreListed marks.new.items due.new.items) }
-    ensures marks { OnOk result (MarksGroups groups.now marks.old.items marks.new.items) }
+    ensures marks { OnOk result (MarksGroups (items_at users.now row) marks.old.items
+        marks.new.items) }
 {
-    for g in groups {
-        mark_group(marks, due, *g)?;
+    for place in start_of(users, row)..end_of(users, row) {
+        mark_group(marks, due, users.items.at(place))?;
     }
     Ok(())
 }
@@ -110,11 +114,7 @@ pub(crate) fn mark_row(columns: &mut Columns, row: usize) -> Result<(), NoMemory
     ensures columns { OnOk result (IsColumns columns.old.groups columns.new) }
     ensures row { OnOk result (MarksRow row columns.old columns.new) }
 {
-    mark_groups(
-        &mut columns.marks,
-        &mut columns.due,
-        items_of(&columns.users, row),
-    )?;
+    mark_groups(&mut columns.marks, &mut columns.due, &columns.users, row)?;
     Ok(())
 }
 

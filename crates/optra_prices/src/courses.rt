@@ -42,13 +42,13 @@ pub(crate) fn admit<F: RowFamily>(
     ensures numbered { OnOk result (AreNumbered kept.new entries.now) }
 {
     let _ = node;
-    let before = kept.numbering.rows.len();
+    let before = kept.numbering.count();
     number_more(inst.net, rows, &mut kept.numbering, entries)?;
-    if kept.numbering.rows.len() == before {
+    if kept.numbering.count() == before {
         return Ok(());
     }
     forget_paths(&mut kept.levels, &mut kept.counted);
-    widen(&mut kept.levels, inst.net, rows, &kept.numbering.rows)?;
+    widen(&mut kept.levels, inst.net, rows, kept.numbering.rows())?;
     tell_anew(alloc, &mut kept.decided, inst, rows, &kept.numbering)?;
     Ok(())
 }
@@ -231,7 +231,7 @@ pub(crate) fn priced_at<F: RowFamily>(
 {
     let _ = node;
     let _ = rows;
-    let entries = list_prices(alloc, &kept.numbering.order, &kept.levels.prices)?;
+    let entries = list_prices::<F>(alloc, &kept.numbering, &kept.levels)?;
     let dual = assemble(alloc, kept.levels.capacity, &kept.tables, &kept.standings)?;
     Ok(Priced {
         prices: Prices { entries },

@@ -8,8 +8,8 @@ ghost use Rattle.optra_prices.specs.Tables.{IsNumbering};
 ghost use Rattle.optra_prices.specs.Rooms.{IsDecided};
 
 use crate::claims::{Claim, add_claims, claims_of, take_claims};
-use crate::numbering::Numbering;
 use crate::rooms::{Room, empty_room};
+use crate::row_numbers::RowNumbers;
 use optra_network::NoMemory;
 use optra_node::{Decision, Node};
 use optra_walk::{Instance, RowFamily};
@@ -57,7 +57,7 @@ pub(crate) fn move_room<F: RowFamily>(
     decided: &mut Decided,
     inst: Instance<'_>,
     rows: &F,
-    numbering: &Numbering<F::Row>,
+    numbering: &RowNumbers<F::Row>,
     node: &Node,
     count: usize,
     claims: Vec<Claim>,
@@ -94,7 +94,7 @@ pub(crate) fn tell_anew<F: RowFamily>(
     decided: &mut Decided,
     inst: Instance<'_>,
     rows: &F,
-    numbering: &Numbering<F::Row>,
+    numbering: &RowNumbers<F::Row>,
 ) -> Result<(), NoMemory>
     requires decisions { All (IsFormedDecision inst.net.now (length inst.bids.now))
         decided.old.decisions.items }

@@ -2,11 +2,11 @@
 ghost use Rattle.std.specs.Prelude.{◌≡◌, ◌<◌, ◌≤◌, ℕ, true, false, IfOk, OnOk, length, replicate, slice_index, slice_set};
 ghost use Rattle.optra_prices.specs.Columns.{IsColumns, mark_at};
 ghost use Rattle.optra_prices.specs.Holders.{AreHolders, HoldsGroup, HoldsArcs, TellsHolders, TellsGroup, TellsFallen};
-ghost use Rattle.optra_prices.specs.Indexes.{IsIndex};
+ghost use Rattle.optra_prices.specs.Indexes.{IsIndex, closed};
 
-use crate::arc_term::ArcTerm;
+use crate::arc_slice::ArcSlice;
 use crate::columns::{Columns, Mark, mark_at};
-use crate::index::{Index, inverted, items_of};
+use crate::index::{Index, OpenIndex, close, end_of, inverted, start_of};
 use crate::numbering::BidTable;
 use optra_network::NoMemory;
 use std::alloc::Global;
@@ -44,19 +44,19 @@ fn hold_group(held: &mut Held, group: usize, bid: u32) -> Result<(), NoMemory>
 }
 
 /// Adds the groups of arcs to those of the bid with this number, from 1.
-fn hold_arcs(held: &mut Held, bid: u32, arcs: &[ArcTerm]) -> Result<(), NoMemory>
+fn hold_arcs(held: &mut Held, bid: u32, arcs: &ArcSlice<'_>) -> Result<(), NoMemory>
     ensures { OnOk result (HoldsArcs bid arcs.now held.old held.new) }
 {
-    for arc in arcs {
-        hold_group(held, arc.group(), bid)?;
+    for k in 0..arcs.len() {
+        hold_group(held, arcs.group(k), bid)?;
     }
     Ok(())
 }
 
-/// The bids that have each group on an arc.
-pub(crate) fn find_holders(alloc: Global, tables: &[BidTable<'_>]) -> Result<Index, NoMemory>
+/// The bids that have each group on an arc, in an index that is yet open.
+fn list_holders(alloc: Global, tables: &[BidTable<'_>]) -> Result<OpenIndex, NoMemory>
     requires few { length tables.now ≤ 1000 }
-    ensures { IfOk result (AreHolders tables.now) }
+    ensures { IfOk result (λ holders. AreHolders tables.now (closed holders)) }
 {
     let mut held = Held {
         groups: Vec::new(alloc),
@@ -65,10 +65,19 @@ pub(crate) fn find_holders(alloc: Global, tables: &[BidTable<'_>]) -> Result<Ind
     let mut starts = Vec::with_capacity(alloc, tables.len() + 1)?;
     starts.push(0)?;
     for number in 0..tables.len() {
-        hold_arcs(&mut held, number as u32 + 1, &tables[number].arcs)?;
+        hold_arcs(&mut held, number as u32 + 1, &tables[number].arcs.slice())?;
         starts.push(held.groups.len())?;
     }
     inverted(alloc, &starts, &held.groups)
+}
+
+/// The bids that have each group on an arc.
+pub(crate) fn find_holders(alloc: Global, tables: &[BidTable<'_>]) -> Result<Index, NoMemory>
+    requires few { length tables.now ≤ 1000 }
+    ensures { IfOk result (AreHolders tables.now) }
+{
+    let holders = list_holders(alloc, tables)?;
+    close(alloc, holders)
 }
 
 /// Tells a bid.
@@ -85,8 +94,8 @@ pub(crate) fn tell_holders(holders: &Index, g: usize, fallen: &mut Vec<bool>)
     requires { IsIndex holders.now }
     ensures { TellsHolders holders.now g fallen.old.items fallen.new.items }
 {
-    for bid in items_of(holders, g) {
-        tell_bid(fallen, *bid);
+    for place in start_of(holders, g)..end_of(holders, g) {
+        tell_bid(fallen, holders.items.at(place));
     }
 }
 

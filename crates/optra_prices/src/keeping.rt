@@ -79,7 +79,7 @@ pub fn keep_arcs<'g, F: RowFamily, G: Graphs>(
         &mut tables,
     )?;
     let mut levels = no_levels(alloc);
-    widen(&mut levels, inst.net, rows, &numbering.rows)?;
+    widen(&mut levels, inst.net, rows, numbering.rows())?;
     let columns = new_columns(alloc, groups)?;
     let holders = find_holders(alloc, &tables)?;
     let mut buffers = Buffers::new(alloc);

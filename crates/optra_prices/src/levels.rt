@@ -10,7 +10,7 @@ ghost use Rattle.optra_prices.specs.Tables.{IsRowPrice};
 ghost use Rattle.optra_prices.specs.Uses.{AddsUses, TakesUses, touch_use};
 
 use crate::columns::{Columns, mark_row};
-use crate::counts::Counts;
+use crate::loads::Loads;
 use crate::next_prices::next_price;
 use crate::numbering::Touch;
 use optra_network::NoMemory;
@@ -19,10 +19,9 @@ use std::alloc::Global;
 /// The prices, uses and capacities of rows, by number.
 #[derive(Drop)]
 pub(crate) struct Levels {
-    pub(crate) capacities: Vec<u32>,
     pub(crate) prices: Vec<i64>,
-    /// How much of rows the paths use that were counted last.
-    pub(crate) uses: Counts,
+    /// How much of rows the paths use that were counted last, beside the capacities of rows.
+    pub(crate) loads: Loads,
     /// The rows with a price or with more uses than capacity, and maybe others; none twice.
     pub(crate) active: Vec<usize>,
     /// Whether a row is active.
@@ -56,12 +55,11 @@ fn capacity_after(total: i128, old: i64, new: i64, capacity: u32) -> i128
 pub(crate) fn no_levels(alloc: Global) -> Levels
     ensures levels { IsLevels result }
     ensures unused { AreUnused result }
-    ensures none { (result.prices.items ≡ []) × (result.capacities.items ≡ []) }
+    ensures none { (result.prices.items ≡ []) × (result.loads.capacities ≡ []) }
 {
     Levels {
-        capacities: Vec::new(alloc),
         prices: Vec::new(alloc),
-        uses: Counts::new(alloc),
+        loads: Loads::new(alloc),
         active: Vec::new(alloc),
         listed: Vec::new(alloc),
         capacity: 0,
@@ -75,12 +73,11 @@ pub(crate) fn reserve_levels(levels: &mut Levels, count: usize) -> Result<(), No
     ensures levels { OnOk result (IsLevels levels.new) }
     ensures unused { OnOk result (AreUnused levels.new) }
     ensures prices { OnOk result (levels.new.prices.items ≡ levels.old.prices.items) }
-    ensures capacities { OnOk result (levels.new.capacities.items ≡ levels.old.capacities.items) }
+    ensures capacities { OnOk result (levels.new.loads.capacities ≡ levels.old.loads.capacities) }
 {
     let more = count.saturating_sub(levels.prices.len());
-    levels.capacities.reserve_exact(more)?;
     levels.prices.reserve_exact(more)?;
-    levels.uses.reserve_exact(more)?;
+    levels.loads.reserve_exact(more)?;
     levels.listed.reserve_exact(more)
 }
 
@@ -92,12 +89,11 @@ pub(crate) fn push_level(levels: &mut Levels, capacity: u32) -> Result<(), NoMem
     ensures levels { OnOk result (IsLevels levels.new) }
     ensures unused { OnOk result (AreUnused levels.new) }
     ensures prices { OnOk result (levels.new.prices.items ≡ levels.old.prices.items ++ pos 0 ∷ []) }
-    ensures capacities { OnOk result (levels.new.capacities.items ≡ levels.old.capacities.items
+    ensures capacities { OnOk result (levels.new.loads.capacities ≡ levels.old.loads.capacities
         ++ capacity ∷ []) }
 {
-    levels.capacities.push(capacity)?;
     levels.prices.push(0)?;
-    levels.uses.push_zero()?;
+    levels.loads.push(capacity)?;
     levels.listed.push(false)?;
     Ok(())
 }
@@ -125,7 +121,7 @@ fn wake_above(levels: &mut Levels, number: usize, more: u32) -> Result<(), NoMem
     ensures wakes { OnOk result (WakesAbove number (use_of levels.old number + more) levels.old
         levels.new) }
 {
-    if !levels.uses.fits(number, more, levels.capacities[number]) {
+    if !levels.loads.fits(number, more) {
         wake(levels, number)?;
     }
     Ok(())
@@ -159,7 +155,7 @@ pub(crate) fn set_price(
     }
     wake(levels, number)?;
     mark_row(columns, number)?;
-    levels.capacity = capacity_after(levels.capacity, old, price, levels.capacities[number]);
+    levels.capacity = capacity_after(levels.capacity, old, price, levels.loads.capacity(number));
     levels.prices[number] = price;
     Ok(())
 }
@@ -173,7 +169,7 @@ fn rest_row(levels: &mut Levels, k: usize) -> usize
     ensures rests { Rests k result levels.old levels.new }
 {
     let place = levels.active[k];
-    if levels.prices[place] != 0 || !levels.uses.is_at_most(place, levels.capacities[place]) {
+    if levels.prices[place] != 0 || !levels.loads.is_within(place) {
         return k + 1;
     }
     levels.listed[place] = false;
@@ -216,8 +212,8 @@ fn next_price_at(levels: &Levels, number: usize, by: i64) -> i64
     next_price(
         by,
         levels.prices[number],
-        levels.uses.capped(number),
-        levels.capacities[number],
+        levels.loads.used(number),
+        levels.loads.capacity(number),
     )
 }
 
@@ -306,26 +302,26 @@ pub(crate) fn set_prices(
 pub(crate) fn add_touch(levels: &mut Levels, touch: Touch) -> Result<(), NoMemory>
     requires { IsLevels levels.old }
     ensures levels { OnOk result (IsLevels levels.new) }
-    ensures uses { OnOk result (AddsUses (touch_use touch) levels.old.uses.items
-        levels.new.uses.items) }
+    ensures uses { OnOk result (AddsUses (touch_use touch) levels.old.loads.uses
+        levels.new.loads.uses) }
     ensures prices { OnOk result (KeepsPrices levels.old levels.new) }
 {
     let place = touch.row;
-    if place >= levels.uses.len() {
+    if place >= levels.loads.len() {
         return Ok(());
     }
     wake_above(levels, touch.row, touch.uses)?;
-    levels.uses.add(place, touch.uses)
+    levels.loads.add(place, touch.uses)
 }
 
 /// Takes away what a touch uses.
 pub(crate) fn take_touch(levels: &mut Levels, touch: Touch)
     requires { IsLevels levels.old }
     ensures levels { IsLevels levels.new }
-    ensures uses { TakesUses (touch_use touch) levels.old.uses.items levels.new.uses.items }
+    ensures uses { TakesUses (touch_use touch) levels.old.loads.uses levels.new.loads.uses }
     ensures prices { KeepsPrices levels.old levels.new }
 {
-    levels.uses.take(touch.row, touch.uses);
+    levels.loads.take(touch.row, touch.uses);
 }
 
 /// Forgets all uses.
@@ -335,5 +331,5 @@ pub(crate) fn forget_uses(levels: &mut Levels)
     ensures unused { AreUnused levels.new }
     ensures prices { KeepsPrices levels.old levels.new }
 {
-    levels.uses.set_zero();
+    levels.loads.clear();
 }

@@ -1,14 +1,13 @@
-//! Rows with numbers in ascending order, and their prices and capacities.
-ghost use Rattle.std.specs.Prelude.{◌≡◌, ◌≤◌, true, All, Contains, IfOk, OnOk, length, map, take, slice_index_or, pos};
+//! The prices and capacities of rows that have numbers.
+ghost use Rattle.std.specs.Prelude.{◌≡◌, ◌≤◌, true, All, Contains, IfOk, OnOk, length, map, take};
 ghost use Rattle.optra_node.specs.Duals.{ArePrices};
 ghost use Rattle.optra_prices.specs.Courses.{listed, HaveCapacities};
 ghost use Rattle.optra_prices.specs.Levels.{IsLevels, AreUnused};
-ghost use Rattle.optra_prices.specs.Listings.{AddsZeros};
-ghost use Rattle.optra_prices.specs.Tables.{IsNumbering, Extends, IsRowPrice};
+ghost use Rattle.optra_prices.specs.Listings.{AddsZeros, rows_at};
+ghost use Rattle.optra_prices.specs.Tables.{IsNumbering, Extends};
 
 use crate::levels::{Levels, push_level, reserve_levels};
-use crate::numbering::Numbering;
-use crate::ranking::number;
+use crate::row_numbers::{RowNumbers, number};
 use crate::stepping::push_price;
 use optra_network::{Network, NoMemory};
 use optra_walk::RowFamily;
@@ -18,7 +17,7 @@ use std::alloc::Global;
 pub(crate) fn number_more<F: RowFamily>(
     net: &Network,
     rows: &F,
-    numbering: &mut Numbering<F::Row>,
+    numbering: &mut RowNumbers<F::Row>,
     entries: &[(F::Row, i64)],
 ) -> Result<(), NoMemory>
     requires prices { ArePrices (F.rows_of rows.now net.now) entries.now }
@@ -40,24 +39,6 @@ pub(crate) fn number_more<F: RowFamily>(
     Ok(())
 }
 
-/// The capacities of rows.
-pub(crate) fn capacities_of<F: RowFamily>(
-    alloc: Global,
-    net: &Network,
-    rows: &F,
-    numbered: &[F::Row],
-) -> Result<Vec<u32>, NoMemory>
-    requires { All (λ row. (F.rows_of rows.now net.now).is_row row ≡ true) numbered.now }
-    ensures { IfOk result (λ capacities. capacities.items
-        ≡ map (F.rows_of rows.now net.now).capacity numbered.now) }
-{
-    let mut capacities = Vec::with_capacity(alloc, numbered.len())?;
-    for row in numbered {
-        capacities.push(rows.cap(net, *row))?;
-    }
-    Ok(capacities)
-}
-
 /// Makes room for all rows that have numbers, at no price and with no use.
 pub(crate) fn widen<F: RowFamily>(
     levels: &mut Levels,
@@ -70,11 +51,11 @@ pub(crate) fn widen<F: RowFamily>(
     requires rows { All (λ row. (F.rows_of rows.now net.now).is_row row ≡ true) numbered.now }
     requires few { length levels.old.prices.items ≤ length numbered.now }
     requires capacities { HaveCapacities (F.rows_of rows.now net.now)
-        (take (length levels.old.prices.items) numbered.now) levels.old.capacities.items }
+        (take (length levels.old.prices.items) numbered.now) levels.old.loads.capacities }
     ensures levels { OnOk result (IsLevels levels.new) }
     ensures unused { OnOk result (AreUnused levels.new) }
     ensures capacities { OnOk result (HaveCapacities (F.rows_of rows.now net.now) numbered.now
-        levels.new.capacities.items) }
+        levels.new.loads.capacities) }
     ensures prices { OnOk result (AddsZeros levels.old.prices.items levels.new.prices.items) }
     ensures count { OnOk result (length levels.new.prices.items ≡ length numbered.now) }
 {
@@ -86,27 +67,38 @@ pub(crate) fn widen<F: RowFamily>(
     Ok(())
 }
 
-/// The price of the row with this number.
-fn price_by(prices: &[i64], number: usize) -> i64
-    requires { All IsRowPrice prices.now }
-    ensures value { result ≡ slice_index_or prices.now number (pos 0) }
-    ensures range { IsRowPrice result }
+/// The prices of active rows that are above zero.
+fn active_prices<R: Copy>(
+    alloc: Global,
+    numbered: &[R],
+    levels: &Levels,
+) -> Result<Vec<(R, i64)>, NoMemory>
+    requires levels { IsLevels levels.now }
+    requires count { length levels.now.prices.items ≡ length numbered.now }
+    ensures { IfOk result (λ entries. entries.items ≡ listed (rows_at numbered.now
+        levels.now.active.items) levels.now.prices.items) }
 {
-    prices.get(number).copied().unwrap_or(0)
+    let mut entries = Vec::new(alloc);
+    for k in 0..levels.active.len() {
+        let number = levels.active[k];
+        push_price(&mut entries, numbered[number], levels.prices[number])?;
+    }
+    Ok(entries)
 }
 
 /// The list of prices above zero.
-pub(crate) fn list_prices<R: Copy>(
+pub(crate) fn list_prices<F: RowFamily>(
     alloc: Global,
-    order: &[(R, usize)],
-    prices: &[i64],
-) -> Result<Vec<(R, i64)>, NoMemory>
-    requires { All IsRowPrice prices.now }
-    ensures { IfOk result (λ entries. entries.items ≡ listed order.now prices.now) }
+    numbering: &RowNumbers<F::Row>,
+    levels: &Levels,
+) -> Result<Vec<(F::Row, i64)>, NoMemory>
+    requires numbering { IsNumbering F.Row.cmp numbering.now.order.items numbering.now.rows.items }
+    requires levels { IsLevels levels.now }
+    requires count { length levels.now.prices.items ≡ length numbering.now.rows.items }
+    ensures { IfOk result (λ entries. entries.items ≡ listed numbering.now.order.items
+        levels.now.prices.items) }
 {
-    let mut entries = Vec::new(alloc);
-    for entry in order {
-        push_price(&mut entries, entry.0, price_by(prices, entry.1))?;
-    }
+    let mut entries = active_prices(alloc, numbering.rows(), levels)?;
+    entries.sort_by_key(|entry| entry.0)?;
     Ok(entries)
 }

@@ -24,8 +24,8 @@ pub(crate) fn arc_touches<'a>(groups: &'a Groups, table: &BidTable<'_>, k: u32) 
 fn add_group(levels: &mut Levels, touches: &[Touch]) -> Result<(), NoMemory>
     requires { IsLevels levels.old }
     ensures levels { OnOk result (IsLevels levels.new) }
-    ensures uses { OnOk result (AddsUses (touch_uses touches.now) levels.old.uses.items
-        levels.new.uses.items) }
+    ensures uses { OnOk result (AddsUses (touch_uses touches.now) levels.old.loads.uses
+        levels.new.loads.uses) }
     ensures prices { OnOk result (KeepsPrices levels.old levels.new) }
 {
     for touch in touches {
@@ -38,7 +38,7 @@ fn add_group(levels: &mut Levels, touches: &[Touch]) -> Result<(), NoMemory>
 fn take_group(levels: &mut Levels, touches: &[Touch])
     requires { IsLevels levels.old }
     ensures levels { IsLevels levels.new }
-    ensures uses { TakesUses (touch_uses touches.now) levels.old.uses.items levels.new.uses.items }
+    ensures uses { TakesUses (touch_uses touches.now) levels.old.loads.uses levels.new.loads.uses }
     ensures prices { KeepsPrices levels.old levels.new }
 {
     for touch in touches {
@@ -57,7 +57,7 @@ fn add_path(
     requires groups { HasGroups groups.now table.now }
     ensures levels { OnOk result (IsLevels levels.new) }
     ensures uses { OnOk result (AddsUses (path_uses groups.now table.now path.now)
-        levels.old.uses.items levels.new.uses.items) }
+        levels.old.loads.uses levels.new.loads.uses) }
     ensures prices { OnOk result (KeepsPrices levels.old levels.new) }
 {
     for k in path {
@@ -71,8 +71,8 @@ fn take_path(levels: &mut Levels, groups: &Groups, table: &BidTable<'_>, path: &
     requires levels { IsLevels levels.old }
     requires groups { HasGroups groups.now table.now }
     ensures levels { IsLevels levels.new }
-    ensures uses { TakesUses (path_uses groups.now table.now path.now) levels.old.uses.items
-        levels.new.uses.items }
+    ensures uses { TakesUses (path_uses groups.now table.now path.now) levels.old.loads.uses
+        levels.new.loads.uses }
     ensures prices { KeepsPrices levels.old levels.new }
 {
     for k in path {
@@ -107,7 +107,7 @@ fn count_path(
     ensures levels { OnOk result (IsLevels levels.new) }
     ensures path { OnOk result (counted.new.items ≡ path.now) }
     ensures uses { OnOk result (CountsPath groups.now table.now counted.old.items path.now
-        levels.old.uses.items levels.new.uses.items) }
+        levels.old.loads.uses levels.new.loads.uses) }
     ensures prices { OnOk result (KeepsPrices levels.old levels.new) }
 {
     let same = same_start(counted, path);
@@ -129,11 +129,11 @@ pub(crate) fn count_uses(
     requires levels { IsLevels levels.old }
     requires groups { All (HasGroups groups.now) tables.now }
     requires counted { AreCounted groups.now tables.now (paths_in counted.old.items)
-        levels.old.uses.items }
+        levels.old.loads.uses }
     requires standings { length standings.now ≡ length tables.now }
     ensures levels { OnOk result (IsLevels levels.new) }
     ensures counted { OnOk result (AreCounted groups.now tables.now (paths_in counted.new.items)
-        levels.new.uses.items) }
+        levels.new.loads.uses) }
     ensures paths { OnOk result (paths_in counted.new.items ≡ paths_of standings.now) }
     ensures prices { OnOk result (KeepsPrices levels.old levels.new) }
 {

@@ -2,14 +2,16 @@
 //!
 //! A leg takes the group of one that entered before, where the family sees at once that both use alike; else it makes a
 //! new one. Where such a leg may be found is only guessed: nothing rests on a guess, since it is tried before it is taken.
+//! So are the rows of a new group guessed by those of a leg that departs a minute earlier, so that few are named twice.
 ghost use Rattle.std.specs.Prelude.{◌≡◌, ◌<◌, true, All, IfSome, IfOk, OnOk};
 ghost use Rattle.optra_walk.specs.Families.{IsUsable};
 ghost use Rattle.optra_prices.specs.Tables.{AreGroups};
 ghost use Rattle.optra_prices.specs.Makings.{IsHead, IsGroupOf, IsMaking, Grows, FindsGroup, IsNumbered};
 
 use crate::grouping::empty_groups;
-use crate::numbering::{Groups, Numbering};
+use crate::numbering::Groups;
 use crate::ranking::number_rows;
+use crate::row_numbers::RowNumbers;
 use crate::touching::push_touches;
 use optra_network::{Network, NoMemory, TypeId};
 use optra_walk::{Action, Leg, RowFamily};
@@ -51,7 +53,7 @@ pub(crate) struct Making<R: Copy + Ord> {
 /// Rows by number, and groups of touches that name rows by number.
 #[derive(Drop)]
 pub(crate) struct Numbered<R: Copy + Ord> {
-    pub(crate) numbering: Numbering<R>,
+    pub(crate) numbering: RowNumbers<R>,
     pub(crate) groups: Groups,
 }
 
@@ -135,6 +137,7 @@ fn new_group<F: RowFamily>(
     rows: &F,
     named: &mut Vec<F::Row>,
     groups: &mut Groups,
+    like: usize,
     kind: TypeId,
     leg: Leg,
 ) -> Result<usize, NoMemory>
@@ -145,7 +148,7 @@ fn new_group<F: RowFamily>(
         kind leg named.old.items named.new.items groups.old groups.new) }
 {
     let number = groups.starts.len() - 1;
-    push_touches(net, rows, named, &mut groups.touches, kind, leg)?;
+    push_touches(net, rows, named, &mut groups.touches, like, kind, leg)?;
     groups.starts.push(groups.touches.len())?;
     Ok(number)
 }
@@ -179,6 +182,25 @@ fn guessed_group<F: RowFamily>(
     let group = head_group(net, rows, making, guess, kind, leg)?;
     making.last = guess;
     Some(group)
+}
+
+/// Where the touches of a group begin.
+fn start_of(groups: &Groups, group: usize) -> usize {
+    groups.starts.get(group).copied().unwrap_or(0)
+}
+
+/// Where the second touch is guessed to stand of such a leg that departs a minute earlier. What that one touches from its
+/// second minute on, this one mostly touches from its first.
+fn minute_later<R: Copy + Ord>(making: &Making<R>, kind: TypeId, leg: Leg) -> usize {
+    let earlier = Leg {
+        depart: leg.depart.saturating_sub(1),
+        ..leg
+    };
+    let guess = guess_at(&making.guesses, place_of(kind, earlier));
+    match making.heads.get(guess as usize) {
+        Some(head) => start_of(&making.groups, head.group).saturating_add(1),
+        None => 0,
+    }
 }
 
 /// Enters a leg with its new group, so that legs that use alike may find it.
@@ -231,7 +253,16 @@ pub(crate) fn leg_group<F: RowFamily>(
     if let Some(group) = guessed_group(net, rows, making, kind, leg) {
         return Ok(group);
     }
-    let group = new_group(net, rows, &mut making.named, &mut making.groups, kind, leg)?;
+    let like = minute_later(making, kind, leg);
+    let group = new_group(
+        net,
+        rows,
+        &mut making.named,
+        &mut making.groups,
+        like,
+        kind,
+        leg,
+    )?;
     enter(net, rows, making, Head { kind, leg, group })?;
     Ok(group)
 }

@@ -1,5 +1,5 @@
-//! Rows by number, and what the arcs of bids' graphs add and touch.
-use crate::arc_term::ArcTerm;
+//! What the arcs of bids' graphs add and touch.
+use crate::arcs::Arcs;
 use optra_graph::TimeGraph;
 
 /// A row by its number, and how much of it is used.
@@ -7,13 +7,6 @@ use optra_graph::TimeGraph;
 pub(crate) struct Touch {
     pub(crate) row: usize,
     pub(crate) uses: u32,
-}
-
-/// Rows by number, and the same rows ascending, each with its number.
-#[derive(Drop)]
-pub(crate) struct Numbering<R: Copy + Ord> {
-    pub(crate) order: Vec<(R, usize)>,
-    pub(crate) rows: Vec<R>,
 }
 
 /// Groups of touches: those of group `g` stand from `starts[g]` up to `starts[g + 1]`. All bids share them.
@@ -28,7 +21,7 @@ pub(crate) struct Groups {
 #[derive(Drop)]
 pub(crate) struct BidTable<'g> {
     pub(crate) graph: &'g TimeGraph,
-    pub(crate) arcs: Vec<ArcTerm>,
+    pub(crate) arcs: Arcs,
     pub(crate) most: i64,
     pub(crate) forced: bool,
 }

@@ -22,7 +22,7 @@ fn is_above(levels: &Levels, number: usize) -> bool
     requires within { number < length levels.now.prices.items }
     ensures { IsTrue result ↔ IsAbove levels.now number }
 {
-    !levels.uses.is_at_most(number, levels.capacities[number])
+    !levels.loads.is_within(number)
 }
 
 /// The rows of which more is used than their capacity.
@@ -70,5 +70,5 @@ pub fn overfull_rows<F: RowFamily>(
         &mut kept.counted,
         &kept.standings,
     )?;
-    rows_above(alloc, &kept.numbering.rows, &kept.levels)
+    rows_above(alloc, kept.numbering.rows(), &kept.levels)
 }

@@ -1,13 +1,13 @@
 //! What the arcs of a bid's table add to the value of a walk, and which of them may be taken beside what is placed.
-ghost use Rattle.std.specs.Prelude.{◌≡◌, ◌&&◌, ◌+◌, ◌<◌, ◌↔◌, ℕ, [], Some, All, IsTrue, IfOk, OnOk, length, slice_get};
+ghost use Rattle.std.specs.Prelude.{◌≡◌, ◌&&◌, ◌+◌, ◌<◌, ◌↔◌, ℕ, [], Some, All, IsTrue, IfOk, OnOk, length, slice_get, slice_index_or};
 ghost use Rattle.optra_bid.specs.declared.bids.Bid.{Bid};
 ghost use Rattle.optra_graph.specs.Timed.{Timed, IsGraphOf, IsRoute, walk_of};
 ghost use Rattle.optra_prices.specs.Keepings.{AreKept, AreKeptAt};
 ghost use Rattle.optra_prices.specs.Parts.{AreParts, ArePartsOf, IsTableGraph, IsRoomIn, HasRoom, KeepsWithin, IsPutIn};
-ghost use Rattle.optra_prices.specs.Tables.{AreGroups};
+ghost use Rattle.optra_prices.specs.Tables.{AreGroups, allows_by, no_arc};
 
+use crate::arc_slice::ArcSlice;
 use crate::arc_tables::ArcTables;
-use crate::arc_term::ArcTerm;
 use crate::numbering::{BidTable, Groups};
 use crate::putting::{add_arcs, are_arcs_within, has_room_for_each, take_arcs};
 use crate::rooms::{Room, Told, free_copy, tell_group};
@@ -25,13 +25,14 @@ pub struct ArcPart {
 }
 
 /// The part of an arc, with whether there is room for what it touches.
-fn part_of(arc: &ArcTerm, has_room: bool) -> ArcPart
-    ensures value { result.value ≡ arc.now.value }
-    ensures allowed { result.allowed ≡ (arc.now.allowed && has_room) }
+fn part_of(arcs: &ArcSlice<'_>, k: usize, has_room: bool) -> ArcPart
+    requires { k < length arcs.now }
+    ensures value { result.value ≡ (slice_index_or arcs.now k no_arc).value }
+    ensures allowed { result.allowed ≡ (allows_by arcs.now k && has_room) }
 {
     ArcPart {
-        value: arc.value(),
-        allowed: arc.allowed() && has_room,
+        value: arcs.value(k),
+        allowed: arcs.allowed(k) && has_room,
     }
 }
 
@@ -44,20 +45,20 @@ fn tell_table(
 ) -> Result<(), NoMemory>
     requires groups { AreGroups groups.now.starts.items groups.now.touches.items }
     requires within { All (λ arc. arc.group + 1 < length groups.now.starts.items)
-        table.now.arcs.items }
+        table.now.arcs }
     ensures { OnOk result (ArePartsOf room.now groups.now.starts.items groups.now.touches.items
-        table.now.arcs.items (length table.now.arcs.items) parts.new.items) }
+        table.now.arcs (length table.now.arcs) parts.new.items) }
 {
     parts.clear();
-    parts.reserve(table.arcs.len())?;
+    let arcs = table.arcs.slice();
+    parts.reserve(arcs.len())?;
     let mut last = Told {
         group: 0,
         has_room: true,
     };
-    for k in 0..table.arcs.len() {
-        let arc = &table.arcs[k];
-        last = tell_group(room, groups, arc.group(), last);
-        parts.push(part_of(arc, last.has_room))?;
+    for k in 0..arcs.len() {
+        last = tell_group(room, groups, arcs.group(k), last);
+        parts.push(part_of(&arcs, k, last.has_room))?;
     }
     Ok(())
 }

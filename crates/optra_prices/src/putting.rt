@@ -19,8 +19,8 @@ pub(crate) fn add_arcs(
 ) -> Result<(), NoMemory>
     requires { HasGroups groups.now table.now }
     ensures uses { OnOk result (AddsUses (path_uses groups.now table.now path.now)
-        room.old.uses.items room.new.uses.items) }
-    ensures capacities { OnOk result (room.new.capacities ≡ room.old.capacities) }
+        room.old.loads.uses room.new.loads.uses) }
+    ensures capacities { OnOk result (room.new.loads.capacities ≡ room.old.loads.capacities) }
 {
     for k in path {
         add_touches(room, arc_touches(groups, table, *k))?;
@@ -31,9 +31,9 @@ pub(crate) fn add_arcs(
 /// Takes away what the arcs of a path use.
 pub(crate) fn take_arcs(room: &mut Room, groups: &Groups, table: &BidTable<'_>, path: &[u32])
     requires { HasGroups groups.now table.now }
-    ensures uses { TakesUses (path_uses groups.now table.now path.now) room.old.uses.items
-        room.new.uses.items }
-    ensures capacities { room.new.capacities ≡ room.old.capacities }
+    ensures uses { TakesUses (path_uses groups.now table.now path.now) room.old.loads.uses
+        room.new.loads.uses }
+    ensures capacities { room.new.loads.capacities ≡ room.old.loads.capacities }
 {
     for k in path {
         take_touches(room, arc_touches(groups, table, *k));

@@ -1,13 +1,13 @@
 //! How much is used of rows by their numbers, and the room that is left.
-ghost use Rattle.std.specs.Prelude.{◌≡◌, ◌+◌, ◌<◌, ◌↔◌, IsTrue, true, All, IfOk, OnOk, length};
+ghost use Rattle.std.specs.Prelude.{◌≡◌, ◌+◌, ◌<◌, ◌↔◌, IsTrue, true, All, IfOk, OnOk, length, map, replicate};
 ghost use Rattle.optra_prices.specs.Tables.{AreGroups};
 ghost use Rattle.optra_prices.specs.Rooms.{IsRoom, HasRoomFor, HasRoomForAll, IsNumberWithin, IsTold, IsFreeCopy};
 ghost use Rattle.optra_prices.specs.Uses.{touch_use, touch_uses, AddsUses, TakesUses};
 
-use crate::counts::Counts;
 use crate::grouping::group;
-use crate::listing::capacities_of;
-use crate::numbering::{Groups, Numbering, Touch};
+use crate::loads::Loads;
+use crate::numbering::{Groups, Touch};
+use crate::row_numbers::RowNumbers;
 use optra_network::{Network, NoMemory};
 use optra_walk::RowFamily;
 use std::alloc::Global;
@@ -15,8 +15,27 @@ use std::alloc::Global;
 /// How much is used of rows, by their numbers, and how much there is of them.
 #[derive(Drop)]
 pub struct Room {
-    pub(crate) uses: Counts,
-    pub(crate) capacities: Vec<u32>,
+    pub(crate) loads: Loads,
+}
+
+/// Rows of which nothing is used, with their capacities.
+fn unused<F: RowFamily>(
+    alloc: Global,
+    net: &Network,
+    rows: &F,
+    numbered: &[F::Row],
+) -> Result<Loads, NoMemory>
+    requires { All (λ row. (F.rows_of rows.now net.now).is_row row ≡ true) numbered.now }
+    ensures uses { IfOk result (λ loads. loads.uses ≡ replicate (length numbered.now) 0) }
+    ensures capacities { IfOk result (λ loads. loads.capacities
+        ≡ map (F.rows_of rows.now net.now).capacity numbered.now) }
+{
+    let mut loads = Loads::new(alloc);
+    loads.reserve_exact(numbered.len())?;
+    for row in numbered {
+        loads.push(rows.cap(net, *row))?;
+    }
+    Ok(loads)
 }
 
 /// Nothing is used.
@@ -24,7 +43,7 @@ pub(crate) fn empty_room<F: RowFamily>(
     alloc: Global,
     net: &Network,
     rows: &F,
-    numbering: &Numbering<F::Row>,
+    numbering: &RowNumbers<F::Row>,
 ) -> Result<Room, NoMemory>
     requires { All (λ row. (F.rows_of rows.now net.now).is_row row ≡ true)
         numbering.now.rows.items }
@@ -32,8 +51,7 @@ pub(crate) fn empty_room<F: RowFamily>(
         (λ row. 0)) }
 {
     Ok(Room {
-        uses: Counts::zeros(alloc, numbering.rows.len())?,
-        capacities: capacities_of(alloc, net, rows, &numbering.rows)?,
+        loads: unused(alloc, net, rows, numbering.rows())?,
     })
 }
 
@@ -42,33 +60,32 @@ pub(crate) fn free_copy(alloc: Global, room: &Room) -> Result<Room, NoMemory>
     ensures { IfOk result (IsFreeCopy room.now) }
 {
     Ok(Room {
-        uses: Counts::zeros(alloc, room.uses.len())?,
-        capacities: Vec::from_slice(alloc, &room.capacities)?,
+        loads: room.loads.unused(alloc)?,
     })
 }
 
 /// Adds what a touch uses.
 fn add_touch(room: &mut Room, touch: Touch) -> Result<(), NoMemory>
-    ensures uses { OnOk result (AddsUses (touch_use touch) room.old.uses.items
-        room.new.uses.items) }
-    ensures capacities { OnOk result (room.new.capacities ≡ room.old.capacities) }
+    ensures uses { OnOk result (AddsUses (touch_use touch) room.old.loads.uses
+        room.new.loads.uses) }
+    ensures capacities { OnOk result (room.new.loads.capacities ≡ room.old.loads.capacities) }
 {
-    room.uses.add(touch.row, touch.uses)
+    room.loads.add(touch.row, touch.uses)
 }
 
 /// Takes away what a touch uses.
 fn take_touch(room: &mut Room, touch: Touch)
-    ensures uses { TakesUses (touch_use touch) room.old.uses.items room.new.uses.items }
-    ensures capacities { room.new.capacities ≡ room.old.capacities }
+    ensures uses { TakesUses (touch_use touch) room.old.loads.uses room.new.loads.uses }
+    ensures capacities { room.new.loads.capacities ≡ room.old.loads.capacities }
 {
-    room.uses.take(touch.row, touch.uses);
+    room.loads.take(touch.row, touch.uses);
 }
 
 /// Adds what touches use.
 pub(crate) fn add_touches(room: &mut Room, touches: &[Touch]) -> Result<(), NoMemory>
-    ensures uses { OnOk result (AddsUses (touch_uses touches.now) room.old.uses.items
-        room.new.uses.items) }
-    ensures capacities { OnOk result (room.new.capacities ≡ room.old.capacities) }
+    ensures uses { OnOk result (AddsUses (touch_uses touches.now) room.old.loads.uses
+        room.new.loads.uses) }
+    ensures capacities { OnOk result (room.new.loads.capacities ≡ room.old.loads.capacities) }
 {
     for touch in touches {
         add_touch(room, *touch)?;
@@ -78,8 +95,8 @@ pub(crate) fn add_touches(room: &mut Room, touches: &[Touch]) -> Result<(), NoMe
 
 /// Takes away what touches use.
 pub(crate) fn take_touches(room: &mut Room, touches: &[Touch])
-    ensures uses { TakesUses (touch_uses touches.now) room.old.uses.items room.new.uses.items }
-    ensures capacities { room.new.capacities ≡ room.old.capacities }
+    ensures uses { TakesUses (touch_uses touches.now) room.old.loads.uses room.new.loads.uses }
+    ensures capacities { room.new.loads.capacities ≡ room.old.loads.capacities }
 {
     for touch in touches {
         take_touch(room, *touch);
@@ -90,8 +107,7 @@ pub(crate) fn take_touches(room: &mut Room, touches: &[Touch])
 fn is_number_within(room: &Room, number: usize) -> bool
     ensures { IsTrue result ↔ IsNumberWithin room.now number }
 {
-    let capacity = room.capacities.get(number).copied().unwrap_or(0);
-    room.uses.is_at_most(number, capacity)
+    room.loads.is_within(number)
 }
 
 /// Whether no more is used of the touched rows than there is.
@@ -110,9 +126,7 @@ pub(crate) fn are_touches_within(room: &Room, touches: &[Touch]) -> bool
 fn has_room_for(room: &Room, touch: Touch) -> bool
     ensures { IsTrue result ↔ HasRoomFor room.now touch }
 {
-    let number = touch.row;
-    let capacity = room.capacities.get(number).copied().unwrap_or(0);
-    room.uses.fits(number, touch.uses, capacity)
+    room.loads.fits(touch.row, touch.uses)
 }
 
 /// Whether there is room for each of the touches.

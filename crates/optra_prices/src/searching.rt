@@ -6,17 +6,18 @@ ghost use Rattle.optra_prices.specs.Arcs.{IsFound};
 ghost use Rattle.optra_prices.specs.Standings.{IsMost};
 ghost use Rattle.optra_prices.specs.Tables.{allows_by, weight_by, AreUpTo, AreWeighedTo, IsGroupPrice};
 
-use crate::arc_term::ArcTerm;
+use crate::arc_slice::ArcSlice;
+use crate::arcs::Arcs;
 use crate::group_prices::GroupPrices;
 use optra_dag::{
-    Buffers, Dag, FAR, NARROW_ROOM, NarrowWeight, Weight, first_best_in, is_narrow, narrow_best_in,
+    Buffers, Dag, NARROW_ROOM, NarrowWeight, Weight, first_best_in, is_narrow, narrow_best_in,
 };
 use optra_network::NoMemory;
 
 /// The arcs, and the prices of the groups that they touch.
-#[derive(Clone, Copy)]
+#[derive(Drop)]
 pub(crate) struct Weights<'a> {
-    arcs: &'a [ArcTerm],
+    arcs: ArcSlice<'a>,
     grouped: &'a [i64],
 }
 
@@ -24,20 +25,20 @@ impl Weight for Weights<'_> {
     ghost use Rattle.std.specs.Prelude.{length};
     ghost use Rattle.optra_prices.specs.Tables.{allows_by, weight_by};
 
-    ghost asked = { λ w. length w.arcs.now };
+    ghost asked = { λ w. length w.arcs };
 
-    ghost allows = { λ w k. allows_by w.arcs.now k };
+    ghost allows = { λ w k. allows_by w.arcs k };
 
-    ghost weight = { λ w k. weight_by w.arcs.now w.grouped.now k };
+    ghost weight = { λ w k. weight_by w.arcs w.grouped.now k };
 
     fn allowed(&self, arc: u32) -> bool {
-        self.arcs[arc as usize].allowed()
+        self.arcs.allowed(arc as usize)
     }
 
     fn of(&self, arc: u32) -> i128 {
-        let term = &self.arcs[arc as usize];
-        let price = self.grouped.get(term.group()).copied().unwrap_or(0);
-        i128::from(term.value()) - i128::from(price)
+        let k = arc as usize;
+        let price = self.grouped.get(self.arcs.group(k)).copied().unwrap_or(0);
+        i128::from(self.arcs.value(k)) - i128::from(price)
     }
 }
 
@@ -45,19 +46,14 @@ impl NarrowWeight for Weights<'_> {
     ghost use Rattle.std.specs.Prelude.{length};
     ghost use Rattle.optra_prices.specs.Tables.{allows_by, narrow_weight_by};
 
-    ghost asked = { λ w. length w.arcs.now };
+    ghost asked = { λ w. length w.arcs };
 
-    ghost allows = { λ w k. allows_by w.arcs.now k };
+    ghost allows = { λ w k. allows_by w.arcs k };
 
-    ghost weight = { λ w k. narrow_weight_by w.arcs.now w.grouped.now k };
+    ghost weight = { λ w k. narrow_weight_by w.arcs w.grouped.now k };
 
     fn of(&self, arc: u32) -> i64 {
-        let term = &self.arcs[arc as usize];
-        if !term.allowed() {
-            return FAR;
-        }
-        let price = self.grouped.get(term.group()).copied().unwrap_or(0);
-        term.value().wrapping_sub(price)
+        self.arcs.weight(self.grouped, arc as usize)
     }
 }
 
@@ -92,14 +88,14 @@ fn narrow_best(
     weights: &Weights<'_>,
     most: u64,
 ) -> Result<Option<i128>, NoMemory>
-    requires count { length dag.now.arcs ≡ length weights.now.arcs.now }
-    requires weighed { AreWeighedTo most weights.now.arcs.now weights.now.grouped.now }
+    requires count { length dag.now.arcs ≡ length weights.now.arcs }
+    requires weighed { AreWeighedTo most weights.now.arcs weights.now.grouped.now }
     requires room { most * length dag.now.ends ≤ NARROW_ROOM }
     ensures best { IfOk result (λ answer. IfSome answer (λ sum. IsFirstBest dag.now
-        (allows_by weights.now.arcs.now) (weight_by weights.now.arcs.now weights.now.grouped.now)
+        (allows_by weights.now.arcs) (weight_by weights.now.arcs weights.now.grouped.now)
         sum buffers.new)) }
     ensures none { IfOk result (λ answer. IfNone answer ((path : List ℕ)
-        → IsPath dag.now (allows_by weights.now.arcs.now) path → ⊥)) }
+        → IsPath dag.now (allows_by weights.now.arcs) path → ⊥)) }
 {
     let Some(sum) = narrow_best_in(buffers, dag, weights, most)? else {
         return Ok(None);
@@ -114,13 +110,13 @@ fn best_in(
     weights: &Weights<'_>,
     most: u64,
 ) -> Result<Option<i128>, NoMemory>
-    requires count { length dag.now.arcs ≡ length weights.now.arcs.now }
-    requires weighed { AreWeighedTo most weights.now.arcs.now weights.now.grouped.now }
+    requires count { length dag.now.arcs ≡ length weights.now.arcs }
+    requires weighed { AreWeighedTo most weights.now.arcs weights.now.grouped.now }
     ensures best { IfOk result (λ answer. IfSome answer (λ sum. IsFirstBest dag.now
-        (allows_by weights.now.arcs.now) (weight_by weights.now.arcs.now weights.now.grouped.now)
+        (allows_by weights.now.arcs) (weight_by weights.now.arcs weights.now.grouped.now)
         sum buffers.new)) }
     ensures none { IfOk result (λ answer. IfNone answer ((path : List ℕ)
-        → IsPath dag.now (allows_by weights.now.arcs.now) path → ⊥)) }
+        → IsPath dag.now (allows_by weights.now.arcs) path → ⊥)) }
 {
     if is_narrow(dag, most) {
         narrow_best(buffers, dag, weights, most)
@@ -134,7 +130,7 @@ fn best_in(
 pub(crate) fn search_bid(
     buffers: &mut Buffers,
     dag: &Dag,
-    arcs: &[ArcTerm],
+    arcs: &Arcs,
     most: i64,
     grouped: GroupPrices<'_>,
     forced: bool,
@@ -150,7 +146,7 @@ pub(crate) fn search_bid(
 {
     path.clear();
     let weights = Weights {
-        arcs,
+        arcs: arcs.slice(),
         grouped: grouped.prices,
     };
     let Some(sum) = best_in(buffers, dag, &weights, most_of(most, grouped.most))? else {

@@ -11,7 +11,8 @@ ghost use Rattle.optra_prices.specs.declared.numbering.BidTable.{BidTable};
 use crate::columns::Mark;
 use crate::group_prices::GroupPrices;
 use crate::making::{Making, finish_making, new_making};
-use crate::numbering::{BidTable, Groups, Numbering, Standing};
+use crate::numbering::{BidTable, Groups, Standing};
+use crate::row_numbers::RowNumbers;
 use crate::settling::{copy_standing, first_standing, renew_where, update};
 use crate::tables::bid_table;
 use optra_dag::Buffers;
@@ -54,7 +55,7 @@ pub(crate) fn make_tables<'g, F: RowFamily, G: Graphs>(
 /// Rows by number, groups of touches, and a table for each bid, in which no arc may be taken yet.
 #[derive(Drop)]
 pub(crate) struct Made<'g, R: Copy + Ord> {
-    pub(crate) numbering: Numbering<R>,
+    pub(crate) numbering: RowNumbers<R>,
     pub(crate) groups: Groups,
     pub(crate) tables: Vec<BidTable<'g>>,
 }

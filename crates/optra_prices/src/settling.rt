@@ -6,7 +6,7 @@ ghost use Rattle.optra_prices.specs.Keepings.{KeepsStanding};
 ghost use Rattle.optra_prices.specs.Tables.{AreUpTo, no_arc};
 ghost use Rattle.optra_prices.specs.Standings.{Stands, IsCopy, IsSound};
 
-use crate::arc_term::ArcTerm;
+use crate::arcs::Arcs;
 use crate::columns::{Mark, mark_at};
 use crate::group_prices::GroupPrices;
 use crate::numbering::{BidTable, Standing};
@@ -101,17 +101,19 @@ pub(crate) fn renew_where(
 }
 
 /// The group of an arc.
-pub(crate) fn group_of(arcs: &[ArcTerm], k: u32) -> usize
+pub(crate) fn group_of(arcs: &Arcs, k: u32) -> usize
     ensures { result ≡ (slice_index_or arcs.now k no_arc).group }
 {
-    match arcs.get(k as usize) {
-        Some(arc) => arc.group(),
-        None => 0,
+    let arcs = arcs.slice();
+    if (k as usize) < arcs.len() {
+        arcs.group(k as usize)
+    } else {
+        0
     }
 }
 
 /// Whether the price of an arc of the path rose.
-fn has_risen(marks: &[Mark], arcs: &[ArcTerm], path: &[u32]) -> bool
+fn has_risen(marks: &[Mark], arcs: &Arcs, path: &[u32]) -> bool
     ensures { result ≡ false
         → All (λ k. HasNotRisen marks.now (slice_index_or arcs.now k no_arc).group) path.now }
 {
@@ -133,7 +135,7 @@ pub(crate) fn update(
     requires sound { IsSound table.now }
     requires before { (old : List ℤ) × Stands table.now old standing.old
         × MarksTell old grouped.prices.now marks.now }
-    requires told { fell ≡ false → HaveNotFallen marks.now table.now.arcs.items }
+    requires told { fell ≡ false → HaveNotFallen marks.now table.now.arcs }
     ensures { OnOk result (Stands table.now grouped.entry.prices.now standing.new) }
 {
     if !fell && !has_risen(marks, &table.arcs, &standing.path) {

@@ -10,6 +10,7 @@ ghost use Rattle.optra_prices.specs.Standings.{Covers, IsMost};
 ghost use Rattle.optra_prices.specs.Terms.{IsTerm, AreArcs};
 
 use crate::arc_term::ArcTerm;
+use crate::arcs::Arcs;
 use crate::making::{Making, leg_group};
 use crate::numbering::BidTable;
 use crate::weighing::{leg_value, start_value};
@@ -102,13 +103,12 @@ pub(crate) fn bid_table<'g, F: RowFamily>(
     ensures grows { OnOk result (Grows making.old making.new) }
     ensures table { IfOk result (λ table. AreArcs net.now (F.rows_of rows.now net.now)
         (F.rows_used rows.now net.now) bid.now table.graph.now making.new.named.items
-        table.arcs.items making.new.groups.starts.items making.new.groups.touches.items) }
-    ensures covers { IfOk result (λ table. Covers table.most table.arcs.items) }
+        table.arcs making.new.groups.starts.items making.new.groups.touches.items) }
+    ensures covers { IfOk result (λ table. Covers table.most table.arcs) }
 {
     let count = graph.dag().arcs();
     let mut most = 0;
-    let mut arcs = Vec::new(alloc);
-    arcs.reserve_exact(count as usize)?;
+    let mut arcs = Arcs::with_room(alloc, count as usize)?;
     for k in 0..count {
         let term = term_at(net, rows, bid, graph, making, k)?;
         most = widened(most, term.value());

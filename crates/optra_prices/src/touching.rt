@@ -1,5 +1,5 @@
 //! What legs touch, by the places of rows among those that were named.
-ghost use Rattle.std.specs.Prelude.{◌≡◌, true, ◌++◌, ◌∷◌, [], All, Some, IfOk, OnOk, slice_get};
+ghost use Rattle.std.specs.Prelude.{◌≡◌, ◌⊎◌, true, ◌++◌, ◌∷◌, [], All, Some, IfOk, OnOk, slice_get};
 ghost use Rattle.optra_walk.specs.Families.{IsUsable};
 ghost use Rattle.optra_prices.specs.Tables.{Extends, AddsTouches};
 
@@ -7,22 +7,39 @@ use crate::numbering::Touch;
 use optra_network::{Network, NoMemory, TypeId};
 use optra_walk::{Leg, RowFamily};
 
-/// Names the row once more, and tells its place.
-fn name_row<R: Copy>(named: &mut Vec<R>, row: R) -> Result<usize, NoMemory>
-    ensures more { OnOk result (named.new.items ≡ named.old.items ++ row ∷ []) }
+/// The place of the row among those that were named: where it is guessed, or the next one.
+fn name_row<F: RowFamily>(
+    named: &mut Vec<F::Row>,
+    guess: usize,
+    row: F::Row,
+) -> Result<usize, NoMemory>
+    ensures more { OnOk result ((named.new.items ≡ named.old.items)
+        ⊎ (named.new.items ≡ named.old.items ++ row ∷ [])) }
     ensures place { IfOk result (λ n. slice_get named.new.items n ≡ Some row) }
 {
+    if guess < named.len() && named[guess].cmp(&row).is_eq() {
+        return Ok(guess);
+    }
     let place = named.len();
     named.push(row)?;
     Ok(place)
 }
 
-/// Adds what the leg touches.
+/// The place of the row that a touch names, and 0 where there is none.
+fn row_at(touches: &[Touch], at: usize) -> usize {
+    match touches.get(at) {
+        Some(touch) => touch.row,
+        None => 0,
+    }
+}
+
+/// Adds what the leg touches. Its rows are guessed to be those that touches name from a place on.
 pub(crate) fn push_touches<F: RowFamily>(
     net: &Network,
     rows: &F,
     named: &mut Vec<F::Row>,
     touches: &mut Vec<Touch>,
+    like: usize,
     kind: TypeId,
     leg: Leg,
 ) -> Result<(), NoMemory>
@@ -38,7 +55,8 @@ pub(crate) fn push_touches<F: RowFamily>(
         let Some(row) = rows.touched(net, kind, leg, k) else {
             return Ok(());
         };
-        let place = name_row(named, row)?;
+        let guess = row_at(touches, like.saturating_add(k as usize));
+        let place = name_row::<F>(named, guess, row)?;
         let uses = rows.leg_use(net, kind, leg, row);
         touches.push(Touch { row: place, uses })?;
     }

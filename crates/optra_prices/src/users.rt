@@ -1,10 +1,10 @@
 //! Which groups touch a row, so that a price that moves tells at once whose prices move with it.
 ghost use Rattle.std.specs.Prelude.{◌≡◌, IfOk};
-ghost use Rattle.optra_prices.specs.Indexes.{IsIndex};
+ghost use Rattle.optra_prices.specs.Indexes.{IsIndex, closed};
 ghost use Rattle.optra_prices.specs.Tables.{AreGroups};
 ghost use Rattle.optra_prices.specs.Users.{FindsUsers, rows_touched};
 
-use crate::index::{Index, inverted};
+use crate::index::{Index, OpenIndex, close, inverted};
 use crate::numbering::{Groups, Touch};
 use optra_network::NoMemory;
 use std::alloc::Global;
@@ -20,12 +20,22 @@ fn touched_rows(alloc: Global, touches: &[Touch]) -> Result<Vec<usize>, NoMemory
     Ok(rows)
 }
 
+/// The groups that touch each row, in an index that is yet open.
+fn list_users(alloc: Global, groups: &Groups) -> Result<OpenIndex, NoMemory>
+    requires { AreGroups groups.now.starts.items groups.now.touches.items }
+    ensures users { IfOk result (λ users. IsIndex (closed users)) }
+    ensures found { IfOk result (λ users. FindsUsers groups.now (closed users)) }
+{
+    let rows = touched_rows(alloc, &groups.touches)?;
+    inverted(alloc, &groups.starts, &rows)
+}
+
 /// The groups that touch each row.
 pub(crate) fn find_users(alloc: Global, groups: &Groups) -> Result<Index, NoMemory>
     requires { AreGroups groups.now.starts.items groups.now.touches.items }
     ensures users { IfOk result IsIndex }
     ensures found { IfOk result (FindsUsers groups.now) }
 {
-    let rows = touched_rows(alloc, &groups.touches)?;
-    inverted(alloc, &groups.starts, &rows)
+    let users = list_users(alloc, groups)?;
+    close(alloc, users)
 }

@@ -14,8 +14,8 @@ ghost use Rattle.optra_prices.specs.Levels.{IsLevels, KeepsUses};
 use crate::Dual;
 use crate::columns::Columns;
 use crate::levels::{Levels, set_price};
-use crate::numbering::{BidTable, Numbering, Standing};
-use crate::ranking::number_of;
+use crate::numbering::{BidTable, Standing};
+use crate::row_numbers::{RowNumbers, number_of};
 use optra_graph::TimeGraph;
 use optra_network::NoMemory;
 use optra_node::Prices;
@@ -103,7 +103,7 @@ pub(crate) fn replies(
 
 /// Sets the listed prices of rows that have numbers, where all prices were 0.
 pub(crate) fn put_prices<F: RowFamily>(
-    numbering: &Numbering<F::Row>,
+    numbering: &RowNumbers<F::Row>,
     levels: &mut Levels,
     columns: &mut Columns,
     entries: &[(F::Row, i64)],
@@ -132,7 +132,7 @@ pub(crate) fn put_prices<F: RowFamily>(
 
 /// Sets the price of a row, where the row has a number.
 fn put_row_price<F: RowFamily>(
-    numbering: &Numbering<F::Row>,
+    numbering: &RowNumbers<F::Row>,
     levels: &mut Levels,
     columns: &mut Columns,
     entry: (F::Row, i64),

@@ -14,6 +14,8 @@ use optra_network::{Cents, Minute, NoMemory};
 use optra_node::{Node, Prices};
 use optra_prices::deads::dead;
 use optra_prices::duals::dual;
+use optra_prices::keeping::{bring_to, dual_over, keep_arcs};
+use optra_prices::overfull::overfull_rows;
 use optra_prices::{Dead, Dual, price_path, step};
 use optra_rows::{HRow, HeadwayRows};
 use optra_walk::{Instance, Walk};
@@ -373,4 +375,70 @@ impl Check for Path {
 #[test]
 fn prices_rise_and_fall_by_the_replies(rt: HostRuntime) -> Result<(), Fail> {
     check_read(&rt, &ONE_MINUTE, &Path)
+}
+
+/// The rows that the replies at no prices overfill at the root, ascending.
+fn overfilled<G: Graphs>(
+    alloc: Global,
+    inst: Instance<'_>,
+    graphs: &G,
+) -> Result<Vec<HRow>, NoMemory>
+    requires network { G.network graphs.now ≡ inst.net.now }
+    requires held { All (λ bid. Contains (G.held graphs.now) bid.path) inst.bids.now }
+{
+    let rows = HeadwayRows::new();
+    let root = Node::root(alloc);
+    let mut kept = keep_arcs(alloc, inst, graphs, &rows)?;
+    bring_to(alloc, inst, &rows, &root, &mut kept)?;
+    let zero = no_prices(alloc);
+    let (mut kept, _dual) = dual_over(alloc, inst, &rows, &root, kept, &zero)?;
+    let mut listed = overfull_rows(alloc, inst, &rows, &root, &mut kept)?;
+    listed.sort_unstable();
+    Ok(listed)
+}
+
+/// They overfill so many minutes from 0 on, and no other row.
+fn check_overfull<G: Graphs>(
+    rt: &(impl Abort + AllocGlobal),
+    inst: Instance<'_>,
+    graphs: &G,
+    minutes: usize,
+) -> Result<(), NoMemory>
+    requires network { G.network graphs.now ≡ inst.net.now }
+    requires held { All (λ bid. Contains (G.held graphs.now) bid.path) inst.bids.now }
+{
+    let listed = overfilled(rt.alloc(), inst, graphs)?;
+    assert_eq!(rt; listed.len(), minutes);
+    for (minute, row) in listed.iter().enumerate() {
+        let minute = minute as u16;
+        assert!(rt; *row == HRow::Window { track: AB, minute }, "at {minute}");
+    }
+    Ok(())
+}
+
+fn check_overfull_on_graphs(
+    rt: &(impl Abort + AllocGlobal),
+    inst: Instance<'_>,
+    minutes: usize,
+) -> Result<(), NoMemory> {
+    let mut graphs = FreshGraphs::new(inst.net);
+    graphs.prepare(rt.alloc(), inst.bids)?;
+    check_overfull(rt, inst, &graphs, minutes)?;
+    Ok(())
+}
+
+/// So many minutes are overfilled.
+struct Overfull(usize);
+
+impl Check for Overfull {
+    fn check<R: Abort + AllocGlobal>(&self, rt: &R, inst: Instance<'_>) -> Result<(), Fail> {
+        check_overfull_on_graphs(rt, inst, self.0)?;
+        Ok(())
+    }
+}
+
+#[test]
+fn replies_for_one_minute_overfill_its_five_rows(rt: HostRuntime) -> Result<(), Fail> {
+    check_read(&rt, &ONE_MINUTE, &Overfull(5))?;
+    check_read(&rt, &AT_A_LOSS, &Overfull(0))
 }

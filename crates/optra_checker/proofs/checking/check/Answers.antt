@@ -16,3 +16,9 @@ returns-clause-yes g c =
     let cert = c.args.cert.now in
     if_ok c.verdict_on.result (IsVerdict net rows Keeps bids cert) (λ verdict. (verdict ≡ Yes cert.revenue cert.bound) ↔ IsValid net rows Keeps bids cert.revenue cert.bound cert.choice cert.tree)
     (yes_is_valid net rows Keeps bids cert) c.verdict_on.ensures
+
+pub returns-clause-verdict : goal.returns-clause-verdict
+returns-clause-verdict g c = c.verdict_on.ensures
+
+pub verdict_on-requires : goal.verdict_on-requires
+verdict_on-requires g c = c.requires

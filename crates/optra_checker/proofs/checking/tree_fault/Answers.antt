@@ -1,12 +1,49 @@
-use Rattle.std.proofs.Common.{◌∙◌, List, sym, ap, subst, rules, w64}
+use Rattle.std.proofs.Common.{◌∙◌, List, length, sym, ap, subst, rules, w64}
 use Rattle.std.specs.Prelude.{All, FitsSigned}
 use Rattle.std.proofs.lemmas.Int.{to_z-of_z}
 use Rattle.optra_node.specs.declared.Item.{Item}
-use Rattle.optra_node.specs.Trees.{places}
-use Rattle.optra_node.specs.Certificates.{SplitsUndecided, EndsDead, HasPrices, IsGreatestBound}
+use Rattle.optra_node.specs.Trees.{IsTree, places}
+use Rattle.optra_node.specs.Certificates.{IsFormedItem, SplitsUndecided, EndsDead, HasPrices, IsGreatestBound}
 use Rattle.optra_cert.specs.Certs.{Cert}
 use Rattle.optra_checker.proofs.AtLemmas.{not_both}
 use Rattle.optra_checker.proofs.checking.tree_fault.Goals as goal
+
+pub splits_hold-requires-clause-whole : goal.splits_hold-requires-clause-whole
+splits_hold-requires-clause-whole g c = subst IsTree (sym c.items-tree.ensures) c.requires.formed.whole
+
+pub splits_hold-requires-clause-items : goal.splits_hold-requires-clause-items
+splits_hold-requires-clause-items g c =
+    subst (All (IsFormedItem g.F.Row.Ord.cmp c.args.inst.net.now (length c.args.inst.bids.now))) (sym c.items-tree.ensures) c.requires.formed.items
+
+pub returns-then-not-branch : goal.returns-then-not-branch
+returns-then-not-branch g c =
+    let Splits = λ (tree : List (Item g.row.F-Row.Denot)). All (λ p. SplitsUndecided p.0 p.1) (places tree) in (
+      c.requires.choice,
+      λ h. not_both c.in_ok-splits_hold.field-0 c.if-not-branch.true (c.in_ok-splits_hold.ensures.1 (subst Splits (sym c.items-tree.ensures) h)),
+    )
+
+pub leaves_hold-requires-clause-whole : goal.leaves_hold-requires-clause-whole
+leaves_hold-requires-clause-whole g c = subst IsTree (sym c.items-tree.ensures) c.requires.formed.whole
+
+pub leaves_hold-requires-clause-items : goal.leaves_hold-requires-clause-items
+leaves_hold-requires-clause-items g c =
+    subst (All (IsFormedItem g.F.Row.Ord.cmp c.args.inst.net.now (length c.args.inst.bids.now))) (sym c.items-tree.ensures) c.requires.formed.items
+
+pub leaves_hold-requires-clause-splits : goal.leaves_hold-requires-clause-splits
+leaves_hold-requires-clause-splits g c = c.in_ok-splits_hold.ensures.0 c.if-not-branch.false
+
+pub bound_holds-requires-clause-whole : goal.bound_holds-requires-clause-whole
+bound_holds-requires-clause-whole g c = subst IsTree (sym c.items-tree.ensures) c.requires.formed.whole
+
+pub bound_holds-requires-clause-items : goal.bound_holds-requires-clause-items
+bound_holds-requires-clause-items g c =
+    subst (All (IsFormedItem g.F.Row.Ord.cmp c.args.inst.net.now (length c.args.inst.bids.now))) (sym c.items-tree.ensures) c.requires.formed.items
+
+pub bound_holds-requires-clause-splits : goal.bound_holds-requires-clause-splits
+bound_holds-requires-clause-splits g c = c.in_ok-splits_hold.ensures.0 c.if-not-branch.false
+
+pub bound_holds-requires-clause-prices : goal.bound_holds-requires-clause-prices
+bound_holds-requires-clause-prices g c = c.prices_hold.ensures.0 c.if-not-prices_hold.false
 
 pub returns-then-not-branch-2 : goal.returns-then-not-branch-2
 returns-then-not-branch-2 g c =

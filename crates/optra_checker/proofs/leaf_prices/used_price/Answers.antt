@@ -54,3 +54,12 @@ loop-k-preserved g c =
     let term = product ∙ (λ i. c.price_at-price.ensures.value i *ℤ pos (one i)) in
     let more = term_more rows cmp c.args.prices.now c.args.kind c.args.leg used c.loop-k.k c.in-Some.row at in
     record { value = omega (arith, ints); least = omega (arith, ints); most = omega (arith, ints) }
+
+pub touched-requires : goal.touched-requires
+touched-requires g c = c.requires.usable
+
+pub price_at-price-requires-clause-ascending : goal.price_at-price-requires-clause-ascending
+price_at-price-requires-clause-ascending g c = c.requires.ascending
+
+pub leg_use-requires : goal.leg_use-requires
+leg_use-requires g c = c.requires.usable

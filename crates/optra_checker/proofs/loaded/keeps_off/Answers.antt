@@ -46,3 +46,6 @@ returns g c t =
     let few = lists.few in
     let past = c.loop-k-test.false in
     off_all g.F.Row.Ord.cmp rows c.args.kind c.args.loaded.now c.args.leg used c.loop-k.k lists (omega (arith, few, past)) c.loop-k.invariant.seen
+
+pub seek-spot-requires-clause-rising : goal.seek-spot-requires-clause-rising
+seek-spot-requires-clause-rising g c = c.requires.rising

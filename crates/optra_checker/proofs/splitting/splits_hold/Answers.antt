@@ -1,9 +1,24 @@
-use Rattle.std.proofs.Common.{List, refl}
+use Rattle.std.proofs.Common.{List, refl, rules}
 use Rattle.optra_node.specs.declared.Decision.{Decision}
 use Rattle.optra_node.specs.declared.Item.{Item}
 use Rattle.optra_node.specs.Certificates.{SplitsUndecided}
-use Rattle.optra_checker.proofs.AtLemmas.{all_more, all_past, at_more, here_of_all, no_true, not_both}
+use Rattle.optra_checker.proofs.AtLemmas.{all_more, all_past, at_first, at_more, here_of_all, no_true, not_both}
+use Rattle.optra_checker.proofs.HereLemmas.{formed_seen}
 use Rattle.optra_checker.proofs.splitting.splits_hold.Goals as goal
+
+pub items-init : goal.items-init
+items-init g c = record {
+  at = at_first c.args.rows.now c.args.inst.net.now c.args.inst.bids.now c.args.tree.now c.in_ok-node.node c.in_ok-node.ensures;
+  so_far = search rules;
+}
+
+pub pass-requires-clause-formed : goal.pass-requires-clause-formed
+pass-requires-clause-formed g c =
+    formed_seen c.args.rows.now c.args.inst.net.now c.args.inst.bids.now c.items.node c.items.invariant.at.same g.F.Row.Ord.cmp c.args.tree.now c.items.item-index c.item-item.result c.items-test.true c.item-item.is c.requires.items
+
+pub is_fresh-requires : goal.is_fresh-requires
+is_fresh-requires g c =
+    formed_seen c.args.rows.now c.args.inst.net.now c.args.inst.bids.now c.items.node c.items.invariant.at.same g.F.Row.Ord.cmp c.args.tree.now c.items.item-index c.item-item.result c.items-test.true c.item-item.is c.requires.items
 
 pub returns-then-not-is_fresh : goal.returns-then-not-is_fresh
 returns-then-not-is_fresh g c =

@@ -1,21 +1,25 @@
-use Rattle.std.proofs.Common.{◌≡◌, ◌∙◌, Some, ap, slice_get, subst, get_or}
-use Rattle.std.proofs.lemmas.Option.{get_or_from_slice_get}
-use Rattle.optra_bid.specs.declared.bids.Bid.{Bid}
-use Rattle.optra_node.specs.Nodes.{kind_at}
-use Rattle.optra_checker.specs.Leaves.{leaf_weights}
-use Rattle.optra_checker.specs.Weights.{IsBestWorth}
-use Rattle.optra_checker.proofs.ToComeLemmas.{if_ok}
+use Rattle.std.proofs.Common.{Option, Bor, slice_get, subst}
+use Rattle.std.specs.Prelude.{IfSome, IsSomeAnd}
+use Rattle.optra_checker.specs.declared.frees.Free.{Free}
+use Rattle.optra_checker.specs.Frees.{IsFree}
 use Rattle.optra_checker.proofs.terms.best_at.Goals as goal
 
-pub returns-clause-best : goal.returns-clause-best
-returns-clause-best g c =
+pub stays_free-requires-clause-free : goal.stays_free-requires-clause-free
+stays_free-requires-clause-free g c =
     let node = c.args.node.now in
-    let rows = g.F.RowFamily.rows_of node.family node.net in
-    let used = g.F.RowFamily.rows_used node.family node.net in
-    let r = c.index-inst-bid.result in
-    let weights = leaf_weights node.net rows used node.bids node.node c.args.bid c.args.prices.now (kind_at node.bids c.args.bid) in
-    if_ok c.search.result (IsBestWorth weights c.inst-inst.result.net.now (get_or c.inst-inst.result.bids.now c.args.bid r)) (λ best. (b : Bid) → slice_get node.bids c.args.bid ≡ Some b → IsBestWorth weights node.net b best)
-    (λ best is b at.
-    let same : get_or c.inst-inst.result.bids.now c.args.bid r ≡ b = ap (λ bs. get_or bs c.args.bid r) c.inst-inst.ensures.bids ∙ get_or_from_slice_get node.bids c.args.bid b r at in
-    subst (λ x. IsBestWorth weights node.net x best) same (subst (λ n. IsBestWorth weights n (get_or c.inst-inst.result.bids.now c.args.bid r) best) c.inst-inst.ensures.net is))
-    c.search.ensures.best
+    subst (λ (o : Option (Bor Free)). IfSome o (λ f. IsSomeAnd (slice_get node.bids c.args.bid) (λ b. IsFree node.net b f.now))) c.in-Some.is c.requires.free
+
+pub returns-then-stays_free-clause-best : goal.returns-then-stays_free-clause-best
+returns-then-stays_free-clause-best g c b at = c.stays_free.ensures c.if-stays_free.true b at
+
+pub stays_free-requires-clause-ascending : goal.stays_free-requires-clause-ascending
+stays_free-requires-clause-ascending g c = c.requires.ascending
+
+pub stays_free-requires-clause-proper : goal.stays_free-requires-clause-proper
+stays_free-requires-clause-proper g c = c.requires.proper
+
+pub best_found-requires-clause-ascending : goal.best_found-requires-clause-ascending
+best_found-requires-clause-ascending g c = c.requires.ascending
+
+pub best_found-requires-clause-proper : goal.best_found-requires-clause-proper
+best_found-requires-clause-proper g c = c.requires.proper

@@ -26,3 +26,12 @@ returns-else-has_yes-clause-best g c b at =
     subst (IsGreatest (IsOffer node.net rows node.bids node.node c.args.prices.now c.args.bid b)) (sym (to_z-of_z w128 c.or_zero.result fits))
     (best_no g.F.Row.Ord.cmp node.net proper rows used (λ kind leg usable. g.met.F.RowFamily.lists_rows node.family node.net kind leg usable) node.bids node.node c.args.prices.now c.args.bid b at c.in_ok-best.best (c.in_ok-best.ensures.best b at)
     (sym c.has_yes.ensures ∙ c.if-has_yes.false) c.or_zero.result c.or_zero.ensures.least c.or_zero.ensures.most c.or_zero.ensures.reached)
+
+pub best_at-requires-clause-ascending : goal.best_at-requires-clause-ascending
+best_at-requires-clause-ascending g c = c.requires.ascending
+
+pub best_at-requires-clause-proper : goal.best_at-requires-clause-proper
+best_at-requires-clause-proper g c = c.requires.proper
+
+pub best_at-requires-clause-free : goal.best_at-requires-clause-free
+best_at-requires-clause-free g c = c.requires.free

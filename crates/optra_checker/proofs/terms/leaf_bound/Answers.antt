@@ -20,3 +20,18 @@ returns g c =
     c.whole_cents.ensures ∙ ap whole_cents (to_z-of_z w128 c.dual_by-value.result fits_value ∙ c.dual_by-value.ensures ∙ ap (λ capacity. dual_by capacity sum) (to_z-of_z w128 c.capacity_price.result fits_capacity ∙ c.capacity_price.ensures.value)) in
     let P = IsBoundOf node.net rows node.bids node.node c.args.prices.now in
     subst P (sym (to_z-of_z w128 c.whole_cents.result fits ∙ is)) (dual_is node.net rows node.bids node.node c.args.prices.now sum c.in_ok-sum.ensures.terms)
+
+pub capacity_price-requires : goal.capacity_price-requires
+capacity_price-requires g c = c.requires.proper
+
+pub term_sum-requires-clause-ascending : goal.term_sum-requires-clause-ascending
+term_sum-requires-clause-ascending g c = c.requires.ascending
+
+pub term_sum-requires-clause-proper : goal.term_sum-requires-clause-proper
+term_sum-requires-clause-proper g c = c.requires.proper
+
+pub term_sum-requires-clause-frees : goal.term_sum-requires-clause-frees
+term_sum-requires-clause-frees g c = c.requires.frees
+
+pub term_sum-requires-clause-watches : goal.term_sum-requires-clause-watches
+term_sum-requires-clause-watches g c = c.requires.watches

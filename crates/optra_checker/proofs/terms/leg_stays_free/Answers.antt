@@ -19,3 +19,9 @@ returns g c =
       λ t. record { may = sym c.usable_leg_ok.ensures ∙ c.if-not-usable_leg_ok.false; none = sym c.leg_price.ensures.value ∙ sym n ∙ c.is_zero.ensures.0 t },
       λ h. c.is_zero.ensures.1 (n ∙ c.leg_price.ensures.value ∙ h.none),
     )
+
+pub leg_price-requires-clause-ascending : goal.leg_price-requires-clause-ascending
+leg_price-requires-clause-ascending g c = c.requires.ascending
+
+pub leg_price-requires-clause-proper : goal.leg_price-requires-clause-proper
+leg_price-requires-clause-proper g c = c.requires.proper

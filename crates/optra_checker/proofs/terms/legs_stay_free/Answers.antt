@@ -34,3 +34,9 @@ returns g c =
       λ _. subst (All (IsFreeLeg w)) (take_all c.legs.leg-index c.args.legs.now c.legs-test.false) c.legs.invariant,
       λ _. refl,
     )
+
+pub leg_stays_free-requires-clause-ascending : goal.leg_stays_free-requires-clause-ascending
+leg_stays_free-requires-clause-ascending g c = c.requires.ascending
+
+pub leg_stays_free-requires-clause-proper : goal.leg_stays_free-requires-clause-proper
+leg_stays_free-requires-clause-proper g c = c.requires.proper

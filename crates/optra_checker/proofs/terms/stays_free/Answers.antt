@@ -39,3 +39,9 @@ returns g c t =
       start = subst (λ (ls : List Leg). may_start_at node.node c.args.bid (first_departure ls) ≡ true) e (c.start_stays_free.ensures.start c.if-not-start_stays_free.false);
       each = subst (λ (ls : List Leg). All (IsFreeLeg w) ls) e (c.legs_stay_free.ensures.0 t);
     })
+
+pub legs_stay_free-requires-clause-ascending : goal.legs_stay_free-requires-clause-ascending
+legs_stay_free-requires-clause-ascending g c = c.requires.ascending
+
+pub legs_stay_free-requires-clause-proper : goal.legs_stay_free-requires-clause-proper
+legs_stay_free-requires-clause-proper g c = c.requires.proper

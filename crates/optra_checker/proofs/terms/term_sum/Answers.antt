@@ -75,3 +75,9 @@ returns-clause-size g c =
     let end = c.bids.auto.bid-end in
     let same = ap length c.inst.ensures.bids in
     size_below c.bids.bid 1000 c.bids.sum (omega arith) c.bids.invariant.size
+
+pub offer_at-requires-clause-ascending : goal.offer_at-requires-clause-ascending
+offer_at-requires-clause-ascending g c = c.requires.ascending
+
+pub offer_at-requires-clause-proper : goal.offer_at-requires-clause-proper
+offer_at-requires-clause-proper g c = c.requires.proper

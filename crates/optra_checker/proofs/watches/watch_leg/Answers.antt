@@ -25,3 +25,18 @@ returns-clause-watched g c t =
     let few = lists.few in
     let past = c.loop-k-test.false in
     watched_all rows c.args.kind g.F.Row.Ord.cmp (total_of g.F.Row.Ord.cmp c.args.loads.now) c.loop-k.watched.items c.args.leg used c.loop-k.k lists (omega (arith, few, past)) c.loop-k.invariant.seen
+
+pub touched-requires : goal.touched-requires
+touched-requires g c = c.requires
+
+pub returns-in_default-clause-kept : goal.returns-in_default-clause-kept
+returns-in_default-clause-kept g c = c.loop-k.invariant.kept
+
+pub leg_use-requires : goal.leg_use-requires
+leg_use-requires g c = c.requires
+
+pub returns-then-cap-leg_use-clause-kept : goal.returns-then-cap-leg_use-clause-kept
+returns-then-cap-leg_use-clause-kept g c = c.loop-k.invariant.kept
+
+pub returns-clause-kept : goal.returns-clause-kept
+returns-clause-kept g c = c.loop-k.invariant.kept

@@ -1,7 +1,7 @@
--- At first all deadlines are the end of the arrival window.
+-- At worst all deadlines are the end of the arrival window.
 use Rattle.std.proofs.Common.{rules}
 use Rattle.optra_graph.proofs.DeadlineLemmas.{first_deadlines}
 use Rattle.optra_graph.proofs.deadlines.make_deadlines.Goals as goal
 
-pub loop-init : goal.loop-init
-loop-init c = first_deadlines c.args.net.now c.args.bid.now.path c.in_ok-deadlines.deadlines.items c.station_count.ensures.proper (search rules) (search rules)
+pub returns : goal.returns
+returns c = first_deadlines c.args.net.now c.args.bid.now.path _ c.station_count.ensures.proper (search rules) (search rules)

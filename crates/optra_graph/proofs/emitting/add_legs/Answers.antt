@@ -1,101 +1,163 @@
--- One more place.
-use Rattle.std.proofs.Common.{arith, refl, ◌≡◌, ◌∙◌, ◌≤◌, ◌<◌, ◌*◌, ap, subst, length, ℕ, get_or}
+-- One more row.
+use Rattle.std.proofs.Common.{arith, refl, ◌≡◌, ◌∙◌, ◌+◌, ◌<◌, ap, sym, length, get_or}
 use Rattle.optra_dag.specs.Paths.{no_arc}
-use Rattle.optra_network.specs.Net.{out_tracks_of}
-use Rattle.optra_graph.specs.Arcs.{Emits}
 use Rattle.optra_graph.specs.Nodes.{node_of}
-use Rattle.optra_graph.specs.Places.{places_of, state_of}
-use Rattle.optra_graph.proofs.BlockLemmas.{emits_start, emits_skip, emits_more}
+use Rattle.optra_graph.specs.Places.{places_of}
+use Rattle.optra_graph.specs.StepTables.{place_or, rows_of}
+use Rattle.optra_graph.proofs.BlockLemmas.{emits_start, emits_to, emits_skip, emits_more}
 use Rattle.optra_graph.proofs.BoundLemmas.{few_start}
-use Rattle.optra_graph.proofs.LegLemmas.{steps_forward, steps_nodes, arcs_sorted, legs_few, legs_same, arcs_room}
+use Rattle.optra_graph.proofs.LegLemmas.{steps_forward, steps_nodes, arcs_sorted, legs_few, legs_same, few_to, arcs_room}
 use Rattle.optra_graph.proofs.ReachLemmas.{steps_within}
-use Rattle.optra_graph.proofs.TableLemmas.{steps_of}
+use Rattle.optra_graph.proofs.TableLemmas.{steps_of, few_of, place_end, place_here, place_most, place_next, gap_first, gap_next}
 use Rattle.optra_graph.proofs.emitting.add_legs.Goals as goal
 
-pub loop-place-init : goal.loop-place-init
-loop-place-init c = record {
-  emits = rw c.requires.legs (emits_start c.args.net.now c.args.bid.now.path c.args.layout c.requires.setting c.args.kept.flags.now c.args.dag.now.arcs);
+pub loop-row-init : goal.loop-row-init
+loop-row-init c = record {
+  emits = rw c.requires.legs (emits_to c.args.net.now c.args.bid.now.path c.args.layout c.requires.setting c.args.kept.flags.now c.args.dag.now.arcs 0 (place_or c.args.table.now 0 (places_of c.args.layout)) _ _ (omega arith)
+      (gap_first c.args.net.now c.args.bid.now.path c.args.layout (places_of c.args.layout) c.args.kept.flags.now c.args.table.now c.requires.steps) (emits_start c.args.net.now c.args.bid.now.path c.args.layout c.requires.setting c.args.kept.flags.now c.args.dag.now.arcs));
   ends = refl;
-  few = (0, 0, rw c.requires.legs (few_start c.args.net.now.tracks c.args.layout));
+  few = rw c.requires.legs (few_to c.args.net.now c.args.bid.now.path c.args.layout c.requires.setting c.args.kept.flags.now 0 (place_or c.args.table.now 0 (places_of c.args.layout)) 0 (omega arith)
+      (place_most c.args.net.now c.args.bid.now.path c.args.layout (places_of c.args.layout) c.args.kept.flags.now c.args.table.now c.requires.steps 0) (0, 0, few_start c.args.net.now.tracks c.args.layout));
 }
 
-pub of-requires : goal.of-requires
-of-requires c = c.requires.steps.ranges c.loop-place.place (omega (arith, c.places-place-end.ensures.value, c.loop-place-test.true))
+pub place-place-requires : goal.place-place-requires
+place-place-requires c = omega (arith, c.rows-row-end.ensures, c.loop-row-test.true)
 
-pub loop-place-preserved-then-not-kept-place : goal.loop-place-preserved-then-not-kept-place
-loop-place-preserved-then-not-kept-place c =
-    let i = c.loop-place.invariant in
-    let l : c.loop-place.place < places_of c.args.layout = omega (arith, c.places-place-end.ensures.value, c.loop-place-test.true) in
+pub of-requires : goal.of-requires
+of-requires c = c.requires.steps.ranges c.loop-row.row (omega (arith, c.rows-row-end.ensures, c.loop-row-test.true))
+
+pub loop-row-preserved-then-not-kept-place : goal.loop-row-preserved-then-not-kept-place
+loop-row-preserved-then-not-kept-place c =
+    let row = c.loop-row-test.true in
+    let rows = c.rows-row-end.ensures in
+    let r : c.loop-row.row < rows_of c.args.table.now = omega (arith, row, rows) in
+    let w = c.requires.steps.within c.loop-row.row r in
+    let l : c.place-place.result < places_of c.args.layout = omega (arith, w, c.place-place.ensures) in
+    let here = place_here c.args.net.now c.args.bid.now.path c.args.layout (places_of c.args.layout) c.args.kept.flags.now c.args.table.now c.requires.steps c.loop-row.row r ∙ sym c.place-place.ensures in
+    let next = rw (sym c.place-place.ensures) at (place_next c.args.net.now c.args.bid.now.path c.args.layout (places_of c.args.layout) c.args.kept.flags.now c.args.table.now c.requires.steps c.loop-row.row r) in
+    let most = place_most c.args.net.now c.args.bid.now.path c.args.layout (places_of c.args.layout) c.args.kept.flags.now c.args.table.now c.requires.steps (c.loop-row.row + 1) in
+    let none = rw (sym c.place-place.ensures) at (gap_next c.args.net.now c.args.bid.now.path c.args.layout (places_of c.args.layout) c.args.kept.flags.now c.args.table.now c.requires.steps c.loop-row.row r) in
+    let i = c.loop-row.invariant in
     record {
-      emits = emits_skip c.args.net.now c.args.bid.now.path c.args.layout c.requires.setting c.args.kept.flags.now c.args.dag.now.arcs c.loop-place.place c.loop-place.dag.arcs c.loop-place.legs.items c.if-not-kept-place.true i.emits;
+      emits = emits_to c.args.net.now c.args.bid.now.path c.args.layout c.requires.setting c.args.kept.flags.now c.args.dag.now.arcs (c.place-place.result + 1) (place_or c.args.table.now (c.loop-row.row + 1) (places_of c.args.layout)) c.loop-row.dag.arcs c.loop-row.legs.items next none
+          (emits_skip c.args.net.now c.args.bid.now.path c.args.layout c.requires.setting c.args.kept.flags.now c.args.dag.now.arcs c.place-place.result c.loop-row.dag.arcs c.loop-row.legs.items c.if-not-kept-place.true (rw here at i.emits));
       ends = i.ends;
-      few = legs_same c.args.net.now c.args.bid.now.path c.args.layout c.requires.setting c.args.kept.flags.now c.loop-place.place l i.few.0 i.few.1 (length c.loop-place.legs.items) i.few.2;
+      few = let count = rw here at i.few in few_to c.args.net.now c.args.bid.now.path c.args.layout c.requires.setting c.args.kept.flags.now (c.place-place.result + 1) (place_or c.args.table.now (c.loop-row.row + 1) (places_of c.args.layout)) (length c.loop-row.legs.items) next most
+          (legs_same c.args.net.now c.args.bid.now.path c.args.layout c.requires.setting c.args.kept.flags.now c.place-place.result l count.0 count.1 (length c.loop-row.legs.items) count.2);
     }
 
 pub add_arcs-requires-clause-within : goal.add_arcs-requires-clause-within
 add_arcs-requires-clause-within c =
-    let l : c.loop-place.place < places_of c.args.layout = omega (arith, c.places-place-end.ensures.value, c.loop-place-test.true) in
-    let all = steps_of c.args.net.now c.args.bid.now.path c.args.layout (places_of c.args.layout) c.args.kept.flags.now c.args.table.now c.requires.steps c.loop-place.place l c.if-not-kept-place.false c.of.result.now c.of.ensures in
+    let row = c.loop-row-test.true in
+    let rows = c.rows-row-end.ensures in
+    let r : c.loop-row.row < rows_of c.args.table.now = omega (arith, row, rows) in
+    let w = c.requires.steps.within c.loop-row.row r in
+    let l : c.place-place.result < places_of c.args.layout = omega (arith, w, c.place-place.ensures) in
+    let here = place_here c.args.net.now c.args.bid.now.path c.args.layout (places_of c.args.layout) c.args.kept.flags.now c.args.table.now c.requires.steps c.loop-row.row r ∙ sym c.place-place.ensures in
+    let all = steps_of c.args.net.now c.args.bid.now.path c.args.layout (places_of c.args.layout) c.args.kept.flags.now c.args.table.now c.requires.steps c.loop-row.row c.place-place.result c.of.result.now r c.place-place.ensures c.of.ensures in
+    let few = few_of c.args.net.now c.args.bid.now.path c.args.layout (places_of c.args.layout) c.args.kept.flags.now c.args.table.now c.requires.steps c.loop-row.row c.place-place.result c.of.result.now r c.place-place.ensures c.of.ensures in
     let f = c.requires.flags in
-    let n : get_or c.args.kept.numbers.now c.loop-place.place 0 ≡ node_of c.args.kept.flags.now c.loop-place.place = c.args.kept.numbered.each c.loop-place.place (omega (arith, f, l)) in
-    (steps_within c.args.net.now c.args.bid.now.path c.args.layout c.requires.setting c.loop-place.place c.args.kept.flags.now c.of.result.now l f all)
+    let n : get_or c.args.kept.numbers.now c.place-place.result 0 ≡ node_of c.args.kept.flags.now c.place-place.result = c.args.kept.numbered.each c.place-place.result (omega (arith, f, l)) in
+    let emits = rw here at c.loop-row.invariant.emits in
+    let count = rw here at c.loop-row.invariant.few in
+    steps_within c.args.net.now c.args.bid.now.path c.args.layout c.requires.setting c.place-place.result c.args.kept.flags.now c.of.result.now l f all
 
 pub add_arcs-requires-clause-forward : goal.add_arcs-requires-clause-forward
 add_arcs-requires-clause-forward c =
-    let l : c.loop-place.place < places_of c.args.layout = omega (arith, c.places-place-end.ensures.value, c.loop-place-test.true) in
-    let all = steps_of c.args.net.now c.args.bid.now.path c.args.layout (places_of c.args.layout) c.args.kept.flags.now c.args.table.now c.requires.steps c.loop-place.place l c.if-not-kept-place.false c.of.result.now c.of.ensures in
+    let row = c.loop-row-test.true in
+    let rows = c.rows-row-end.ensures in
+    let r : c.loop-row.row < rows_of c.args.table.now = omega (arith, row, rows) in
+    let w = c.requires.steps.within c.loop-row.row r in
+    let l : c.place-place.result < places_of c.args.layout = omega (arith, w, c.place-place.ensures) in
+    let here = place_here c.args.net.now c.args.bid.now.path c.args.layout (places_of c.args.layout) c.args.kept.flags.now c.args.table.now c.requires.steps c.loop-row.row r ∙ sym c.place-place.ensures in
+    let all = steps_of c.args.net.now c.args.bid.now.path c.args.layout (places_of c.args.layout) c.args.kept.flags.now c.args.table.now c.requires.steps c.loop-row.row c.place-place.result c.of.result.now r c.place-place.ensures c.of.ensures in
+    let few = few_of c.args.net.now c.args.bid.now.path c.args.layout (places_of c.args.layout) c.args.kept.flags.now c.args.table.now c.requires.steps c.loop-row.row c.place-place.result c.of.result.now r c.place-place.ensures c.of.ensures in
     let f = c.requires.flags in
-    let n : get_or c.args.kept.numbers.now c.loop-place.place 0 ≡ node_of c.args.kept.flags.now c.loop-place.place = c.args.kept.numbered.each c.loop-place.place (omega (arith, f, l)) in
-    rw n (steps_forward c.args.net.now c.args.bid.now.path c.args.layout c.requires.setting c.args.kept.flags.now c.loop-place.place l c.of.result.now all c.if-not-kept-place.false)
+    let n : get_or c.args.kept.numbers.now c.place-place.result 0 ≡ node_of c.args.kept.flags.now c.place-place.result = c.args.kept.numbered.each c.place-place.result (omega (arith, f, l)) in
+    let emits = rw here at c.loop-row.invariant.emits in
+    let count = rw here at c.loop-row.invariant.few in
+    rw n (steps_forward c.args.net.now c.args.bid.now.path c.args.layout c.requires.setting c.args.kept.flags.now c.place-place.result l c.of.result.now all c.if-not-kept-place.false)
 
 pub add_arcs-requires-clause-nodes : goal.add_arcs-requires-clause-nodes
 add_arcs-requires-clause-nodes c =
-    let l : c.loop-place.place < places_of c.args.layout = omega (arith, c.places-place-end.ensures.value, c.loop-place-test.true) in
-    let all = steps_of c.args.net.now c.args.bid.now.path c.args.layout (places_of c.args.layout) c.args.kept.flags.now c.args.table.now c.requires.steps c.loop-place.place l c.if-not-kept-place.false c.of.result.now c.of.ensures in
+    let row = c.loop-row-test.true in
+    let rows = c.rows-row-end.ensures in
+    let r : c.loop-row.row < rows_of c.args.table.now = omega (arith, row, rows) in
+    let w = c.requires.steps.within c.loop-row.row r in
+    let l : c.place-place.result < places_of c.args.layout = omega (arith, w, c.place-place.ensures) in
+    let here = place_here c.args.net.now c.args.bid.now.path c.args.layout (places_of c.args.layout) c.args.kept.flags.now c.args.table.now c.requires.steps c.loop-row.row r ∙ sym c.place-place.ensures in
+    let all = steps_of c.args.net.now c.args.bid.now.path c.args.layout (places_of c.args.layout) c.args.kept.flags.now c.args.table.now c.requires.steps c.loop-row.row c.place-place.result c.of.result.now r c.place-place.ensures c.of.ensures in
+    let few = few_of c.args.net.now c.args.bid.now.path c.args.layout (places_of c.args.layout) c.args.kept.flags.now c.args.table.now c.requires.steps c.loop-row.row c.place-place.result c.of.result.now r c.place-place.ensures c.of.ensures in
     let f = c.requires.flags in
-    let n : get_or c.args.kept.numbers.now c.loop-place.place 0 ≡ node_of c.args.kept.flags.now c.loop-place.place = c.args.kept.numbered.each c.loop-place.place (omega (arith, f, l)) in
-    (steps_nodes c.args.net.now c.args.bid.now.path c.args.layout c.requires.setting c.args.kept.flags.now c.loop-place.place l c.of.result.now (length c.loop-place.dag.ends) (ap length c.loop-place.invariant.ends ∙ c.requires.ends) all)
+    let n : get_or c.args.kept.numbers.now c.place-place.result 0 ≡ node_of c.args.kept.flags.now c.place-place.result = c.args.kept.numbered.each c.place-place.result (omega (arith, f, l)) in
+    let emits = rw here at c.loop-row.invariant.emits in
+    let count = rw here at c.loop-row.invariant.few in
+    steps_nodes c.args.net.now c.args.bid.now.path c.args.layout c.requires.setting c.args.kept.flags.now c.place-place.result l c.of.result.now (length c.loop-row.dag.ends) (ap length c.loop-row.invariant.ends ∙ c.requires.ends) all
 
 pub add_arcs-requires-clause-sorted : goal.add_arcs-requires-clause-sorted
 add_arcs-requires-clause-sorted c =
-    let l : c.loop-place.place < places_of c.args.layout = omega (arith, c.places-place-end.ensures.value, c.loop-place-test.true) in
-    let all = steps_of c.args.net.now c.args.bid.now.path c.args.layout (places_of c.args.layout) c.args.kept.flags.now c.args.table.now c.requires.steps c.loop-place.place l c.if-not-kept-place.false c.of.result.now c.of.ensures in
+    let row = c.loop-row-test.true in
+    let rows = c.rows-row-end.ensures in
+    let r : c.loop-row.row < rows_of c.args.table.now = omega (arith, row, rows) in
+    let w = c.requires.steps.within c.loop-row.row r in
+    let l : c.place-place.result < places_of c.args.layout = omega (arith, w, c.place-place.ensures) in
+    let here = place_here c.args.net.now c.args.bid.now.path c.args.layout (places_of c.args.layout) c.args.kept.flags.now c.args.table.now c.requires.steps c.loop-row.row r ∙ sym c.place-place.ensures in
+    let all = steps_of c.args.net.now c.args.bid.now.path c.args.layout (places_of c.args.layout) c.args.kept.flags.now c.args.table.now c.requires.steps c.loop-row.row c.place-place.result c.of.result.now r c.place-place.ensures c.of.ensures in
+    let few = few_of c.args.net.now c.args.bid.now.path c.args.layout (places_of c.args.layout) c.args.kept.flags.now c.args.table.now c.requires.steps c.loop-row.row c.place-place.result c.of.result.now r c.place-place.ensures c.of.ensures in
     let f = c.requires.flags in
-    let n : get_or c.args.kept.numbers.now c.loop-place.place 0 ≡ node_of c.args.kept.flags.now c.loop-place.place = c.args.kept.numbered.each c.loop-place.place (omega (arith, f, l)) in
-    rw n (arcs_sorted c.args.net.now c.args.bid.now.path c.args.layout c.requires.setting c.args.kept.flags.now c.loop-place.place l c.args.dag.now.arcs c.loop-place.dag.arcs c.loop-place.legs.items c.requires.starts c.loop-place.invariant.emits)
+    let n : get_or c.args.kept.numbers.now c.place-place.result 0 ≡ node_of c.args.kept.flags.now c.place-place.result = c.args.kept.numbered.each c.place-place.result (omega (arith, f, l)) in
+    let emits = rw here at c.loop-row.invariant.emits in
+    let count = rw here at c.loop-row.invariant.few in
+    rw n (arcs_sorted c.args.net.now c.args.bid.now.path c.args.layout c.requires.setting c.args.kept.flags.now c.place-place.result l c.args.dag.now.arcs c.loop-row.dag.arcs c.loop-row.legs.items c.requires.starts emits)
 
 pub add_arcs-requires-clause-room : goal.add_arcs-requires-clause-room
 add_arcs-requires-clause-room c =
-    let l : c.loop-place.place < places_of c.args.layout = omega (arith, c.places-place-end.ensures.value, c.loop-place-test.true) in
-    let all = steps_of c.args.net.now c.args.bid.now.path c.args.layout (places_of c.args.layout) c.args.kept.flags.now c.args.table.now c.requires.steps c.loop-place.place l c.if-not-kept-place.false c.of.result.now c.of.ensures in
+    let row = c.loop-row-test.true in
+    let rows = c.rows-row-end.ensures in
+    let r : c.loop-row.row < rows_of c.args.table.now = omega (arith, row, rows) in
+    let w = c.requires.steps.within c.loop-row.row r in
+    let l : c.place-place.result < places_of c.args.layout = omega (arith, w, c.place-place.ensures) in
+    let here = place_here c.args.net.now c.args.bid.now.path c.args.layout (places_of c.args.layout) c.args.kept.flags.now c.args.table.now c.requires.steps c.loop-row.row r ∙ sym c.place-place.ensures in
+    let all = steps_of c.args.net.now c.args.bid.now.path c.args.layout (places_of c.args.layout) c.args.kept.flags.now c.args.table.now c.requires.steps c.loop-row.row c.place-place.result c.of.result.now r c.place-place.ensures c.of.ensures in
+    let few = few_of c.args.net.now c.args.bid.now.path c.args.layout (places_of c.args.layout) c.args.kept.flags.now c.args.table.now c.requires.steps c.loop-row.row c.place-place.result c.of.result.now r c.place-place.ensures c.of.ensures in
     let f = c.requires.flags in
-    let n : get_or c.args.kept.numbers.now c.loop-place.place 0 ≡ node_of c.args.kept.flags.now c.loop-place.place = c.args.kept.numbered.each c.loop-place.place (omega (arith, f, l)) in
-    let i = c.loop-place.invariant in
-    let most = c.requires.steps.few c.loop-place.place l c.if-not-kept-place.false in
-    let same = ap length c.of.ensures in
-    let few : length c.of.result.now ≤ 63 * length (out_tracks_of c.args.net.now.tracks (state_of c.args.layout c.loop-place.place).station) = omega (arith, most, same) in
-    let count = i.emits.count in
+    let n : get_or c.args.kept.numbers.now c.place-place.result 0 ≡ node_of c.args.kept.flags.now c.place-place.result = c.args.kept.numbered.each c.place-place.result (omega (arith, f, l)) in
+    let emits = rw here at c.loop-row.invariant.emits in
+    let count = rw here at c.loop-row.invariant.few in
+    let made = emits.count in
     let first = c.requires.few in
-    (arcs_room c.args.net.now c.args.bid.now.path c.args.layout c.requires.setting c.args.kept.flags.now c.loop-place.place l i.few.0 i.few.1 (length c.loop-place.legs.items) i.few.2 c.of.result.now few (length c.loop-place.dag.arcs) (omega (arith, count, first)))
+    arcs_room c.args.net.now c.args.bid.now.path c.args.layout c.requires.setting c.args.kept.flags.now c.place-place.result l count.0 count.1 (length c.loop-row.legs.items) count.2 c.of.result.now few (length c.loop-row.dag.arcs) (omega (arith, made, first))
 
-pub loop-place-preserved : goal.loop-place-preserved
-loop-place-preserved c =
-    let l : c.loop-place.place < places_of c.args.layout = omega (arith, c.places-place-end.ensures.value, c.loop-place-test.true) in
-    let all = steps_of c.args.net.now c.args.bid.now.path c.args.layout (places_of c.args.layout) c.args.kept.flags.now c.args.table.now c.requires.steps c.loop-place.place l c.if-not-kept-place.false c.of.result.now c.of.ensures in
+pub loop-row-preserved : goal.loop-row-preserved
+loop-row-preserved c =
+    let row = c.loop-row-test.true in
+    let rows = c.rows-row-end.ensures in
+    let r : c.loop-row.row < rows_of c.args.table.now = omega (arith, row, rows) in
+    let w = c.requires.steps.within c.loop-row.row r in
+    let l : c.place-place.result < places_of c.args.layout = omega (arith, w, c.place-place.ensures) in
+    let here = place_here c.args.net.now c.args.bid.now.path c.args.layout (places_of c.args.layout) c.args.kept.flags.now c.args.table.now c.requires.steps c.loop-row.row r ∙ sym c.place-place.ensures in
+    let all = steps_of c.args.net.now c.args.bid.now.path c.args.layout (places_of c.args.layout) c.args.kept.flags.now c.args.table.now c.requires.steps c.loop-row.row c.place-place.result c.of.result.now r c.place-place.ensures c.of.ensures in
+    let few = few_of c.args.net.now c.args.bid.now.path c.args.layout (places_of c.args.layout) c.args.kept.flags.now c.args.table.now c.requires.steps c.loop-row.row c.place-place.result c.of.result.now r c.place-place.ensures c.of.ensures in
     let f = c.requires.flags in
-    let n : get_or c.args.kept.numbers.now c.loop-place.place 0 ≡ node_of c.args.kept.flags.now c.loop-place.place = c.args.kept.numbered.each c.loop-place.place (omega (arith, f, l)) in
-    let i = c.loop-place.invariant in
-    let most = c.requires.steps.few c.loop-place.place l c.if-not-kept-place.false in
-    let same = ap length c.of.ensures in
-    let few : length c.of.result.now ≤ 63 * length (out_tracks_of c.args.net.now.tracks (state_of c.args.layout c.loop-place.place).station) = omega (arith, most, same) in
-    let e = emits_more c.args.net.now c.args.bid.now.path c.args.layout c.requires.setting c.args.kept.flags.now c.args.dag.now.arcs c.loop-place.place l c.if-not-kept-place.false c.of.result.now all c.loop-place.dag.arcs c.loop-place.legs.items i.emits (λ k m. c.requires.starts k no_arc m) in
+    let n : get_or c.args.kept.numbers.now c.place-place.result 0 ≡ node_of c.args.kept.flags.now c.place-place.result = c.args.kept.numbered.each c.place-place.result (omega (arith, f, l)) in
+    let emits = rw here at c.loop-row.invariant.emits in
+    let count = rw here at c.loop-row.invariant.few in
+    let next = rw (sym c.place-place.ensures) at (place_next c.args.net.now c.args.bid.now.path c.args.layout (places_of c.args.layout) c.args.kept.flags.now c.args.table.now c.requires.steps c.loop-row.row r) in
+    let most = place_most c.args.net.now c.args.bid.now.path c.args.layout (places_of c.args.layout) c.args.kept.flags.now c.args.table.now c.requires.steps (c.loop-row.row + 1) in
+    let none = rw (sym c.place-place.ensures) at (gap_next c.args.net.now c.args.bid.now.path c.args.layout (places_of c.args.layout) c.args.kept.flags.now c.args.table.now c.requires.steps c.loop-row.row r) in
+    let i = c.loop-row.invariant in
+    let e = emits_more c.args.net.now c.args.bid.now.path c.args.layout c.requires.setting c.args.kept.flags.now c.args.dag.now.arcs c.place-place.result l c.if-not-kept-place.false c.of.result.now all c.loop-row.dag.arcs c.loop-row.legs.items emits (λ k m. c.requires.starts k no_arc m) in
     record {
-      emits = rw (c.in_ok-add_arcs.ensures.arcs, c.in_ok-add_arcs.ensures.legs, n) e;
+      emits = emits_to c.args.net.now c.args.bid.now.path c.args.layout c.requires.setting c.args.kept.flags.now c.args.dag.now.arcs (c.place-place.result + 1) (place_or c.args.table.now (c.loop-row.row + 1) (places_of c.args.layout)) _ _ next none
+          (rw (c.in_ok-add_arcs.ensures.arcs, c.in_ok-add_arcs.ensures.legs, n) e);
       ends = c.in_ok-add_arcs.ensures.ends ∙ i.ends;
-      few = rw (c.in_ok-add_arcs.ensures.legs) (legs_few c.args.net.now c.args.bid.now.path c.args.layout c.requires.setting c.args.kept.flags.now c.loop-place.place l i.few.0 i.few.1 (length c.loop-place.legs.items) i.few.2 c.of.result.now few c.loop-place.legs.items refl);
+      few = rw (c.in_ok-add_arcs.ensures.legs) (few_to c.args.net.now c.args.bid.now.path c.args.layout c.requires.setting c.args.kept.flags.now (c.place-place.result + 1) (place_or c.args.table.now (c.loop-row.row + 1) (places_of c.args.layout)) _ next most
+          (legs_few c.args.net.now c.args.bid.now.path c.args.layout c.requires.setting c.args.kept.flags.now c.place-place.result l count.0 count.1 (length c.loop-row.legs.items) count.2 c.of.result.now few c.loop-row.legs.items refl));
     }
 
 pub returns-clause-arcs : goal.returns-clause-arcs
 returns-clause-arcs c =
-    let z : c.loop-place.place ≡ places_of c.args.layout = omega (arith, c.places-place-end.ensures.value, c.loop-place-test.false, c.loop-place.auto.place-end) in
-    subst (λ (p : ℕ). Emits c.args.net.now c.args.bid.now.path c.args.layout c.args.kept.flags.now p c.args.dag.now.arcs c.loop-place.dag.arcs c.loop-place.legs.items) z c.loop-place.invariant.emits
+    let end = c.rows-row-end.ensures in
+    let past = c.loop-row-test.false in
+    let z = place_end c.args.net.now c.args.bid.now.path c.args.layout (places_of c.args.layout) c.args.kept.flags.now c.args.table.now c.requires.steps c.loop-row.row (omega (arith, end, past)) in
+    rw z at c.loop-row.invariant.emits

@@ -1,5 +1,5 @@
 -- One more place.
-use Rattle.std.proofs.Common.{rules, arith, ◌≡◌, ◌*◌, ◌<◌, ◌≤◌, ◌∙◌, ℕ, [], sym, subst, true, false, true≢false, length}
+use Rattle.std.proofs.Common.{rules, arith, ◌≡◌, ◌*◌, ◌<◌, ◌≤◌, ℕ, subst, true, false, length}
 use Rattle.optra_graph.specs.declared.states.State.{State}
 use Rattle.optra_graph.specs.Flags.{Marks}
 use Rattle.optra_graph.specs.Places.{places_of, state_of}
@@ -9,9 +9,9 @@ use Rattle.optra_graph.specs.StepTables.{AreStepsTo, IsGrown}
 use Rattle.optra_graph.proofs.ColumnLemmas.{columns_back}
 use Rattle.optra_graph.proofs.FlagLemmas.{read_flag}
 use Rattle.optra_graph.proofs.ReachLemmas.{marks_later, reached_start, reached_skip, reached_more, reached_all, steps_within}
-use Rattle.optra_graph.proofs.TableLemmas.{table_start, table_more}
+use Rattle.optra_graph.proofs.TableLemmas.{table_start, table_more, table_skip}
 use Rattle.optra_graph.proofs.reaching.reach.Goals as goal
-use Rattle.optra_graph.proofs.reaching.reach.Goals.{then-index+in_ok-fill_steps+in_ok-add, else-index+in_ok-skip}
+use Rattle.optra_graph.proofs.reaching.reach.Goals.{then-index+in_ok-fill_steps+in_ok-add, else-index}
 
 pub loop-place-init : goal.loop-place-init
 loop-place-init c = record {
@@ -40,19 +40,18 @@ loop-place-preserved c =
           let few = subst (λ (s : State). length w.fill_steps.new.steps.items ≤ 63 * length (out_tracks_of c.args.net.now.tracks s.station)) w.state.ensures.value w.in_ok-fill_steps.ensures.few in
           let set = read_flag c.loop-place.flags.items c.loop-place.place c.index.result.now true within c.index.ensures w.if-index.true in
           let marks : Marks w.fill_steps.new.steps.items c.loop-place.flags.items w.mark.new.flags.items = rw w.deref.ensures.value at w.mark.ensures in
-          let grown : IsGrown c.loop-place.table w.fill_steps.new.steps.items w.add.new.self = rw w.deref-then-index.ensures.value at w.in_ok-add.ensures in
+          let grown : IsGrown c.loop-place.table c.loop-place.place w.fill_steps.new.steps.items w.add.new.self = rw w.deref-then-index.ensures.value at w.in_ok-add.ensures in
           rw (w.flags-is, w.table-is) (record {
             reached = reached_more c.args.net.now c.args.bid.now.path c.args.layout c.requires.setting c.loop-place.place w.fill_steps.new.steps.items c.loop-place.flags.items w.mark.new.flags.items l set all marks c.loop-place.invariant.reached;
             steps = table_more c.args.net.now c.args.bid.now.path c.args.layout c.loop-place.place c.loop-place.flags.items w.mark.new.flags.items c.loop-place.table w.add.new.self w.fill_steps.new.steps.items
                 (marks_later c.args.net.now c.args.bid.now.path c.args.layout c.requires.setting c.loop-place.place w.fill_steps.new.steps.items c.loop-place.flags.items w.mark.new.flags.items l all marks)
-                c.loop-place.invariant.steps grown (λ s. all) (λ s. few);
+                c.loop-place.invariant.steps grown all few;
           })
-      | else-index+in_ok-skip w ↦
+      | else-index w ↦
           let unset = read_flag c.loop-place.flags.items c.loop-place.place c.index.result.now false within c.index.ensures w.if-index.false in
           rw (w.flags-is, w.table-is) (record {
             reached = reached_skip c.args.net.now c.args.bid.now.path c.args.layout c.requires.setting c.loop-place.place c.loop-place.flags.items unset c.loop-place.invariant.reached;
-            steps = table_more c.args.net.now c.args.bid.now.path c.args.layout c.loop-place.place c.loop-place.flags.items c.loop-place.flags.items c.loop-place.table w.skip.new.self []
-                (λ q m s. s) c.loop-place.invariant.steps w.in_ok-skip.ensures (λ s. absurd (true≢false (sym s ∙ unset))) (λ s. absurd (true≢false (sym s ∙ unset)));
+            steps = table_skip c.args.net.now c.args.bid.now.path c.args.layout c.loop-place.place c.loop-place.flags.items c.loop-place.table unset c.loop-place.invariant.steps;
           })
     ]
 

@@ -1,9 +1,11 @@
-use Rattle.std.proofs.Common.{◌≡◌, ◌<◌, ◌≤◌, length, set, Some, slice_get, refl, sym, ap, ◌∙◌, subst, arith}
-use Rattle.std.proofs.lemmas.List.{set-get_or}
-use Rattle.std.proofs.lemmas.Option.{slice_get_read}
+use Rattle.std.proofs.Common.{◌≡◌, ◌+◌, ◌<◌, ◌≤◌, List, length, get_or, Some, slice_get, refl, sym, ap, ◌∙◌, subst, arith}
+use Rattle.std.proofs.lemmas.List.{nil_from_length}
+use Rattle.std.proofs.lemmas.Option.{slice_get-get_or}
 use Rattle.optra_dag.specs.Paths.{Graph}
-use Rattle.optra_prices.specs.Marks.{IsMark}
-use Rattle.optra_prices.proofs.AllowLemmas.{told_more, told_all, arc_mark, neither}
+use Rattle.optra_prices.specs.ArcTerms.{ArcTerm}
+use Rattle.optra_prices.specs.NarrowArcs.{with_mark}
+use Rattle.optra_prices.specs.Tables.{no_arc}
+use Rattle.optra_prices.proofs.AllowLemmas.{AreToldUpTo, told_more, told_all, arc_mark, neither}
 use Rattle.optra_prices.proofs.allowing.allow_arcs.Goals as goal
 
 pub loop-k-preserved : goal.loop-k-preserved
@@ -11,8 +13,8 @@ loop-k-preserved g c =
     let s = c.args.summary.now in
     let rows = g.F.RowFamily.rows_of s.family s.net in
     let t = c.args.graph.now in
-    let old = c.args.arcs.now.items in
-    let arcs = c.loop-k.arcs.items in
+    let old = c.args.arcs.now in
+    let arcs = c.loop-k.arcs in
     let k = c.loop-k.k in
     let inv = c.loop-k.invariant in
     let count = c.arcs-k-end.ensures.count in
@@ -20,20 +22,20 @@ loop-k-preserved g c =
     let kept = inv.told.count_is in
     let given = c.requires.tells.count in
     let within : k < length arcs = omega arith in
-    let arc = c.index_mut-arc.result.now in
-    let after = c.set_allowed-other.new.arc in
-    let at : slice_get arcs k ≡ Some arc = slice_get_read arcs (length arcs) k arc refl within c.index_mut-arc.ensures.value in
+    let arc = get_or arcs k no_arc in
+    let after = with_mark arc c.let_arc-allowed.result in
+    let at : slice_get arcs k ≡ Some arc = slice_get-get_or arcs k no_arc within in
     let before : slice_get old k ≡ Some arc = sym (inv.told.left k (omega arith)) ∙ at in
     let told = c.tell_group-last.ensures in
-    let mark = arc_mark s.net rows s.bids s.node c.args.number c.args.room.now t c.args.groups.now old c.requires.tells k arc c.tell_group-last.result c.let_arc-allowed.result before (told.group ∙ c.group.ensures) told.told c.let_arc-allowed.ensures in
+    let mark = arc_mark s.net rows s.bids s.node c.args.number c.args.room.now t c.args.groups.now old c.requires.tells k arc c.tell_group-last.result c.let_arc-allowed.result before (told.group ∙ c.group.ensures ∙ ap (λ (xs : List ArcTerm). (get_or xs k no_arc).group) c.slice.ensures) told.told c.let_arc-allowed.ensures in
     let put = c.set_allowed-other.ensures in
     record {
-      told = told_more s.net rows s.bids s.node c.args.number t k old arcs arc after inv.told at
-          (record { value_is = put.value; group_is = put.group; mark = subst (IsMark s.net rows s.bids s.node c.args.number t k) (sym put.allowed) mark });
+      told = subst (AreToldUpTo s.net rows s.bids s.node c.args.number t (k + 1) old) (sym put.set) (told_more s.net rows s.bids s.node c.args.number t k old arcs arc after inv.told at
+          (record { value_is = refl; group_is = refl; mark = mark }));
       last = told.told;
       same = λ e.
           let none = neither c.loop-k.changed c.set_allowed-other.result (sym c.either-changed.ensures ∙ e) in
-          ap (set arcs k) (put.same none.1 ∙ c.index_mut-arc.ensures.value) ∙ set-get_or arcs k arc ∙ inv.same none.0;
+          put.same none.1 ∙ inv.same none.0;
     }
 
 pub returns : goal.returns
@@ -42,8 +44,13 @@ returns g c =
     let count = c.arcs-k-end.ensures.count in
     let dag = ap (λ (d : Graph). length d.arcs) c.dag.ensures in
     let given = c.requires.tells.count in
-    let done : length c.args.arcs.now.items ≤ c.loop-k.k = omega arith in
+    let done : length c.args.arcs.now ≤ c.loop-k.k = omega arith in
     record {
-      told = told_all s.net (g.F.RowFamily.rows_of s.family s.net) s.bids s.node c.args.number c.args.graph.now c.loop-k.k c.args.arcs.now.items c.loop-k.arcs.items c.loop-k.invariant.told done;
+      told = told_all s.net (g.F.RowFamily.rows_of s.family s.net) s.bids s.node c.args.number c.args.graph.now c.loop-k.k c.args.arcs.now c.loop-k.arcs c.loop-k.invariant.told done;
       same = c.loop-k.invariant.same;
     }
+
+pub let_arc-allowed-requires-clause-own : goal.let_arc-allowed-requires-clause-own
+let_arc-allowed-requires-clause-own g c none =
+    let empty : length c.own.result.now ≡ 0 = grind (arith, none, c.is_empty-has_own.ensures) in
+    sym c.own.ensures ∙ nil_from_length c.own.result.now empty

@@ -45,9 +45,9 @@ allow_table-changed-requires-clause-tells g c =
     let new = c.take_placed.new.room in
     let proper = c.args.inst.proper in
     let lists = λ (kind : TypeId) (leg : Leg) (usable : IsUsable net kind leg). g.met.F.RowFamily.lists_rows f net kind leg usable in
-    let takes = subst (λ (cs : List Claim). TakesUses (placed_uses cs places) old.room.uses.items new.uses.items) c.deref.ensures.value c.take_placed.ensures.uses in
+    let takes = subst (λ (cs : List Claim). TakesUses (placed_uses cs places) old.room.loads.uses new.loads.uses) c.deref.ensures.value c.take_placed.ensures.uses in
     let room = room_without rows bids numbered node old.claims.items is.claims_are n places c.places-places.ensures old.room new is.room_is takes c.take_placed.ensures.capacities in
-    subst (λ (x : Summed g.row.F.Denot). RoomTells (g.F.RowFamily.rows_of x.family x.net) x.bids x.node n new table.graph.now c.args.grouping.now.groups.now table.arcs.items) (sym c.requires.summary)
+    subst (λ (x : Summed g.row.F.Denot). RoomTells (g.F.RowFamily.rows_of x.family x.net) x.bids x.node n new table.graph.now c.args.grouping.now.groups.now table.arcs) (sym c.requires.summary)
     (table_tells g.F.Row.Ord.cmp net proper rows used lists bids node n numbered new room c.args.grouping.now.groups.now table c.requires.table)
 
 pub returns-clause-decided : goal.returns-clause-decided
@@ -64,7 +64,7 @@ returns-clause-decided g c =
     let own = c.places-places.ensures in
     let mid = c.take_placed.new.room in
     let new = c.add_placed.new.room in
-    let takes = subst (λ (cs : List Claim). TakesUses (placed_uses cs places) old.room.uses.items mid.uses.items) c.deref.ensures.value c.take_placed.ensures.uses in
-    let adds = subst (λ (cs : List Claim). AddsUses (placed_uses cs places) mid.uses.items new.uses.items) c.deref-2.ensures.value c.in_ok-add_placed.ensures.uses in
+    let takes = subst (λ (cs : List Claim). TakesUses (placed_uses cs places) old.room.loads.uses mid.loads.uses) c.deref.ensures.value c.take_placed.ensures.uses in
+    let adds = subst (λ (cs : List Claim). AddsUses (placed_uses cs places) mid.loads.uses new.loads.uses) c.deref-2.ensures.value c.in_ok-add_placed.ensures.uses in
     let beside = room_without rows bids numbered node claims is.claims_are n places own old.room mid is.room_is takes c.take_placed.ensures.capacities in
     record { decisions_are = is.decisions_are; formed = is.formed; claims_are = is.claims_are; room_is = room_with rows bids numbered node claims is.claims_are n places own mid new beside adds c.in_ok-add_placed.ensures.capacities }

@@ -7,7 +7,7 @@ returns-clause-brought g c =
     let told = c.allow_arcs-arcs.ensures.told in
     record {
       graph = refl;
-      groups = same_groups c.args.table.now.arcs.items c.allow_arcs-arcs.new.arcs.items told.count_is (λ k before after old_at new_at. (told.each k before after old_at new_at).group_is);
+      groups = same_groups c.args.table.now.arcs c.allow_arcs-arcs.new.arcs told.count_is (λ k before after old_at new_at. (told.each k before after old_at new_at).group_is);
       arcs = λ e. c.allow_arcs-arcs.ensures.same (neither _ _ (sym c.either.ensures ∙ e)).0;
       forced = λ e. c.set_forced-forced.ensures.same (neither _ _ (sym c.either.ensures ∙ e)).1;
     }

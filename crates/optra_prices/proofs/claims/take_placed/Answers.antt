@@ -13,9 +13,9 @@ loop-place-preserved c =
     let claims = c.args.claims.now in
     let places = c.args.places.now in
     let k = c.loop-place.place-index in
-    let old = c.args.room.now.uses.items in
-    let mid = c.loop-place.room.uses.items in
-    let new = c.take_touches.new.room.uses.items in
+    let old = c.args.room.now.loads.uses in
+    let mid = c.loop-place.room.loads.uses in
+    let new = c.take_touches.new.room.loads.uses in
     let more = subst (λ (touches : List Touch). TakesUses (touch_uses touches) mid new) c.touches_at.ensures is.uses in
     let sum = λ (n : ℕ). sym (sum_by_more (λ (p : ℕ). touch_uses (touches_at claims p) n) places k 0 c.loop-place-test.true) in
     record {

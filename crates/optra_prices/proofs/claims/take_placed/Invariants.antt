@@ -5,6 +5,6 @@ use Rattle.optra_prices.proofs.claims.take_placed.Given as goal
 
 abbrev pub invariant-loop-place : goal.invariant-loop-place
 invariant-loop-place l = record {
-  uses : TakesUses (placed_uses l.claims (take l.place-index l.places)) l.fn.room.uses.items l.room.uses.items;
-  capacities : l.room.capacities ≡ l.fn.room.capacities;
+  uses : TakesUses (placed_uses l.claims (take l.place-index l.places)) l.fn.room.loads.uses l.room.loads.uses;
+  capacities : l.room.loads.capacities ≡ l.fn.room.loads.capacities;
 }

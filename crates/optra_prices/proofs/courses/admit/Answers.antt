@@ -1,4 +1,4 @@
-use Rattle.std.proofs.Common.{List, length, take, sym, ap, ◌∙◌, subst, arith}
+use Rattle.std.proofs.Common.{ℕ, List, length, take, sym, ap, ◌∙◌, subst, arith}
 use Rattle.std.specs.Prelude.{All}
 use Rattle.optra_node.specs.declared.Decision.{Decision}
 use Rattle.optra_node.specs.Nodes.{IsFormedDecision}
@@ -18,7 +18,7 @@ widen-requires-clause-few g c =
     let kept = c.args.kept.now in
     let l = extends_longer kept.numbering.rows.items c.number_more.new.numbering.rows.items c.in_ok-number_more.ensures.extends in
     let n = c.requires.course.is.price_count in
-    let e = ap length c.deref.ensures.value in
+    let e = ap length c.rows.ensures in
     let same = ap (λ v. length v.items) c.forget_paths.ensures.prices.prices in
     omega arith
 
@@ -29,9 +29,9 @@ widen-requires-clause-capacities g c =
     let keeps = c.forget_paths.ensures.prices in
     let rows = g.F.RowFamily.rows_of c.args.rows.now c.args.inst.net.now in
     let numbered = c.number_more.new.numbering.rows.items in
-    let before = capacities_before rows kept.numbering.rows.items numbered (length kept.levels.prices.items) kept.levels.capacities.items c.requires.course.is.price_count c.in_ok-number_more.ensures.extends c.requires.course.is.capacities in
-    subst (λ (rs : List g.row.F-Row.Denot). HaveCapacities rows (take (length forgot.prices.items) rs) forgot.capacities.items) (sym c.deref.ensures.value)
-    (subst (λ v. HaveCapacities rows (take (length v.items) numbered) forgot.capacities.items) (sym keeps.prices) (subst (λ v. HaveCapacities rows (take (length kept.levels.prices.items) numbered) v.items) (sym keeps.capacities) before))
+    let before = capacities_before rows kept.numbering.rows.items numbered (length kept.levels.prices.items) kept.levels.loads.capacities c.requires.course.is.price_count c.in_ok-number_more.ensures.extends c.requires.course.is.capacities in
+    subst (λ (rs : List g.row.F-Row.Denot). HaveCapacities rows (take (length forgot.prices.items) rs) forgot.loads.capacities) (sym c.rows.ensures)
+    (subst (λ v. HaveCapacities rows (take (length v.items) numbered) forgot.loads.capacities) (sym keeps.prices) (subst (λ (cs : List ℕ). HaveCapacities rows (take (length kept.levels.prices.items) numbered) cs) (sym keeps.capacities) before))
 
 pub returns-clause-course : goal.returns-clause-course
 returns-clause-course g c =
@@ -49,10 +49,10 @@ returns-clause-course g c =
       is = record {
         numbering = more.numbering;
         rows = more.rows;
-        capacities = subst (λ (rs : List g.row.F-Row.Denot). HaveCapacities rows rs c.widen.new.levels.capacities.items) c.deref.ensures.value wide.capacities;
-        price_count = wide.count ∙ ap length c.deref.ensures.value;
+        capacities = subst (λ (rs : List g.row.F-Row.Denot). HaveCapacities rows rs c.widen.new.levels.loads.capacities) c.rows.ensures wide.capacities;
+        price_count = wide.count ∙ ap length c.rows.ensures;
         levels = wide.levels;
-        counted = none_counted kept.columns.groups kept.tables.items (paths_in c.forget_paths.new.counted.items) c.widen.new.levels.uses.items (c.forget_paths.ensures.count ∙ is.counted.count) c.forget_paths.ensures.empty wide.unused;
+        counted = none_counted kept.columns.groups kept.tables.items (paths_in c.forget_paths.new.counted.items) c.widen.new.levels.loads.uses (c.forget_paths.ensures.count ∙ is.counted.count) c.forget_paths.ensures.empty wide.unused;
         columns = is.columns;
         tables = tables_kept s (length s.bids) kept.numbering.rows.items numbering.rows.items kept.columns.groups kept.tables.items more.extends is.tables;
         stand = is.stand;

@@ -44,7 +44,7 @@ pub dual_value-kept-requires-clause-capacity : goal.dual_value-kept-requires-cla
 dual_value-kept-requires-clause-capacity g c =
     let levels = c.args.kept.now.levels in
     let is = c.requires.moved.is.levels in
-    let range = capacity_range levels.prices.items levels.capacities.items (length levels.prices.items) is.range is.small in
+    let range = capacity_range levels.prices.items levels.loads.capacities (length levels.prices.items) is.range is.small in
     let a = is.capacity_is in
     let b = range.0 in
     let d = range.1 in
@@ -100,7 +100,7 @@ returns-clause-priced g c =
         capacities = is.capacities;
         price_count = is.price_count;
         levels = is.levels;
-        counted = subst (λ groups. AreCounted groups tables (paths_in kept.counted.items) kept.levels.uses.items) (sym (same ∙ c.reprice.ensures.columns.groups_are)) is.counted;
+        counted = subst (λ groups. AreCounted groups tables (paths_in kept.counted.items) kept.levels.loads.uses) (sym (same ∙ c.reprice.ensures.columns.groups_are)) is.counted;
         columns = own_columns priced.groups columns c.still.ensures.columns;
         tables = subst (λ groups. AreTables s (length s.bids) kept.numbering.rows.items groups tables) (sym (same ∙ c.reprice.ensures.columns.groups_are)) is.tables;
         stand = subst (λ v. AllStand tables v.items standings) (sym c.still.ensures.same) stand;

@@ -16,7 +16,7 @@ pub assemble-requires-clause-capacity : goal.assemble-requires-clause-capacity
 assemble-requires-clause-capacity g c =
     let levels = c.args.kept.now.levels in
     let is = c.requires.priced.course.is.levels in
-    let range = capacity_range levels.prices.items levels.capacities.items (length levels.prices.items) is.range is.small in
+    let range = capacity_range levels.prices.items levels.loads.capacities (length levels.prices.items) is.range is.small in
     let a = is.capacity_is in
     let b = range.0 in
     let d = range.1 in
@@ -35,7 +35,7 @@ assemble-requires-clause-small g c =
     let kept = c.args.kept.now in
     let is = c.requires.priced.course.is in
     let sound = tables_sound s kept.numbering.rows.items kept.columns.groups kept.tables.items is.tables in
-    subst (All (λ (x : Standing). IsTermSize x.term)) (sym c.deref-4.ensures.value) (terms_small kept.tables.items kept.columns.grouped.items kept.standings.items sound is.columns.range is.stand)
+    subst (All (λ (x : Standing). IsTermSize x.term)) (sym c.deref-2.ensures.value) (terms_small kept.tables.items kept.columns.grouped.items kept.standings.items sound is.columns.range is.stand)
 
 pub returns-clause-dual : goal.returns-clause-dual
 returns-clause-dual g c =
@@ -46,6 +46,6 @@ returns-clause-dual g c =
     let is = c.requires.priced.course.is in
     let whole : FitsSigned w128 kept.levels.capacity = search rules in
     let capacity = to_z-of_z w128 kept.levels.capacity whole ∙ is.levels.capacity_is ∙ capacity_is g.F.Row.Ord.cmp g.met.F.Row.Ord.total g.met.F.RowFamily.tells_apart s kept is.numbering.ordered is in
-    c.in_ok-dual.ensures ∙ ap (λ (ts : List BidTable). valuation_of (to_z w128 (of_z w128 kept.levels.capacity)) ts c.deref-4.result.now) c.deref-3.ensures.value
-    ∙ ap (λ (ss : List Standing). valuation_of (to_z w128 (of_z w128 kept.levels.capacity)) kept.tables.items ss) c.deref-4.ensures.value
+    c.in_ok-dual.ensures ∙ ap (λ (ts : List BidTable). valuation_of (to_z w128 (of_z w128 kept.levels.capacity)) ts c.deref-2.result.now) c.deref.ensures.value
+    ∙ ap (λ (ss : List Standing). valuation_of (to_z w128 (of_z w128 kept.levels.capacity)) kept.tables.items ss) c.deref-2.ensures.value
     ∙ ap (λ (z : ℤ). valuation_of z kept.tables.items kept.standings.items) capacity

@@ -22,7 +22,7 @@ count_uses-requires-clause-groups g c =
 pub count_uses-requires-clause-counted : goal.count_uses-requires-clause-counted
 count_uses-requires-clause-counted g c =
     let kept = c.args.kept.now in
-    subst (λ (tables : List BidTable). AreCounted kept.columns.groups tables (paths_in kept.counted.items) kept.levels.uses.items) (sym c.deref.ensures.value) c.requires.course.is.counted
+    subst (λ (tables : List BidTable). AreCounted kept.columns.groups tables (paths_in kept.counted.items) kept.levels.loads.uses) (sym c.deref.ensures.value) c.requires.course.is.counted
 
 pub count_uses-requires-clause-standings : goal.count_uses-requires-clause-standings
 count_uses-requires-clause-standings g c = ap length c.deref-2.ensures.value ∙ c.requires.course.is.stand.count_is ∙ ap length (sym c.deref.ensures.value)
@@ -38,9 +38,9 @@ returns-clause-moved g c =
     let counted = c.count_uses.new.counted in
     let counts = c.in_ok-count_uses.ensures in
     let moves = c.in_ok-move_prices.ensures in
-    let counted_is = subst (λ (tables : List BidTable). AreCounted kept.columns.groups tables (paths_in counted.items) used.uses.items) c.deref.ensures.value counts.counted in
+    let counted_is = subst (λ (tables : List BidTable). AreCounted kept.columns.groups tables (paths_in counted.items) used.loads.uses) c.deref.ensures.value counts.counted in
     record {
-      is = counted_on g.F.Row.Ord.cmp s kept c.move_prices.new.columns moves.columns c.move_prices.new.levels counted is moves.levels (subst (λ v. AreCounted kept.columns.groups kept.tables.items (paths_in counted.items) v.items) (sym moves.rest.uses) counted_is)
+      is = counted_on g.F.Row.Ord.cmp s kept c.move_prices.new.columns moves.columns c.move_prices.new.levels counted is moves.levels (subst (λ (us : List ℕ). AreCounted kept.columns.groups kept.tables.items (paths_in counted.items) us) (sym moves.rest.uses) counted_is)
           (moves.prices.count ∙ ap (λ v. length v.items) counts.prices.prices) (moves.rest.capacities ∙ counts.prices.capacities) moves.grouped;
       due = moves.due;
     }
@@ -57,8 +57,8 @@ returns-clause-step g c =
     let counts = c.in_ok-count_uses.ensures in
     let moves = c.in_ok-move_prices.ensures in
     let paths = counts.paths ∙ ap paths_of c.deref-2.ensures.value in
-    let uses : AreUses kept.columns.groups kept.tables.items (paths_of kept.standings.items) used.uses.items = subst (λ (ps : List (List ℕ)). AreUses kept.columns.groups kept.tables.items ps used.uses.items) paths
-    (subst (λ (tables : List BidTable). AreUses kept.columns.groups tables (paths_in c.count_uses.new.counted.items) used.uses.items) c.deref.ensures.value counts.counted.uses_are)
+    let uses : AreUses kept.columns.groups kept.tables.items (paths_of kept.standings.items) used.loads.uses = subst (λ (ps : List (List ℕ)). AreUses kept.columns.groups kept.tables.items ps used.loads.uses) paths
+    (subst (λ (tables : List BidTable). AreUses kept.columns.groups tables (paths_in c.count_uses.new.counted.items) used.loads.uses) c.deref.ensures.value counts.counted.uses_are)
     in
     let fits : FitsSigned w64 c.step_length-by.result = search rules in
     let by = to_z w64 (of_z w64 c.step_length-by.result) in

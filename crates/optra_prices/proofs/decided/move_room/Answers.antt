@@ -59,12 +59,12 @@ returns g c =
     let taken = c.take_claims.new.room in
     let room = c.add_claims.new.room in
     let base = yes_load rows bids (take k before) in
-    let takes = subst (λ (cs : List Claim). TakesUses (claim_uses cs) decided.room.uses.items taken.uses.items) left c.take_claims.ensures.uses in
+    let takes = subst (λ (cs : List Claim). TakesUses (claim_uses cs) decided.room.loads.uses taken.loads.uses) left c.take_claims.ensures.uses in
     let left_are = zip_drop zip k before claims is.claims_are in
     let beside = room_takes rows numbered (claim_uses (drop k claims)) base (yes_load rows bids (drop k before)) (λ n row at. claims_load rows bids numbered n row at (drop k before) (drop k claims) left_are) decided.room taken
     (room_parts rows bids numbered k before decided.room is.room_is) takes c.take_claims.ensures.capacities
     in
-    let adds = subst (λ (cs : List Claim). AddsUses (claim_uses cs) taken.uses.items room.uses.items) c.deref-2.ensures.value c.in_ok-add_claims.ensures.uses in
+    let adds = subst (λ (cs : List Claim). AddsUses (claim_uses cs) taken.loads.uses room.loads.uses) c.deref-2.ensures.value c.in_ok-add_claims.ensures.uses in
     let whole = room_adds rows numbered (claim_uses more) base (yes_load rows bids (drop k node)) (λ n row at. claims_load rows bids numbered n row at (drop k node) more c.requires.claims) taken room beside adds c.in_ok-add_claims.ensures.capacities in
     let kept_are = subst (λ (ds : List Decision). AreClaims rows bids numbered ds (take k claims)) c.requires.shared (zip_take zip k before claims is.claims_are) in
     let all_are = subst (λ (ds : List Decision). AreClaims rows bids numbered ds (take k claims ++ more)) (take-append-drop k node) (zip_append zip (take k node) (drop k node) (take k claims) more kept_are c.requires.claims) in

@@ -20,6 +20,6 @@ returns g c =
     let new = c.add_claims.new.room in
     let are = subst (λ (ds : List Decision). AreClaims rows bids numbered ds claims) c.deref.ensures.value c.in_ok-claims.ensures in
     let added = c.in_ok-add_claims.ensures in
-    let adds = subst (λ (cs : List Claim). AddsUses (claim_uses cs) room.uses.items new.uses.items) c.deref-2.ensures.value added.uses in
+    let adds = subst (λ (cs : List Claim). AddsUses (claim_uses cs) room.loads.uses new.loads.uses) c.deref-2.ensures.value added.uses in
     let is = room_adds rows numbered (claim_uses claims) (λ row. 0) load (λ n row at. claims_load rows bids numbered n row at decisions claims are) room new c.in_ok-room.ensures adds added.capacities in
     record { decisions_are = refl; formed = c.requires.decisions; claims_are = are; room_is = same_room rows numbered (λ row. 0 + load row) load new (λ row. omega arith) is }

@@ -53,7 +53,7 @@ first_standings-requires-clause-sound g c =
     let s : Setting g.row.F-Row.Denot = setting net (g.F.RowFamily.rows_of f net) (g.F.RowFamily.rows_used f net) c.args.inst.bids.now c.root-node.result in
     let making = c.in_ok-made.made in
     let node_is = ap (λ (x : Summed g.row.F.Denot). x.node) c.in_ok-summary.ensures in
-    subst (All IsSound) (sym c.deref-3.ensures.value) (tables_sound s making.numbering.rows.items making.groups c.allow_told.new.tables.items (subst (λ (ds : List Decision). AreTables (setting net (g.F.RowFamily.rows_of f net) (g.F.RowFamily.rows_used f net) c.args.inst.bids.now ds) (length c.args.inst.bids.now) making.numbering.rows.items making.groups c.allow_told.new.tables.items) node_is c.in_ok-allow_told.ensures.tables))
+    subst (All IsSound) (sym c.deref-2.ensures.value) (tables_sound s making.numbering.rows.items making.groups c.allow_told.new.tables.items (subst (λ (ds : List Decision). AreTables (setting net (g.F.RowFamily.rows_of f net) (g.F.RowFamily.rows_used f net) c.args.inst.bids.now ds) (length c.args.inst.bids.now) making.numbering.rows.items making.groups c.allow_told.new.tables.items) node_is c.in_ok-allow_told.ensures.tables))
 
 pub returns : goal.returns
 returns g c =
@@ -75,8 +75,8 @@ returns g c =
     let made = c.in_ok-columns.ensures in
     let wide = c.in_ok-widen.ensures in
     let levels = c.widen.new.levels in
-    let stand : AllStand tables [] zero = subst (λ (ts : List BidTable). AllStand ts [] zero) c.deref-3.ensures.value c.in_ok-zero.ensures in
-    let same : AreCopies zero copies = subst (λ (xs : List Standing). AreCopies xs copies) c.deref-4.ensures.value c.in_ok-standings.ensures in
+    let stand : AllStand tables [] zero = subst (λ (ts : List BidTable). AllStand ts [] zero) c.deref-2.ensures.value c.in_ok-zero.ensures in
+    let same : AreCopies zero copies = subst (λ (xs : List Standing). AreCopies xs copies) c.deref-3.ensures.value c.in_ok-standings.ensures in
     let groups = made.columns.groups_are in
     let counted = c.in_ok-counted.counted in
     let none = c.in_ok-counted.ensures in
@@ -89,15 +89,15 @@ returns g c =
         is = record {
           numbering = is.numbering;
           rows = is.rows_are;
-          capacities = subst (λ (rs : List g.row.F-Row.Denot). HaveCapacities rows rs levels.capacities.items) c.deref.ensures.value wide.capacities;
-          price_count = wide.count ∙ ap length c.deref.ensures.value;
+          capacities = subst (λ (rs : List g.row.F-Row.Denot). HaveCapacities rows rs levels.loads.capacities) c.rows.ensures wide.capacities;
+          price_count = wide.count ∙ ap length c.rows.ensures;
           levels = wide.levels;
-          counted = none_counted columns.groups tables (paths_in counted.items) levels.uses.items counted_count counted_empty wide.unused;
+          counted = none_counted columns.groups tables (paths_in counted.items) levels.loads.uses counted_count counted_empty wide.unused;
           columns = own_columns making.groups columns made.columns;
           tables = subst (λ gs. AreTables s (length s.bids) numbered gs tables) (sym groups) tables_at;
           stand = stand_free tables columns.grouped.items copies (free_groups columns.groups.starts.items columns.groups.touches.items columns.grouped.items made.columns.count free) (copies_stand tables [] zero copies same stand);
           zero = stand;
-          holders = subst (λ (ts : List BidTable). AreHolders ts c.in_ok-holders.holders) c.deref-2.ensures.value c.in_ok-holders.ensures;
+          holders = subst (λ (ts : List BidTable). AreHolders ts c.in_ok-holders.holders) c.deref.ensures.value c.in_ok-holders.ensures;
           decided = subst (λ (ds : List Decision). IsDecided net rows c.args.inst.bids.now numbered ds c.allow_told.new.decided) node_is c.in_ok-allow_told.ensures.decided;
         };
         still = made.still;

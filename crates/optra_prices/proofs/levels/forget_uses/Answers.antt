@@ -7,9 +7,9 @@ use Rattle.optra_prices.proofs.levels.forget_uses.Goals as goal
 pub returns-clause-levels : goal.returns-clause-levels
 returns-clause-levels c =
     let old = c.args.levels.now in
-    let count = length old.uses.items in
-    less_levels old c.set_zero.new.self c.requires (ap length c.set_zero.ensures ∙ length-replicate count 0)
-    (λ n. let e = ap (λ (xs : List ℕ). slice_index xs n) c.set_zero.ensures ∙ none_at count n in omega arith)
+    let count = length old.loads.uses in
+    less_levels old c.clear.new.self c.requires (ap length c.clear.ensures.uses ∙ length-replicate count 0) c.clear.ensures.capacities
+    (λ n. let e = ap (λ (xs : List ℕ). slice_index xs n) c.clear.ensures.uses ∙ none_at count n in omega arith)
 
 pub returns-clause-unused : goal.returns-clause-unused
-returns-clause-unused c = λ n. ap (λ (xs : List ℕ). slice_index xs n) c.set_zero.ensures ∙ none_at (length c.args.levels.now.uses.items) n
+returns-clause-unused c = λ n. ap (λ (xs : List ℕ). slice_index xs n) c.clear.ensures.uses ∙ none_at (length c.args.levels.now.loads.uses) n

@@ -1,4 +1,4 @@
-use Rattle.std.proofs.Common.{◌≡◌, ◌<◌, ◌≤◌, length, refl, sym, ap, ◌∙◌, subst, arith, rules, to_z, of_z}
+use Rattle.std.proofs.Common.{◌≡◌, ◌<◌, ◌≤◌, ℕ, List, length, refl, sym, ap, ◌∙◌, subst, arith, rules, to_z, of_z}
 use Rattle.std.specs.Prelude.{ℤ, pos, ◌≤ℤ◌, slice_index, FitsSigned}
 use Rattle.std.specs.Int.{w64}
 use Rattle.std.proofs.lemmas.Int.{ints, to_z-of_z}
@@ -43,7 +43,7 @@ rows-preserved c =
     let left = inv.moving.left number (record { place = k; from = omega arith; within = l; is = read }) in
     let price_is : price ≡ next_at by old number =
     to_z-of_z w64 c.next_price_at-price.result fits ∙ c.next_price_at-price.ensures.value ∙ ap (λ (z : ℤ). next_price by z (use_of now number) (capacity_of now number)) left
-    ∙ ap (λ v. next_price by (price_of old number) (slice_index v.items number) (capacity_of now number)) inv.rest.uses ∙ ap (λ v. next_price by (price_of old number) (use_of old number) (slice_index v.items number)) inv.rest.capacities
+    ∙ ap (λ (us : List ℕ). next_price by (price_of old number) (slice_index us number) (capacity_of now number)) inv.rest.uses ∙ ap (λ (cs : List ℕ). next_price by (price_of old number) (use_of old number) (slice_index cs number)) inv.rest.capacities
     in
     record {
       levels = is.levels;

@@ -1,4 +1,4 @@
-use Rattle.std.proofs.Common.{ℕ, ap, ◌∙◌, arith, rules, to_z, of_z}
+use Rattle.std.proofs.Common.{ℕ, ap, ◌∙◌, rules, to_z, of_z}
 use Rattle.std.specs.Prelude.{ℤ, pos, ◌≤ℤ◌, FitsSigned}
 use Rattle.std.specs.Int.{w64}
 use Rattle.std.proofs.lemmas.Int.{to_z-of_z}
@@ -18,16 +18,16 @@ returns-clause-value c =
     let is = c.requires.levels in
     let by = c.args.by in
     let used = use_of levels number in
-    let capacity = c.index-2.result.now in
+    let capacity = c.capacity.result in
     let f1 : FitsSigned w64 by = search rules in
     let f2 : FitsSigned w64 c.next_price.result = search rules in
     let f3 : FitsSigned w64 c.index.result.now = search rules in
     let one : pos 1 ≤ℤ by = c.requires.by.0 in
     let price_is = to_z-of_z w64 c.index.result.now f3 ∙ get_or_read levels.prices.items number c.index.result.now c.requires.within c.index.ensures (pos 0) in
-    let capacity_is = get_or_read levels.capacities.items number capacity (let count = is.capacity_count in let within = c.requires.within in omega arith) c.index-2.ensures 0 in
+    let capacity_is = c.capacity.ensures in
     to_z-of_z w64 c.next_price.result f2 ∙ c.next_price.ensures.value
-    ∙ ap (λ (z : ℤ). next_price z (to_z w64 (of_z w64 c.index.result.now)) c.capped.result capacity) (to_z-of_z w64 by f1)
-    ∙ ap (λ (z : ℤ). next_price by z c.capped.result capacity) price_is
-    ∙ ap (λ (u : ℕ). next_price by (price_of levels number) u capacity) c.capped.ensures
+    ∙ ap (λ (z : ℤ). next_price z (to_z w64 (of_z w64 c.index.result.now)) c.used.result capacity) (to_z-of_z w64 by f1)
+    ∙ ap (λ (z : ℤ). next_price by z c.used.result capacity) price_is
+    ∙ ap (λ (u : ℕ). next_price by (price_of levels number) u capacity) c.used.ensures
     ∙ ap (λ (m : ℕ). next_price by (price_of levels number) (held_use used) m) capacity_is
-    ∙ next_held_use by (price_of levels number) used (capacity_of levels number) one (row_price_or levels.prices.items number is.range).0 (small_at levels.capacities.items number is.small)
+    ∙ next_held_use by (price_of levels number) used (capacity_of levels number) one (row_price_or levels.prices.items number is.range).0 (small_at levels.loads.capacities number is.small)

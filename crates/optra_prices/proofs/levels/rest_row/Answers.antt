@@ -1,4 +1,4 @@
-use Rattle.std.proofs.Common.{◌≡◌, ◌<◌, ◌≤◌, ℕ, List, false, length, set, refl, sym, ap, ◌∙◌, subst, arith, rules, to_z}
+use Rattle.std.proofs.Common.{◌≡◌, ◌<◌, ◌≤◌, ℕ, List, false, length, set, refl, sym, ap, ◌∙◌, subst, rules, to_z}
 use Rattle.std.specs.Prelude.{pos, slice_index, FitsSigned}
 use Rattle.std.specs.Int.{w64}
 use Rattle.std.proofs.lemmas.Int.{to_z-of_z}
@@ -20,8 +20,7 @@ returns-clause-levels c =
     let price = c.index.result.now in
     let fits : FitsSigned w64 price = search rules in
     let price_is : price_of old number ≡ pos 0 = sym (get_or_read old.prices.items number price within c.index.ensures (pos 0)) ∙ sym (to_z-of_z w64 price fits) ∙ ap (to_z w64) c.if-index-ne0.false in
-    let room = get_or_read old.capacities.items number c.index-else-index-ne0.result.now (let count = is.capacity_count in omega arith) c.index-else-index-ne0.ensures 0 in
-    let few : use_of old number ≤ capacity_of old number = let a = c.is_at_most.ensures.0 c.if-not-is_at_most.false in omega arith in
+    let few : use_of old number ≤ capacity_of old number = c.is_within.ensures.0 c.if-not-is_within.false in
     rested_levels old is k _ c.swap_remove.new.self _ l (subst (IsIdle old) (sym read) (price_is, few)) c.swap_remove.ensures.items (ap (λ (n : ℕ). set old.listed.items n false) (sym read))
 
 pub returns-clause-rests : goal.returns-clause-rests

@@ -25,7 +25,7 @@ pub capacity_after-levels-requires-clause-total : goal.capacity_after-levels-req
 capacity_after-levels-requires-clause-total c =
     let woken = c.wake.new.levels in
     let is = c.in_ok-wake.ensures.levels in
-    let range = capacity_range woken.prices.items woken.capacities.items (length woken.prices.items) is.range is.small in
+    let range = capacity_range woken.prices.items woken.loads.capacities (length woken.prices.items) is.range is.small in
     let a = is.capacity_is in
     let b = range.0 in
     let d = range.1 in
@@ -44,7 +44,7 @@ returns-clause-levels c =
     let is = c.in_ok-wake.ensures.levels in
     let number = c.args.number in
     let prices = woken.prices.items in
-    let capacities = woken.capacities.items in
+    let capacities = woken.loads.capacities in
     let count = length prices in
     let within : number < count = subst (λ v. number < length v.items) (sym wakes.prices) c.requires.within in
     let fits : FitsSigned w64 c.args.price = search rules in
@@ -55,8 +55,8 @@ returns-clause-levels c =
     let before_is : to_z w64 (of_z w64 before) ≡ slice_index_or prices number (pos 0) =
     to_z-of_z w64 before f1 ∙ get_or_read old.prices.items number before c.requires.within c.index-old.ensures (pos 0) ∙ ap (λ v. slice_index_or v.items number (pos 0)) (sym wakes.prices)
     in
-    let capacity = c.index.result.now in
-    let capacity_is : capacity ≡ slice_index capacities number = get_or_read capacities number capacity (let n = is.capacity_count in omega arith) c.index.ensures 0 in
+    let capacity = c.capacity.result in
+    let capacity_is : capacity ≡ slice_index capacities number = c.capacity.ensures in
     let total = woken.capacity in
     let f2 : FitsSigned w128 total = search rules in
     let f3 : FitsSigned w128 c.capacity_after-levels.result = search rules in
@@ -76,7 +76,7 @@ returns-clause-levels c =
       once = is.once;
       marked = is.marked;
       found = is.found;
-      covers = covers_priced prices woken.uses.items woken.capacities.items woken.active.items number price wakes.here is.covers;
+      covers = covers_priced prices woken.loads.uses woken.loads.capacities woken.active.items number price wakes.here is.covers;
     }
 
 pub returns-clause-due : goal.returns-clause-due

@@ -10,9 +10,9 @@ pub returns-clause-levels : goal.returns-clause-levels
 returns-clause-levels c =
     let old = c.args.levels.now in
     let row = c.args.touch.row in
-    let left = slice_index old.uses.items row - c.args.touch.uses in
-    less_levels old c.take.new.self c.requires (ap length c.take.ensures ∙ length-set old.uses.items row left)
-    (λ n. subst (λ (xs : List ℕ). slice_index xs n ≤ use_of old n) (sym c.take.ensures) (less_set old.uses.items row left n (omega arith)))
+    let left = slice_index old.loads.uses row - c.args.touch.uses in
+    less_levels old c.take.new.self c.requires (ap length c.take.ensures.uses_are ∙ length-set old.loads.uses row left) c.take.ensures.capacities
+    (λ n. subst (λ (xs : List ℕ). slice_index xs n ≤ use_of old n) (sym c.take.ensures.uses_are) (less_set old.loads.uses row left n (omega arith)))
 
 pub returns-clause-uses : goal.returns-clause-uses
-returns-clause-uses c = touch_takes c.args.touch c.args.levels.now.uses.items c.take.new.self.items c.take.ensures
+returns-clause-uses c = touch_takes c.args.touch c.args.levels.now.loads.uses c.take.new.self.uses c.take.ensures.uses_are

@@ -20,7 +20,7 @@ loop-n-init g c =
       levels = is.levels;
       unused = is.unused;
       capacities = subst (λ (caps : List ℕ). HaveCapacities (g.F.RowFamily.rows_of c.args.rows.now c.args.net.now) (take c.len-n.result c.args.numbered.now) caps) (sym is.capacities)
-          (subst (λ (n : ℕ). HaveCapacities (g.F.RowFamily.rows_of c.args.rows.now c.args.net.now) (take n c.args.numbered.now) old.capacities.items) was c.requires.capacities);
+          (subst (λ (n : ℕ). HaveCapacities (g.F.RowFamily.rows_of c.args.rows.now c.args.net.now) (take n c.args.numbered.now) old.loads.capacities) was c.requires.capacities);
       prices = subst (AddsZeros old.prices.items) (sym is.prices) (no_zeros old.prices.items);
       count = count;
     }
@@ -53,12 +53,12 @@ loop-n-preserved g c =
     let short = length-take n numbered in
     let l : n < length numbered = c.loop-n-test.true in
     let count = inv.count in
-    let long : length now.capacities.items ≡ length (take n numbered) = let a = inv.levels.capacity_count in omega arith in
-    let pushed = capacities_push rows (take n numbered) now.capacities.items row c.cap.result long inv.capacities c.cap.ensures in
+    let long : length now.loads.capacities ≡ length (take n numbered) = let a = inv.levels.capacity_count in omega arith in
+    let pushed = capacities_push rows (take n numbered) now.loads.capacities row c.cap.result long inv.capacities c.cap.ensures in
     record {
       levels = is.levels;
       unused = is.unused;
-      capacities = subst (λ (caps : List ℕ). HaveCapacities rows (take (n + 1) numbered) caps) (sym is.capacities) (subst (λ (rs : List g.row.F-Row.Denot). HaveCapacities rows rs (now.capacities.items ++ c.cap.result ∷ [])) (sym taken) pushed);
+      capacities = subst (λ (caps : List ℕ). HaveCapacities rows (take (n + 1) numbered) caps) (sym is.capacities) (subst (λ (rs : List g.row.F-Row.Denot). HaveCapacities rows rs (now.loads.capacities ++ c.cap.result ∷ [])) (sym taken) pushed);
       prices = adds_zero c.args.levels.now.prices.items now.prices.items new.prices.items inv.prices is.prices;
       count = ap length is.prices ∙ length-append now.prices.items (pos 0 ∷ []) ∙ ap (λ (k : ℕ). k + 1) inv.count;
     }

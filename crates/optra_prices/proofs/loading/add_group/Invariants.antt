@@ -6,6 +6,6 @@ use Rattle.optra_prices.proofs.loading.add_group.Given as goal
 abbrev pub invariant-loop-touch : goal.invariant-loop-touch
 invariant-loop-touch l = record {
   levels : IsLevels l.levels;
-  uses : AddsUses (touch_uses (take l.touch-index l.touches)) l.fn.levels.uses.items l.levels.uses.items;
+  uses : AddsUses (touch_uses (take l.touch-index l.touches)) l.fn.levels.loads.uses l.levels.loads.uses;
   prices : KeepsPrices l.fn.levels l.levels;
 }

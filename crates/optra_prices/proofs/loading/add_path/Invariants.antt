@@ -6,6 +6,6 @@ use Rattle.optra_prices.proofs.loading.add_path.Given as goal
 abbrev pub invariant-loop-k : goal.invariant-loop-k
 invariant-loop-k l = record {
   levels : IsLevels l.levels;
-  uses : AddsUses (path_uses l.groups l.table (take l.k-index l.path)) l.fn.levels.uses.items l.levels.uses.items;
+  uses : AddsUses (path_uses l.groups l.table (take l.k-index l.path)) l.fn.levels.loads.uses l.levels.loads.uses;
   prices : KeepsPrices l.fn.levels l.levels;
 }

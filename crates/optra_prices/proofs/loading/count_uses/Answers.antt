@@ -38,12 +38,12 @@ loop-number-preserved c =
     let path_is : c.deref.result.now ≡ path = c.deref.ensures.value ∙ ap (λ (x : Standing). x.path.items) (sym c.index-standings-number.is) in
     let now = c.count_path.new.counted in
     let new : paths_in (set counted n now) ≡ set (paths_in counted) n path = map-set (λ v. v.items) counted n now ∙ ap (set (paths_in counted) n) (is.path ∙ path_is) in
-    let counts = subst (λ (p : List ℕ). CountsPath groups table before.items p c.loop-number.levels.uses.items c.count_path.new.levels.uses.items) path_is is.uses in
-    let more = uses_more groups tables (paths_in counted) n table before.items path c.loop-number.levels.uses.items c.count_path.new.levels.uses.items table_at (path_in counted n before before_at) inv.counted.uses_are counts in
+    let counts = subst (λ (p : List ℕ). CountsPath groups table before.items p c.loop-number.levels.loads.uses c.count_path.new.levels.loads.uses) path_is is.uses in
+    let more = uses_more groups tables (paths_in counted) n table before.items path c.loop-number.levels.loads.uses c.count_path.new.levels.loads.uses table_at (path_in counted n before before_at) inv.counted.uses_are counts in
     record {
       levels = is.levels;
       done = λ k within. ap (λ (paths : List (List ℕ)). slice_get paths k) new ∙ same_more (paths_in counted) (paths_of standings) n k path (inv.done k) (path_of standings n standing standing_at) (omega arith) within;
-      counted = subst (λ (paths : List (List ℕ)). AreCounted groups tables paths c.count_path.new.levels.uses.items) (sym new) (record { count = length-set (paths_in counted) n path ∙ inv.counted.count; uses_are = more });
+      counted = subst (λ (paths : List (List ℕ)). AreCounted groups tables paths c.count_path.new.levels.loads.uses) (sym new) (record { count = length-set (paths_in counted) n path ∙ inv.counted.count; uses_are = more });
       prices = record { prices = is.prices.prices ∙ inv.prices.prices; capacities = is.prices.capacities ∙ inv.prices.capacities };
     }
 

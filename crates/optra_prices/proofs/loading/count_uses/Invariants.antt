@@ -7,6 +7,6 @@ abbrev pub invariant-loop-number : goal.invariant-loop-number
 invariant-loop-number l = record {
   levels : IsLevels l.levels;
   done : (n : ℕ) → n < l.number → slice_get (paths_in l.counted.items) n ≡ slice_get (paths_of l.standings) n;
-  counted : AreCounted l.groups l.tables (paths_in l.counted.items) l.levels.uses.items;
+  counted : AreCounted l.groups l.tables (paths_in l.counted.items) l.levels.loads.uses;
   prices : KeepsPrices l.fn.levels l.levels;
 }

@@ -6,6 +6,6 @@ use Rattle.optra_prices.proofs.loading.take_group.Given as goal
 abbrev pub invariant-loop-touch : goal.invariant-loop-touch
 invariant-loop-touch l = record {
   levels : IsLevels l.levels;
-  uses : TakesUses (touch_uses (take l.touch-index l.touches)) l.fn.levels.uses.items l.levels.uses.items;
+  uses : TakesUses (touch_uses (take l.touch-index l.touches)) l.fn.levels.loads.uses l.levels.loads.uses;
   prices : KeepsPrices l.fn.levels l.levels;
 }

@@ -8,11 +8,11 @@ pub loop-k-preserved : goal.loop-k-preserved
 loop-k-preserved c =
     let inv = c.loop-k.invariant in
     let is = c.take_group.ensures in
-    let mid = c.loop-k.levels.uses.items in
-    let new = c.take_group.new.levels.uses.items in
+    let mid = c.loop-k.levels.loads.uses in
+    let new = c.take_group.new.levels.loads.uses in
     let less = subst (λ (touches : List Touch). TakesUses (touch_uses touches) mid new) c.arc_touches.ensures is.uses in
     record {
       levels = is.levels;
-      uses = takes_on c.args.levels.now.uses.items mid new _ _ _ (λ n. path_more c.args.groups.now c.args.table.now c.args.path.now c.loop-k.k-index 0 n c.loop-k-test.true) inv.uses less;
+      uses = takes_on c.args.levels.now.loads.uses mid new _ _ _ (λ n. path_more c.args.groups.now c.args.table.now c.args.path.now c.loop-k.k-index 0 n c.loop-k-test.true) inv.uses less;
       prices = record { prices = is.prices.prices ∙ inv.prices.prices; capacities = is.prices.capacities ∙ inv.prices.capacities };
     }

@@ -24,7 +24,7 @@ count_uses-requires-clause-groups g c =
 pub count_uses-requires-clause-counted : goal.count_uses-requires-clause-counted
 count_uses-requires-clause-counted g c =
     let kept = c.args.kept.now in
-    subst (λ (tables : List BidTable). AreCounted kept.columns.groups tables (paths_in kept.counted.items) kept.levels.uses.items) (sym c.deref.ensures.value) c.requires.is.counted
+    subst (λ (tables : List BidTable). AreCounted kept.columns.groups tables (paths_in kept.counted.items) kept.levels.loads.uses) (sym c.deref.ensures.value) c.requires.is.counted
 
 pub count_uses-requires-clause-standings : goal.count_uses-requires-clause-standings
 count_uses-requires-clause-standings g c = ap length c.deref-2.ensures.value ∙ c.requires.is.stand.count_is ∙ ap length (sym c.deref.ensures.value)
@@ -39,7 +39,7 @@ returns-clause-kept g c =
     let used = c.count_uses.new.levels in
     let counted = c.count_uses.new.counted in
     let counts = c.in_ok-count_uses.ensures in
-    let counted_is = subst (λ (tables : List BidTable). AreCounted kept.columns.groups tables (paths_in counted.items) used.uses.items) c.deref.ensures.value counts.counted in
+    let counted_is = subst (λ (tables : List BidTable). AreCounted kept.columns.groups tables (paths_in counted.items) used.loads.uses) c.deref.ensures.value counts.counted in
     ok_anyway c.rows_above.result (record {
       is = counted_on g.F.Row.Ord.cmp s kept kept.columns is.columns used counted is counts.levels counted_is (ap (λ v. length v.items) counts.prices.prices) counts.prices.capacities refl;
       still = c.requires.still;
@@ -57,10 +57,10 @@ returns-clause-rows g c =
     let used = c.count_uses.new.levels in
     let counts = c.in_ok-count_uses.ensures in
     let paths = counts.paths ∙ ap paths_of c.deref-2.ensures.value in
-    let uses : AreUses kept.columns.groups kept.tables.items (paths_of kept.standings.items) used.uses.items = subst (λ (ps : List (List ℕ)). AreUses kept.columns.groups kept.tables.items ps used.uses.items) paths
-    (subst (λ (tables : List BidTable). AreUses kept.columns.groups tables (paths_in c.count_uses.new.counted.items) used.uses.items) c.deref.ensures.value counts.counted.uses_are)
+    let uses : AreUses kept.columns.groups kept.tables.items (paths_of kept.standings.items) used.loads.uses = subst (λ (ps : List (List ℕ)). AreUses kept.columns.groups kept.tables.items ps used.loads.uses) paths
+    (subst (λ (tables : List BidTable). AreUses kept.columns.groups tables (paths_in c.count_uses.new.counted.items) used.loads.uses) c.deref.ensures.value counts.counted.uses_are)
     in
-    IfOk-weaker c.rows_above.result (λ listed. ListsAbove c.deref-3.result.now used listed.items) (λ listed. AreOverfilled rows c.args.inst.bids.now (replies_at kept) listed.items)
+    IfOk-weaker c.rows_above.result (λ listed. ListsAbove c.rows.result.now used listed.items) (λ listed. AreOverfilled rows c.args.inst.bids.now (replies_at kept) listed.items)
     (λ listed above. overfilled g.F.Row.Ord.cmp g.met.F.Row.Ord.total g.met.F.RowFamily.tells_apart s proper (λ kind leg usable. g.met.F.RowFamily.lists_rows f net kind leg usable) kept c.requires.is used
-    counts.prices.prices counts.prices.capacities counts.levels.use_count uses listed.items (subst (λ (numbered : List g.row.F-Row.Denot). ListsAbove numbered used listed.items) c.deref-3.ensures.value above))
+    counts.prices.prices counts.prices.capacities counts.levels.use_count uses listed.items (subst (λ (numbered : List g.row.F-Row.Denot). ListsAbove numbered used listed.items) c.rows.ensures above))
     c.rows_above.ensures

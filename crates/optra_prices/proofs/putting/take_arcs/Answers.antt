@@ -8,10 +8,10 @@ pub loop-k-preserved : goal.loop-k-preserved
 loop-k-preserved c =
     let inv = c.loop-k.invariant in
     let is = c.take_touches.ensures in
-    let mid = c.loop-k.room.uses.items in
-    let new = c.take_touches.new.room.uses.items in
+    let mid = c.loop-k.room.loads.uses in
+    let new = c.take_touches.new.room.loads.uses in
     let less = subst (λ (touches : List Touch). TakesUses (touch_uses touches) mid new) c.arc_touches.ensures is.uses in
     record {
-      uses = takes_on c.args.room.now.uses.items mid new _ _ _ (λ n. path_more c.args.groups.now c.args.table.now c.args.path.now c.loop-k.k-index 0 n c.loop-k-test.true) inv.uses less;
+      uses = takes_on c.args.room.now.loads.uses mid new _ _ _ (λ n. path_more c.args.groups.now c.args.table.now c.args.path.now c.loop-k.k-index 0 n c.loop-k-test.true) inv.uses less;
       capacities = is.capacities ∙ inv.capacities;
     }

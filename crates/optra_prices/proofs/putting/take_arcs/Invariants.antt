@@ -4,6 +4,6 @@ use Rattle.optra_prices.proofs.putting.take_arcs.Given as goal
 
 abbrev pub invariant-loop-k : goal.invariant-loop-k
 invariant-loop-k l = record {
-  uses : TakesUses (path_uses l.groups l.table (take l.k-index l.path)) l.fn.room.uses.items l.room.uses.items;
-  capacities : l.room.capacities ≡ l.fn.room.capacities;
+  uses : TakesUses (path_uses l.groups l.table (take l.k-index l.path)) l.fn.room.loads.uses l.room.loads.uses;
+  capacities : l.room.loads.capacities ≡ l.fn.room.loads.capacities;
 }

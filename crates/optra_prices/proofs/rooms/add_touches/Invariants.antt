@@ -4,6 +4,6 @@ use Rattle.optra_prices.proofs.rooms.add_touches.Given as goal
 
 abbrev pub invariant-loop-touch : goal.invariant-loop-touch
 invariant-loop-touch l = record {
-  uses : AddsUses (touch_uses (take l.touch-index l.touches)) l.fn.room.uses.items l.room.uses.items;
-  capacities : l.room.capacities ≡ l.fn.room.capacities;
+  uses : AddsUses (touch_uses (take l.touch-index l.touches)) l.fn.room.loads.uses l.room.loads.uses;
+  capacities : l.room.loads.capacities ≡ l.fn.room.loads.capacities;
 }

@@ -4,6 +4,6 @@ use Rattle.optra_prices.proofs.rooms.take_touches.Given as goal
 
 abbrev pub invariant-loop-touch : goal.invariant-loop-touch
 invariant-loop-touch l = record {
-  uses : TakesUses (touch_uses (take l.touch-index l.touches)) l.fn.room.uses.items l.room.uses.items;
-  capacities : l.room.capacities ≡ l.fn.room.capacities;
+  uses : TakesUses (touch_uses (take l.touch-index l.touches)) l.fn.room.loads.uses l.room.loads.uses;
+  capacities : l.room.loads.capacities ≡ l.fn.room.loads.capacities;
 }

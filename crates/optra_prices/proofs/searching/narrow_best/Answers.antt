@@ -10,7 +10,7 @@ use Rattle.optra_prices.proofs.searching.narrow_best.Goals as goal
 
 pub returns-clause-best : goal.returns-clause-best
 returns-clause-best c =
-    let arcs = c.args.weights.now.arcs.now in
+    let arcs = c.args.weights.now.arcs in
     let grouped = c.args.weights.now.grouped.now in
     let dag = c.args.dag.now in
     let path = c.narrow_best_in.new.buffers in

@@ -9,4 +9,4 @@ pub returns : goal.returns
 returns c =
     let fits : FitsSigned w128 c.in_ok-outcome.outcome.term = search rules in
     let whole = to_z-of_z w128 c.in_ok-outcome.outcome.term fits in
-    found_moves _ _ _ _ _ _ _ _ _ _ _ c.dag.ensures c.deref.ensures.value refl (sym whole) c.in_ok-outcome.ensures
+    found_moves _ _ _ _ _ _ _ _ _ _ _ c.dag.ensures refl refl (sym whole) c.in_ok-outcome.ensures

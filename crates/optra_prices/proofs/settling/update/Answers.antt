@@ -2,7 +2,6 @@ use Rattle.std.proofs.Common.{refl, List, ℕ, subst}
 use Rattle.std.specs.Prelude.{All, slice_index_or}
 use Rattle.optra_prices.specs.Columns.{HasNotRisen}
 use Rattle.optra_prices.specs.Tables.{no_arc}
-use Rattle.optra_prices.specs.ArcTerms.{ArcTerm}
 use Rattle.optra_prices.proofs.SkipLemmas.{stands_still}
 use Rattle.optra_prices.proofs.settling.update.Goals as goal
 
@@ -11,8 +10,6 @@ returns-then-not-has_risen c =
     let before = c.requires.before in
     let marks = c.args.marks.now in
     let unfallen = c.requires.told c.if-not-fell.true in
-    let by_arcs = λ (arcs : List ArcTerm) (path : List ℕ). All (λ k. HasNotRisen marks (slice_index_or arcs k no_arc).group) path in
-    let unrisen = subst (by_arcs c.args.table.now.arcs.items) c.deref-then-not-fell.ensures.value
-    (subst (λ (arcs : List ArcTerm). by_arcs arcs c.deref-then-not-fell.result.now) c.deref.ensures.value (c.if-not-has_risen.ensures refl))
-    in
+    let arcs = c.args.table.now.arcs in
+    let unrisen = subst (λ (path : List ℕ). All (λ k. HasNotRisen marks (slice_index_or arcs k no_arc).group) path) c.deref.ensures.value (c.if-not-has_risen.ensures refl) in
     stands_still c.args.table.now before.0 c.args.grouped.prices.now marks c.requires.sound before.2 unfallen c.args.standing.now unrisen before.1

@@ -23,13 +23,13 @@ loop-k-preserved g c =
     let numbered = new.named.items in
     let starts = new.groups.starts.items in
     let touches = new.groups.touches.items in
-    let arcs = c.loop-k.arcs.items in
+    let arcs = c.loop-k.arcs in
     let term = c.in_ok-term.term in
     let inv = c.loop-k.invariant in
     let is = c.in_ok-term.ensures in
     let kept = terms_kept net rows used bid t old.named.items numbered old.groups.starts.items starts old.groups.touches.items touches arcs is.grows.extends is.grows.keeps inv.terms in
     let here = subst (λ k. IsTerm net rows used bid t numbered starts touches k term) (sym inv.count) is.term in
-    let pushed = c.in_ok-push.ensures.items in
+    let pushed = c.in_ok-push.ensures in
     let fits : FitsSigned w64 c.value.result = search rules in
     let size = c.widened-most.result in
     let size_fits : FitsSigned w64 size = search rules in
@@ -39,7 +39,7 @@ loop-k-preserved g c =
       grows = grows_more _ old new inv.grows is.grows;
       count = let e = ap length pushed in let n = length-append arcs (term ∷ []) in let o = inv.count in omega arith;
       terms = subst (AreTerms net rows used bid t numbered starts touches) (sym pushed) (terms_push net rows used bid t numbered starts touches arcs term kept here);
-      covers = subst (λ (m : ℤ). Covers m c.push.new.self.items) (sym (to_z-of_z w64 size size_fits))
+      covers = subst (λ (m : ℤ). Covers m c.push.new.self) (sym (to_z-of_z w64 size size_fits))
           (subst (Covers size) (sym pushed) (covers_push _ _ arcs term inv.covers c.widened-most.ensures.range c.widened-most.ensures.before value));
     }
 
@@ -49,7 +49,7 @@ loop-k-init g c = record {
   grows = search rules;
   count = search rules;
   terms = search rules;
-  covers = covers_none _ _ (c.in_ok-reserve_exact.ensures.items ∙ c.new-arcs.ensures.items) refl;
+  covers = covers_none _ _ c.in_ok-arcs.ensures refl;
 }
 
 pub returns-clause-table : goal.returns-clause-table

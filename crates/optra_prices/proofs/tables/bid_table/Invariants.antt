@@ -8,7 +8,7 @@ abbrev pub invariant-loop-k : goal.invariant-loop-k
 invariant-loop-k g l = record {
   making : IsMaking l.net (g.F.RowFamily.rows_of l.rows l.net) (g.F.RowFamily.rows_used l.rows l.net) l.making;
   grows : Grows l.initial.making l.making;
-  count : length l.arcs.items ≡ l.k;
-  terms : AreTerms l.net (g.F.RowFamily.rows_of l.rows l.net) (g.F.RowFamily.rows_used l.rows l.net) l.bid l.graph l.making.named.items l.making.groups.starts.items l.making.groups.touches.items l.arcs.items;
-  covers : Covers l.most l.arcs.items;
+  count : length l.arcs ≡ l.k;
+  terms : AreTerms l.net (g.F.RowFamily.rows_of l.rows l.net) (g.F.RowFamily.rows_used l.rows l.net) l.bid l.graph l.making.named.items l.making.groups.starts.items l.making.groups.touches.items l.arcs;
+  covers : Covers l.most l.arcs;
 }

@@ -1,4 +1,4 @@
-use Rattle.std.proofs.Common.{◌≡◌, ◌≤◌, true, length, sym, ◌∙◌, arith, inr}
+use Rattle.std.proofs.Common.{◌≡◌, ◌≤◌, true, length, sym, ◌∙◌, arith}
 use Rattle.optra_node.proofs.LeastLemmas.{at_contains, none_past}
 use Rattle.optra_prices.proofs.NumberLemmas.{grows_extends, extends_more, adds_touch, all_touches, all_grows, adds_none}
 use Rattle.optra_prices.proofs.touching.push_touches.Goals as goal
@@ -20,9 +20,9 @@ loop-k-preserved g c =
     let number = c.in_ok-place.ensures in
     let old = c.loop-k.named.items in
     let new = c.name_row.new.named.items in
-    let grown = grows_extends old new c.in-Some.row (inr number.more) in
+    let grown = grows_extends old new c.in-Some.row number.more in
     record {
-      rows = all_grows (λ row. rows.is_row row ≡ true) old new c.in-Some.row (inr number.more) c.loop-k.invariant.rows
+      rows = all_grows (λ row. rows.is_row row ≡ true) old new c.in-Some.row number.more c.loop-k.invariant.rows
           (lists.are_rows c.in-Some.row ((lists.used c.in-Some.row).1 (at_contains (g.F.RowFamily.rows_used f net c.args.kind c.args.leg) c.loop-k.k c.in-Some.row at)));
       extends = extends_more _ old new c.loop-k.invariant.extends grown;
       touches = adds_touch old new (rows.uses c.args.kind c.args.leg) (g.F.RowFamily.rows_used f net c.args.kind c.args.leg) c.loop-k.k c.in_ok-place.place c.leg_use-uses.result c.in-Some.row _ _ _

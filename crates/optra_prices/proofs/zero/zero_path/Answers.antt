@@ -1,11 +1,10 @@
 -- The path that is known of the bid at zero prices is that of its reply.
-use Rattle.std.proofs.Common.{◌≡◌, ◌<◌, ℕ, List, [], length, Some, slice_get, refl, sym, ap, ◌∙◌, subst, arith}
-use Rattle.std.proofs.lemmas.Option.{same_Some, slice_get_read}
+use Rattle.std.proofs.Common.{◌<◌, ℕ, List, [], length, refl, sym, ◌∙◌, subst, arith}
+use Rattle.std.proofs.lemmas.Option.{slice_get_read}
 use Rattle.optra_graph.specs.Timed.{Timed, IsRoute}
 use Rattle.optra_prices.specs.Arcs.{path_reply}
 use Rattle.optra_prices.specs.Replies.{IsReply}
 use Rattle.optra_prices.specs.Terms.{Setting, setting}
-use Rattle.optra_prices.specs.declared.numbering.BidTable.{BidTable}
 use Rattle.optra_prices.proofs.ValueOfLemmas.{path_route}
 use Rattle.optra_prices.proofs.ZeroLemmas.{zero_replied}
 use Rattle.optra_prices.proofs.zero.zero_path.Goals as goal

@@ -19,3 +19,6 @@ invariant_of-result g c =
     open_push g.F.Row.Ord.cmp net (g.F.RowFamily.rows_of inside.rows.now net) bids d node c.push.new.self.items inside.totals c.add_decision.new.totals lists later inside.index c.put.new.self c.in_ok-push.ensures.items
     c.self.invariant formed fresh c.in_ok-add_decision.ensures.added c.in_ok-add_decision.ensures.few (c.in_ok-add_own.ensures (length bids) node c.self.invariant.by_bid)
     (c.in_ok-put.ensures (length bids) node c.self.invariant.indexed)
+
+pub add_decision-requires-clause-decision : goal.add_decision-requires-clause-decision
+add_decision-requires-clause-decision g c = subst (λ (v : Summed g.row.F.Denot). IsFormedDecision v.net (length v.bids) c.args.decision) (sym c.self.view_is) c.requires.formed

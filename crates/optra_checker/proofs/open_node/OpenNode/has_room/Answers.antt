@@ -1,7 +1,4 @@
-use Rattle.std.proofs.Common.{subst}
-use Rattle.optra_network.specs.Net.{IsProper}
 use Rattle.optra_node.specs.Nodes.{kind_at}
-use Rattle.optra_node.specs.Summaries.{Summed}
 use Rattle.optra_checker.proofs.UsedLemmas.{usable_is_formed}
 use Rattle.optra_checker.proofs.open_node.OpenNode.has_room.Goals as goal
 

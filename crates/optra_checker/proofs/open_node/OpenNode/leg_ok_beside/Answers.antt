@@ -1,8 +1,6 @@
-use Rattle.std.proofs.Common.{subst, false}
+use Rattle.std.proofs.Common.{false}
 use Rattle.std.proofs.lemmas.Bool.Decides.{same_from_decides}
-use Rattle.optra_network.specs.Net.{IsProper}
 use Rattle.optra_node.specs.Nodes.{kind_at}
-use Rattle.optra_node.specs.Summaries.{Summed}
 use Rattle.optra_checker.specs.Tests.{may_have_leg}
 use Rattle.optra_checker.proofs.AtLemmas.{no_true, not_both}
 use Rattle.optra_checker.proofs.LoadedLemmas.{off_free}
@@ -52,3 +50,6 @@ returns-else-keeps_off g c =
     same_from_decides c.has_room.result (may_have_leg self.net rows used self.bids self.node bid kind leg)
     ((λ t. record { let_by = c.let_by.ensures.0 c.if-not-let_by.false; free = c.has_room.ensures.0 t }), (λ h. c.has_room.ensures.1 h.free))
     (leg_tested self.net kind g.F.Row.Ord.cmp rows used self.bids self.node bid leg lists)
+
+pub keeps_off-requires-clause-rising : goal.keeps_off-requires-clause-rising
+keeps_off-requires-clause-rising g c = c.requires.rising

@@ -1,4 +1,4 @@
-use Rattle.std.proofs.Common.{◌≡◌, ◌++◌, ◌∷◌, [], length, map, subst, Vec, Global}
+use Rattle.std.proofs.Common.{◌≡◌, ◌∙◌, sym, ap, ◌++◌, ◌∷◌, [], length, map, subst, Vec, Global}
 use Rattle.optra_node.specs.declared.Decision.{Decision}
 use Rattle.optra_node.specs.Nodes.{IsNode, IsFormedDecision}
 use Rattle.optra_node.specs.Summaries.{Summed, AreByBid}
@@ -27,6 +27,23 @@ invariant_of-before g c =
     open_pop g.F.Row.Ord.cmp net rows bids d node before inside.totals c.take_decision.new.totals lists earlier inside.index c.take_off.new.self is c.self.invariant few c.take_decision.ensures
     (c.drop_own.ensures (length bids) before (subst (λ n. AreByBid (length bids) n lists) is c.self.invariant.by_bid))
     (c.take_off.ensures (length bids) before (subst (λ n. IsIndexOf (length bids) n inside.index) is c.self.invariant.indexed))
+
+pub returns-clause-same : goal.returns-clause-same
+returns-clause-same g c = record {
+  family = ap (λ (v : Summed g.row.F.Denot). v.family) (sym c.self.view_is);
+  net = ap (λ (v : Summed g.row.F.Denot). v.net) (sym c.self.view_is);
+  bids = ap (λ (v : Summed g.row.F.Denot). v.bids) (sym c.self.view_is);
+}
+
+pub returns-clause-last : goal.returns-clause-last
+returns-clause-last g c = ap (λ (v : Summed g.row.F.Denot). v.node) (sym c.self.view_is) ∙ c.in-Some.ensures.items
+
+pub take_decision-requires-clause-decision : goal.take_decision-requires-clause-decision
+take_decision-requires-clause-decision g c =
+    let net = c.self.inside.inst.net.now in
+    let bids = length c.self.inside.inst.bids.now in
+    let node = subst (IsNode net bids) c.in-Some.ensures.items c.self.invariant.is_node in
+    (behind net bids c.pop.new.self.items c.in-Some.last node).formed
 
 pub returns-clause-formed : goal.returns-clause-formed
 returns-clause-formed g c =

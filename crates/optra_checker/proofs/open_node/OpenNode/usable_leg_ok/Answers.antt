@@ -1,8 +1,5 @@
-use Rattle.std.proofs.Common.{subst}
 use Rattle.std.proofs.lemmas.Bool.Decides.{same_from_decides}
-use Rattle.optra_network.specs.Net.{IsProper}
 use Rattle.optra_node.specs.Nodes.{kind_at}
-use Rattle.optra_node.specs.Summaries.{Summed}
 use Rattle.optra_checker.specs.Tests.{may_have_leg}
 use Rattle.optra_checker.proofs.TestLemmas.{leg_tested}
 use Rattle.optra_checker.proofs.UsedLemmas.{usable_is_formed}

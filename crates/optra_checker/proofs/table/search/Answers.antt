@@ -1,0 +1,26 @@
+-- The table is turned to the bid's layout and reach, which fit one another.
+use Rattle.std.proofs.Common.{◌∙◌, sym, subst}
+use Rattle.optra_checker.specs.Reaches.{IsReach}
+use Rattle.optra_checker.specs.Settings.{IsSetting}
+use Rattle.optra_checker.proofs.table.search.Goals as goal
+
+pub turn_to-requires-clause-small : goal.turn_to-requires-clause-small
+turn_to-requires-clause-small g c = c.make_layout.ensures.small
+
+pub turn_to-requires-clause-from : goal.turn_to-requires-clause-from
+turn_to-requires-clause-from g c = c.in_ok-reach.ensures.from.len ∙ sym c.make_layout.ensures.laid.stations
+
+pub turn_to-requires-clause-on : goal.turn_to-requires-clause-on
+turn_to-requires-clause-on g c = c.in_ok-reach.ensures.on.len ∙ sym c.make_layout.ensures.laid.stations
+
+pub fill-requires-clause-table : goal.fill-requires-clause-table
+fill-requires-clause-table g c = c.in_ok-turn_to.ensures.table
+
+pub fill-requires-clause-setting : goal.fill-requires-clause-setting
+fill-requires-clause-setting g c = subst (IsSetting c.args.net.now c.args.bid.now.path) (sym c.in_ok-turn_to.ensures.laid_out) c.make_layout.ensures
+
+pub fill-requires-clause-reach : goal.fill-requires-clause-reach
+fill-requires-clause-reach g c = subst (IsReach c.args.net.now c.args.bid.now.path) (sym c.in_ok-turn_to.ensures.reach) c.in_ok-reach.ensures
+
+pub best_start-requires-clause-filled : goal.best_start-requires-clause-filled
+best_start-requires-clause-filled g c = c.fill.ensures

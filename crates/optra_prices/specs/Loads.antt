@@ -1,0 +1,30 @@
+-- How much is used of rows, beside their capacities.
+use Rattle.std.specs.Prelude.{◌≡◌, ℕ, List, length, map, replicate, slice_set}
+use Rattle.optra_prices.specs.declared.loads.Load.{Load}
+
+-- how much is used of each row, and how much there is of it
+pub record RowLoads : Type 0 where
+  pub uses : List ℕ
+  pub capacities : List ℕ
+
+-- past the last row
+abbrev pub no_load : Load
+no_load = record { low = 0; capacity = 0 }
+
+-- the low parts of uses
+abbrev pub lows_in : List Load → List ℕ
+lows_in rows = map (λ row. row.low) rows
+
+-- the capacities
+abbrev pub capacities_in : List Load → List ℕ
+capacities_in rows = map (λ row. row.capacity) rows
+
+-- as many rows of the same capacities, of which nothing is used
+pub record IsUnused (old new : RowLoads) : Type 0 where
+  pub uses : new.uses ≡ replicate (length old.uses) 0
+  pub capacities : new.capacities ≡ old.capacities
+
+-- so much is used of the row with this number, and all else is as it was
+pub record SetsUses (number uses : ℕ) (old new : RowLoads) : Type 0 where
+  pub uses_are : new.uses ≡ slice_set old.uses number uses
+  pub capacities : new.capacities ≡ old.capacities

@@ -1,0 +1,21 @@
+-- How the arcs of a bid's graph are kept in few bytes: the values that the bid has stand once each or a little more, and most arcs name theirs by number.
+use Rattle.std.specs.Prelude.{◌<◌, Bool, List, ◌++◌, map, length, All, slice_index_or}
+use Rattle.std.specs.Prelude.{ℤ, pos}
+use Rattle.optra_prices.specs.ArcTerms.{ArcTerm}
+use Rattle.optra_prices.specs.declared.narrow_arc.NarrowArc.{NarrowArc}
+
+-- the narrow arc, by the bid's values
+abbrev pub term_of : List ℤ → NarrowArc → ArcTerm
+term_of values arc = record { value = slice_index_or values arc.value (pos 0); group = arc.group; allowed = arc.allowed }
+
+-- the narrow arcs and then the others
+abbrev pub terms_of : List ℤ → List NarrowArc → List ArcTerm → List ArcTerm
+terms_of values narrow wide = map (term_of values) narrow ++ wide
+
+-- the value of each narrow arc has its number
+abbrev pub AreNumbered : List ℤ → List NarrowArc → Type 0
+AreNumbered values narrow = All (λ arc. arc.value < length values) narrow
+
+-- the arc, where it may be taken or not
+abbrev pub with_mark : ArcTerm → Bool → ArcTerm
+with_mark arc mark = record { value = arc.value; group = arc.group; allowed = mark }

@@ -1,0 +1,101 @@
+//! The arcs of a bid's graph, lent to be read.
+ghost use Rattle.std.specs.Prelude.{◌≡◌, ◌<◌, true, false, length, slice_index_or};
+ghost use Rattle.optra_prices.specs.Tables.{allows_by, narrow_weight_by, no_arc};
+
+use crate::arc_term::ArcTerm;
+use crate::narrow_arc::NarrowArc;
+use optra_dag::FAR;
+use std::marker::Model;
+
+/// Arcs: first the narrow ones, whose values are known by number, and then the others.
+#[derive(Drop)]
+pub(crate) struct ArcSlice<'a> {
+    pub(crate) narrow: &'a [NarrowArc],
+    pub(crate) values: &'a [i64],
+    pub(crate) wide: &'a [ArcTerm],
+}
+
+impl<'a> Model for ArcSlice<'a> {
+    ghost use Rattle.std.specs.Prelude.{List};
+    ghost use Rattle.optra_prices.specs.ArcTerms.{ArcTerm};
+    ghost use Rattle.optra_prices.specs.NarrowArcs.{terms_of, AreNumbered};
+
+    ghost Value = { List ArcTerm };
+
+    ghost view = { λ a. terms_of a.values.now a.narrow.now a.wide.now };
+
+    ghost invariant = { λ a. AreNumbered a.values.now a.narrow.now };
+}
+
+impl ArcSlice<'_> {
+    /// How many there are.
+    pub(crate) fn len(&self) -> usize
+        ensures { result ≡ length self.now }
+    {
+        self.narrow.len() + self.wide.len()
+    }
+
+    /// What an arc adds.
+    pub(crate) fn value(&self, k: usize) -> i64
+        requires { k < length self.now }
+        ensures { result ≡ (slice_index_or self.now k no_arc).value }
+    {
+        match self.narrow.get(k) {
+            Some(arc) => self.values[arc.value as usize],
+            None => self.wide[k - self.narrow.len()].value(),
+        }
+    }
+
+    /// The group that an arc touches.
+    pub(crate) fn group(&self, k: usize) -> usize
+        requires { k < length self.now }
+        ensures { result ≡ (slice_index_or self.now k no_arc).group }
+    {
+        match self.narrow.get(k) {
+            Some(arc) => arc.group as usize,
+            None => self.wide[k - self.narrow.len()].group(),
+        }
+    }
+
+    /// Whether an arc may be taken.
+    pub(crate) fn allowed(&self, k: usize) -> bool
+        requires { k < length self.now }
+        ensures { result ≡ allows_by self.now k }
+    {
+        match self.narrow.get(k) {
+            Some(arc) => arc.allowed,
+            None => self.wide[k - self.narrow.len()].allowed(),
+        }
+    }
+
+    /// As [`ArcSlice::weight`], whether the arc is narrow or not.
+    fn any_weight(&self, grouped: &[i64], k: usize) -> i64
+        requires { k < length self.now }
+        ensures allowed { allows_by self.now k ≡ true
+            → result ≡ narrow_weight_by self.now grouped.now k }
+        ensures other { allows_by self.now k ≡ false → result ≡ FAR }
+    {
+        if !self.allowed(k) {
+            return FAR;
+        }
+        let price = grouped.get(self.group(k)).copied().unwrap_or(0);
+        self.value(k).wrapping_sub(price)
+    }
+
+    /// What an arc weighs at prices of groups, in 64 bits, and [`FAR`] where it may not be taken.
+    pub(crate) fn weight(&self, grouped: &[i64], k: usize) -> i64
+        requires { k < length self.now }
+        ensures allowed { allows_by self.now k ≡ true
+            → result ≡ narrow_weight_by self.now grouped.now k }
+        ensures other { allows_by self.now k ≡ false → result ≡ FAR }
+    {
+        let Some(arc) = self.narrow.get(k) else {
+            return self.any_weight(grouped, k);
+        };
+        if !arc.allowed {
+            return FAR;
+        }
+        let price = grouped.get(arc.group as usize).copied().unwrap_or(0);
+        self.values[arc.value as usize].wrapping_sub(price)
+    }
+}

@@ -1,0 +1,137 @@
+//! The arcs of a bid's graph with what each adds and touches, in few bytes, since searches read them one after the other.
+ghost use Rattle.std.specs.Prelude.{◌≡◌, ◌<◌, [], ◌∷◌, ◌++◌, Some, IfOk, IfSome, OnOk, length, slice_get, slice_index_or, slice_set};
+ghost use Rattle.optra_prices.specs.NarrowArcs.{with_mark};
+ghost use Rattle.optra_prices.specs.Tables.{Extends, no_arc};
+
+use crate::arc_slice::ArcSlice;
+use crate::arc_term::ArcTerm;
+use crate::narrow_arc::NarrowArc;
+use optra_network::NoMemory;
+use std::alloc::Global;
+use std::marker::Model;
+
+/// Among so many of the values that were entered last, that of a new arc is looked for. A bid has few different ones.
+const RECENT: usize = 16;
+
+/// Arcs in the order in which they were entered: first the narrow ones, and then the others, from the first one on that
+/// has too high a group or too many values before it.
+#[derive(Drop)]
+pub(crate) struct Arcs {
+    narrow: Vec<NarrowArc>,
+    /// The values of narrow arcs, by number. One may stand more than once.
+    values: Vec<i64>,
+    wide: Vec<ArcTerm>,
+}
+
+impl Model for Arcs {
+    ghost use Rattle.std.specs.Prelude.{List};
+    ghost use Rattle.optra_prices.specs.ArcTerms.{ArcTerm};
+    ghost use Rattle.optra_prices.specs.NarrowArcs.{terms_of, AreNumbered};
+
+    ghost Value = { List ArcTerm };
+
+    ghost view = { λ a. terms_of a.values.items a.narrow.items a.wide.items };
+
+    ghost invariant = { λ a. AreNumbered a.values.items a.narrow.items };
+}
+
+/// The number of a value that was entered lately.
+fn recent(values: &[i64], value: i64) -> Option<usize>
+    ensures { IfSome result (λ number. slice_get values.now number ≡ Some value) }
+{
+    let mut left = values.len();
+    let end = left.saturating_sub(RECENT);
+    'values: while left > end {
+        left -= 1;
+        if values[left] == value {
+            return Some(left);
+        }
+    }
+    None
+}
+
+/// The number of a value, which is entered where it wasn't lately.
+fn number_of(values: &mut Vec<i64>, value: i64) -> Result<usize, NoMemory>
+    ensures number { IfOk result (λ number. slice_get values.new.items number ≡ Some value) }
+    ensures more { Extends values.old.items values.new.items }
+{
+    if let Some(number) = recent(values, value) {
+        return Ok(number);
+    }
+    let number = values.len();
+    values.push(value)?;
+    Ok(number)
+}
+
+/// The arc with the number of its value, where both fit.
+fn narrowed(number: usize, term: &ArcTerm) -> Option<NarrowArc>
+    ensures { IfSome result (λ arc. arc ≡ record {
+      group = term.now.group;
+      value = number;
+      allowed = term.now.allowed;
+    }) }
+{
+    let value = u16::try_from(number).ok()?;
+    let group = u32::try_from(term.group()).ok()?;
+    Some(NarrowArc {
+        group,
+        value,
+        allowed: term.allowed(),
+    })
+}
+
+impl Arcs {
+    /// No arcs, with room for so many.
+    pub(crate) fn with_room(alloc: Global, count: usize) -> Result<Arcs, NoMemory>
+        ensures { IfOk result (λ arcs. arcs ≡ []) }
+    {
+        let mut narrow = Vec::new(alloc);
+        narrow.reserve_exact(count)?;
+        Ok(Arcs {
+            narrow,
+            values: Vec::new(alloc),
+            wide: Vec::new(alloc),
+        })
+    }
+
+    /// Adds an arc.
+    pub(crate) fn push(&mut self, term: ArcTerm) -> Result<(), NoMemory>
+        ensures { OnOk result (self.new ≡ self.old ++ term ∷ []) }
+    {
+        if !self.wide.is_empty() {
+            self.wide.push(term)?;
+            return Ok(());
+        }
+        let number = number_of(&mut self.values, term.value())?;
+        match narrowed(number, &term) {
+            Some(arc) => self.narrow.push(arc)?,
+            None => self.wide.push(term)?,
+        }
+        Ok(())
+    }
+
+    /// Says whether an arc may be taken.
+    pub(crate) fn allow(&mut self, k: usize, allowed: bool)
+        requires { k < length self.old }
+        ensures { self.new ≡ slice_set self.old k (with_mark (slice_index_or self.old k no_arc)
+            allowed) }
+    {
+        let count = self.narrow.len();
+        if k < count {
+            self.narrow[k].allowed = allowed;
+        } else {
+            self.wide[k - count].allow(allowed);
+        }
+    }
+
+    /// The arcs, to be read.
+    pub(crate) fn slice(&self) -> ArcSlice<'_>
+        ensures { result ≡ self.now }
+    {
+        ArcSlice {
+            narrow: &self.narrow,
+            values: &self.values,
+            wide: &self.wide,
+        }
+    }
+}
