@@ -402,15 +402,14 @@ fn check_overfull<G: Graphs>(
     rt: &(impl Abort + AllocGlobal),
     inst: Instance<'_>,
     graphs: &G,
-    minutes: usize,
+    minutes: Minute,
 ) -> Result<(), NoMemory>
     requires network { G.network graphs.now ≡ inst.net.now }
     requires held { All (λ bid. Contains (G.held graphs.now) bid.path) inst.bids.now }
 {
     let listed = overfilled(rt.alloc(), inst, graphs)?;
-    assert_eq!(rt; listed.len(), minutes);
-    for (minute, row) in listed.iter().enumerate() {
-        let minute = minute as u16;
+    assert_eq!(rt; listed.len(), usize::from(minutes));
+    for (row, minute) in listed.iter().zip(0..minutes) {
         assert!(rt; *row == HRow::Window { track: AB, minute }, "at {minute}");
     }
     Ok(())
@@ -419,7 +418,7 @@ fn check_overfull<G: Graphs>(
 fn check_overfull_on_graphs(
     rt: &(impl Abort + AllocGlobal),
     inst: Instance<'_>,
-    minutes: usize,
+    minutes: Minute,
 ) -> Result<(), NoMemory> {
     let mut graphs = FreshGraphs::new(inst.net);
     graphs.prepare(rt.alloc(), inst.bids)?;
@@ -428,7 +427,7 @@ fn check_overfull_on_graphs(
 }
 
 /// So many minutes are overfilled.
-struct Overfull(usize);
+struct Overfull(Minute);
 
 impl Check for Overfull {
     fn check<R: Abort + AllocGlobal>(&self, rt: &R, inst: Instance<'_>) -> Result<(), Fail> {
