@@ -2,6 +2,7 @@ pub mod LowerLemmas
 pub mod OwnLemmas
 pub mod OpenLemmas
 pub mod ToComeLemmas
+pub mod AskLemmas
 pub mod AtLemmas
 pub mod HereLemmas
 pub mod BehindLemmas

@@ -11,3 +11,6 @@ greatest_by-requires-clause-splits g c = c.requires.splits
 
 pub greatest_by-requires-clause-prices : goal.greatest_by-requires-clause-prices
 greatest_by-requires-clause-prices g c = c.requires.prices
+
+pub returns : goal.returns
+returns g c = c.greatest_by.ensures

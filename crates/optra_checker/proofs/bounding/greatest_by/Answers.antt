@@ -20,3 +20,6 @@ find_watches-requires-clause-items g c = c.requires.items
 
 pub find_watches-requires-clause-frees : goal.find_watches-requires-clause-frees
 find_watches-requires-clause-frees g c = c.requires.frees
+
+pub returns : goal.returns
+returns g c = c.greatest_over.ensures

@@ -8,3 +8,6 @@ leaves_hold_by-requires-clause-items g c = c.requires.items
 
 pub leaves_hold_by-requires-clause-splits : goal.leaves_hold_by-requires-clause-splits
 leaves_hold_by-requires-clause-splits g c = c.requires.splits
+
+pub returns : goal.returns
+returns g c = c.leaves_hold_by.ensures

@@ -18,3 +18,18 @@ returns-clause-size g c =
     let to = k.2.1 in
     let n : to_z w128 (of_z w128 c.less.result) ≡ c.in_ok-rest.rest -ℤ c.args.share -ℤ c.in_ok-cost.cost = let z = c.less.ensures in omega (arith, ints) in
     less_size c.args.leg.depart c.in_ok-rest.rest c.args.share c.in_ok-cost.cost (to_z w128 (of_z w128 c.less.result)) late r c.requires.share.0 c.requires.share.1 from to n
+
+pub leg_cost-requires-clause-usable : goal.leg_cost-requires-clause-usable
+leg_cost-requires-clause-usable g c = c.requires.usable
+
+pub leg_cost-requires-clause-asks : goal.leg_cost-requires-clause-asks
+leg_cost-requires-clause-asks g c = c.requires.asks
+
+pub returns-clause-asks : goal.returns-clause-asks
+returns-clause-asks g c = c.in_ok-cost.ensures.asks
+
+pub returns-in_err-rest-clause-asks : goal.returns-in_err-rest-clause-asks
+returns-in_err-rest-clause-asks g c = c.requires.asks
+
+pub returns-in_err-cost-clause-asks : goal.returns-in_err-cost-clause-asks
+returns-in_err-cost-clause-asks g c = c.in_err-cost.ensures.asks

@@ -5,6 +5,7 @@ use Rattle.optra_walk.specs.declared.Action.TheVariants.{Finish}
 use Rattle.optra_checker.specs.Rests.{end_price}
 use Rattle.optra_checker.specs.Ways.{leg_by, IsLegBy}
 use Rattle.optra_checker.proofs.MoveLemmas.{finish_none, finish_best, finish_move, named_best}
+use Rattle.optra_checker.proofs.AskLemmas.{leg_usable, track_asked}
 use Rattle.optra_checker.proofs.rests.finish_rest.Goals as goal
 
 pub returns-then-not-may_finish-clause-best : goal.returns-then-not-may_finish-clause-best
@@ -22,3 +23,20 @@ returns-clause-best g c =
     c.begin_with.result c.leg-leg.ensures (let e = c.end_price.ensures.value in let a = c.end_price.ensures.range.0 in let b = c.end_price.ensures.range.1 in omega (arith, ints)) refl
     c.begin_with.ensures.value c.begin_with.ensures.size refl
     (finish_best w net bid c.args.table.now c.args.way.from c.requires.ready c.args.way c.requires.way c.requires.weights (finish_move net bid.path c.args.way.from c.args.way c.requires.way fits))
+
+pub begin_with-requires-clause-asks : goal.begin_with-requires-clause-asks
+begin_with-requires-clause-asks g c = c.requires.asks
+
+pub returns-clause-asks : goal.returns-clause-asks
+returns-clause-asks g c = c.begin_with.ensures.asks
+
+pub returns-then-not-may_finish-clause-asks : goal.returns-then-not-may_finish-clause-asks
+returns-then-not-may_finish-clause-asks g c = c.requires.asks
+
+pub begin_with-requires-clause-usable : goal.begin_with-requires-clause-usable
+begin_with-requires-clause-usable g c =
+    leg_usable (g.W.Weighing.weights c.args.weighing.now) c.args.net.now c.args.bid.now c.args.table.now c.args.way.from c.requires.ready c.args.way c.requires.way c.requires.weights Finish (omega arith) c.leg-leg.result c.leg-leg.ensures
+
+pub begin_with-requires-clause-track : goal.begin_with-requires-clause-track
+begin_with-requires-clause-track g c =
+    track_asked (g.W.Weighing.weights c.args.weighing.now) c.args.net.now c.args.bid.now c.args.table.now c.args.way.from c.requires.ready c.args.way c.requires.way c.requires.weights Finish c.leg-leg.result c.leg-leg.ensures _ c.requires.asks

@@ -59,3 +59,12 @@ begin_with-requires-clause-usable g c =
     let w = g.W.Weighing.weights c.args.weighing.now in
     subst (λ (leg : Leg). IsUsable w.net w.kind leg) (sym c.leg.ensures)
     (halt_usable w c.args.net.now c.args.bid.now c.args.table.now c.args.way.from c.requires.ready c.args.way c.requires.way c.requires.weights c.args.dwell c.requires.halt)
+
+pub rest-rest-requires-clause-table : goal.rest-rest-requires-clause-table
+rest-rest-requires-clause-table g c = c.requires.ready.is_table
+
+pub begin_with-requires-clause-asks : goal.begin_with-requires-clause-asks
+begin_with-requires-clause-asks g c = c.requires.asks
+
+pub returns-clause-asks : goal.returns-clause-asks
+returns-clause-asks g c = c.begin_with.ensures.asks

@@ -38,3 +38,24 @@ returns-in_err-stop-clause-best g c =
 pub returns-then-not-may_halt-clause-best : goal.returns-then-not-may_halt-clause-best
 returns-then-not-may_halt-clause-best g c = halt_none (g.W.Weighing.weights c.args.weighing.now) c.args.net.now c.args.bid.now c.args.table.now c.args.way.from c.requires.ready c.args.way c.requires.way c.requires.weights
     c.in_ok-stop.stop (sym c.in_ok-stop.ensures) (λ h. let t = c.may_halt.ensures.1 h in cc)
+
+pub halt_rest-rest-requires-clause-asks : goal.halt_rest-rest-requires-clause-asks
+halt_rest-rest-requires-clause-asks g c = c.loop-dwell.invariant.asks
+
+pub halt_rest-rest-requires-clause-weights : goal.halt_rest-rest-requires-clause-weights
+halt_rest-rest-requires-clause-weights g c = c.requires.weights
+
+pub halt_rest-rest-requires-clause-ready : goal.halt_rest-rest-requires-clause-ready
+halt_rest-rest-requires-clause-ready g c = c.requires.ready
+
+pub halt_rest-rest-requires-clause-way : goal.halt_rest-rest-requires-clause-way
+halt_rest-rest-requires-clause-way g c = c.requires.way
+
+pub returns-clause-asks : goal.returns-clause-asks
+returns-clause-asks g c = c.loop-dwell.invariant.asks
+
+pub returns-in_err-stop-clause-asks : goal.returns-in_err-stop-clause-asks
+returns-in_err-stop-clause-asks g c = c.requires.asks
+
+pub returns-then-not-may_halt-clause-asks : goal.returns-then-not-may_halt-clause-asks
+returns-then-not-may_halt-clause-asks g c = c.requires.asks

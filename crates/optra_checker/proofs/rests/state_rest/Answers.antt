@@ -27,3 +27,15 @@ track_rest-rest-requires-clause-tail g c = tail_in c.args.net.now c.args.state c
 pub returns-clause-best : goal.returns-clause-best
 returns-clause-best g c = tracks_all (g.W.Weighing.weights c.args.weighing.now) c.args.net.now c.args.bid.now c.args.state c.out_tracks-track-items.result.now c.loop-track.track-index c.loop-track.best
     c.out_tracks-track-items.ensures.tracks c.loop-track-test.false c.loop-track.invariant.best
+
+pub track_rest-rest-requires-clause-asks : goal.track_rest-rest-requires-clause-asks
+track_rest-rest-requires-clause-asks g c = c.loop-track.invariant.asks
+
+pub track_rest-rest-requires-clause-weights : goal.track_rest-rest-requires-clause-weights
+track_rest-rest-requires-clause-weights g c = c.requires.weights
+
+pub track_rest-rest-requires-clause-ready : goal.track_rest-rest-requires-clause-ready
+track_rest-rest-requires-clause-ready g c = c.requires.ready
+
+pub returns-clause-asks : goal.returns-clause-asks
+returns-clause-asks g c = c.loop-track.invariant.asks

@@ -33,3 +33,24 @@ returns-then-is_late-clause-best g c =
     let e = ready.placed.early in
     subst (λ (t : TrackId). IsBestRest w c.args.net.now c.args.bid.now c.args.state (IsOn t) None) way.0
     (late_way w c.args.net.now c.args.bid.now c.args.table.now c.args.state c.in_ok-way.way ready.setting ready.reach is (omega (arith, f, m, l, e)) (c.is_late.ensures.pass c.if-is_late.true) (c.is_late.ensures.halt c.if-is_late.true))
+
+pub find_way-requires-clause-tail : goal.find_way-requires-clause-tail
+find_way-requires-clause-tail g c = c.requires.tail
+
+pub is_late-requires-clause-table : goal.is_late-requires-clause-table
+is_late-requires-clause-table g c = c.requires.ready.is_table
+
+pub way_rest-requires-clause-asks : goal.way_rest-requires-clause-asks
+way_rest-requires-clause-asks g c = c.requires.asks
+
+pub way_rest-requires-clause-weights : goal.way_rest-requires-clause-weights
+way_rest-requires-clause-weights g c = c.requires.weights
+
+pub returns-clause-asks : goal.returns-clause-asks
+returns-clause-asks g c = c.way_rest.ensures.asks
+
+pub returns-in_err-way-clause-asks : goal.returns-in_err-way-clause-asks
+returns-in_err-way-clause-asks g c = c.requires.asks
+
+pub returns-then-is_late-clause-asks : goal.returns-then-is_late-clause-asks
+returns-then-is_late-clause-asks g c = c.requires.asks

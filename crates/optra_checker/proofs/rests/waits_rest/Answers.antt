@@ -25,3 +25,18 @@ loop-dwell-preserved g c =
 
 pub returns-clause-best : goal.returns-clause-best
 returns-clause-best g c = wait_end (g.W.Weighing.weights c.args.weighing.now) c.args.net.now c.args.bid.now c.args.table.now c.args.way.from c.requires.ready c.args.way c.requires.way c.requires.weights c.loop-dwell.dwell c.loop-dwell.best (omega arith) c.loop-dwell.invariant.best
+
+pub wait_rest-rest-requires-clause-asks : goal.wait_rest-rest-requires-clause-asks
+wait_rest-rest-requires-clause-asks g c = c.loop-dwell.invariant.asks
+
+pub wait_rest-rest-requires-clause-weights : goal.wait_rest-rest-requires-clause-weights
+wait_rest-rest-requires-clause-weights g c = c.requires.weights
+
+pub wait_rest-rest-requires-clause-ready : goal.wait_rest-rest-requires-clause-ready
+wait_rest-rest-requires-clause-ready g c = c.requires.ready
+
+pub wait_rest-rest-requires-clause-way : goal.wait_rest-rest-requires-clause-way
+wait_rest-rest-requires-clause-way g c = c.requires.way
+
+pub returns-clause-asks : goal.returns-clause-asks
+returns-clause-asks g c = c.loop-dwell.invariant.asks

@@ -21,3 +21,9 @@ returns g c =
     let e = ap (λ (window : Window). window.to) c.departures-window.ensures.window in
     let all = starts_all (g.W.Weighing.weights c.args.weighing.now) c.args.net.now c.args.bid.now c.loop-minute.minute c.loop-minute.best (omega arith) c.loop-minute.invariant in
     record { best = all; size = c.loop-minute.invariant.size }
+
+pub start_walk-walk-requires-clause-weights : goal.start_walk-walk-requires-clause-weights
+start_walk-walk-requires-clause-weights g c = c.requires.weights
+
+pub start_walk-walk-requires-clause-filled : goal.start_walk-walk-requires-clause-filled
+start_walk-walk-requires-clause-filled g c = c.requires.filled

@@ -50,3 +50,9 @@ returns g c =
     let table = c.minutes.table in
     let zero : c.minutes.left ≡ 0 = omega (arith, c.minutes-test.false) in
     subst (λ (n : ℕ). IsFilled w c.args.net.now c.args.bid.now table n) (ap (λ (n : ℕ). spot_at table.layout n 0) zero ∙ (omega arith)) c.minutes.invariant.filled
+
+pub fill_minute-requires-clause-asks : goal.fill_minute-requires-clause-asks
+fill_minute-requires-clause-asks g c = c.minutes.invariant.asks
+
+pub fill_minute-requires-clause-weights : goal.fill_minute-requires-clause-weights
+fill_minute-requires-clause-weights g c = c.requires.weights

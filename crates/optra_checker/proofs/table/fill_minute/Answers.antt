@@ -66,3 +66,12 @@ returns-clause-filled g c =
     let at : spot_at c.stations.table.layout (c.args.minute - c.stations.table.layout.first) c.stations.left ≡ spot_at c.args.table.now.layout (c.args.minute - c.args.table.now.layout.first) 0 =
     (λ i. spot_at (lay i) (c.args.minute - (lay i).first) (zero i)) in
     subst (λ (n : ℕ). IsFilled w c.args.net.now c.args.bid.now c.stations.table n) at c.stations.invariant.filled
+
+pub fill_spot-requires-clause-asks : goal.fill_spot-requires-clause-asks
+fill_spot-requires-clause-asks g c = c.stations.invariant.asks
+
+pub fill_spot-requires-clause-weights : goal.fill_spot-requires-clause-weights
+fill_spot-requires-clause-weights g c = c.requires.weights
+
+pub returns-clause-asks : goal.returns-clause-asks
+returns-clause-asks g c = c.stations.invariant.asks

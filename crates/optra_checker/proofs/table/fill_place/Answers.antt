@@ -36,3 +36,15 @@ returns-clause-filled g c =
     let rests = c.put.ensures.rests ∙ ap (λ (n : ℕ). slice_set (rests_of table) n c.spot_rest-rest.result) c.place.ensures.value in
     filled_more (g.W.Weighing.weights c.args.weighing.now) c.args.net.now c.args.bid.now table c.put.new.self c.args.state c.spot_rest-rest.result c.requires.placed
     c.requires.filled c.spot_rest-rest.ensures.best rests c.put.ensures.layout c.put.ensures.reach
+
+pub spot_rest-rest-requires-clause-asks : goal.spot_rest-rest-requires-clause-asks
+spot_rest-rest-requires-clause-asks g c = c.requires.asks
+
+pub spot_rest-rest-requires-clause-weights : goal.spot_rest-rest-requires-clause-weights
+spot_rest-rest-requires-clause-weights g c = c.requires.weights
+
+pub returns-clause-asks : goal.returns-clause-asks
+returns-clause-asks g c = c.spot_rest-rest.ensures.asks
+
+pub returns-then-not-was_time-clause-asks : goal.returns-then-not-was_time-clause-asks
+returns-then-not-was_time-clause-asks g c = c.requires.asks

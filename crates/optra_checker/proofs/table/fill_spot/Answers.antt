@@ -77,3 +77,15 @@ returns-clause-filled g c =
     let at : spot_at c.slots.table.layout (c.args.minute - c.slots.table.layout.first) c.args.station.0 + c.slots.left ≡ spot_at c.args.table.now.layout (c.args.minute - c.args.table.now.layout.first) c.args.station.0 + 0 =
     (λ i. spot_at (lay i) (c.args.minute - (lay i).first) c.args.station.0 + zero i) in
     subst (λ (n : ℕ). IsFilled w c.args.net.now c.args.bid.now c.slots.table n) (at ∙ (omega arith)) c.slots.invariant.filled
+
+pub fill_place-requires-clause-asks : goal.fill_place-requires-clause-asks
+fill_place-requires-clause-asks g c = c.slots.invariant.asks
+
+pub fill_place-requires-clause-weights : goal.fill_place-requires-clause-weights
+fill_place-requires-clause-weights g c = c.requires.weights
+
+pub returns-clause-asks : goal.returns-clause-asks
+returns-clause-asks g c = c.slots.invariant.asks
+
+pub returns-then-not-has-clause-asks : goal.returns-then-not-has-clause-asks
+returns-then-not-has-clause-asks g c = c.requires.asks

@@ -24,3 +24,15 @@ fill-requires-clause-reach g c = subst (IsReach c.args.net.now c.args.bid.now.pa
 
 pub best_start-requires-clause-filled : goal.best_start-requires-clause-filled
 best_start-requires-clause-filled g c = c.fill.ensures
+
+pub make_reach-requires : goal.make_reach-requires
+make_reach-requires g c = c.requires.path
+
+pub make_layout-requires : goal.make_layout-requires
+make_layout-requires g c = c.requires.path
+
+pub fill-requires-clause-weights : goal.fill-requires-clause-weights
+fill-requires-clause-weights g c = c.requires.weights
+
+pub best_start-requires-clause-weights : goal.best_start-requires-clause-weights
+best_start-requires-clause-weights g c = c.requires.weights

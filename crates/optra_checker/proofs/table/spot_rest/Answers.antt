@@ -22,3 +22,24 @@ returns-then-not-is_ahead-clause-best g c =
     let slots = ready.setting.laid.slots in
     let done = ready.placed.done in
     ahead_rest w c.args.net.now c.args.bid.now c.args.table.now.reach c.args.state ready.reach (omega (arith, slots, done)) (λ h. not_both c.is_ahead.result c.if-not-is_ahead.true (c.is_ahead.ensures.1 h))
+
+pub is_ahead-requires-clause-ahead : goal.is_ahead-requires-clause-ahead
+is_ahead-requires-clause-ahead g c = c.requires.ready.reach.ahead
+
+pub state_rest-requires-clause-asks : goal.state_rest-requires-clause-asks
+state_rest-requires-clause-asks g c = c.requires.asks
+
+pub state_rest-requires-clause-weights : goal.state_rest-requires-clause-weights
+state_rest-requires-clause-weights g c = c.requires.weights
+
+pub state_rest-requires-clause-ready : goal.state_rest-requires-clause-ready
+state_rest-requires-clause-ready g c = c.requires.ready
+
+pub returns-clause-best : goal.returns-clause-best
+returns-clause-best g c = c.state_rest.ensures.best
+
+pub returns-clause-asks : goal.returns-clause-asks
+returns-clause-asks g c = c.state_rest.ensures.asks
+
+pub returns-then-not-is_ahead-clause-asks : goal.returns-then-not-is_ahead-clause-asks
+returns-then-not-is_ahead-clause-asks g c = c.requires.asks

@@ -23,3 +23,15 @@ best_found-requires-clause-ascending g c = c.requires.ascending
 
 pub best_found-requires-clause-proper : goal.best_found-requires-clause-proper
 best_found-requires-clause-proper g c = c.requires.proper
+
+pub stays_free-requires-clause-instance : goal.stays_free-requires-clause-instance
+stays_free-requires-clause-instance g c = c.requires.instance
+
+pub best_found-requires-clause-instance : goal.best_found-requires-clause-instance
+best_found-requires-clause-instance g c = c.requires.instance
+
+pub returns-clause-best : goal.returns-clause-best
+returns-clause-best g c = c.best_found.ensures.best
+
+pub returns-clause-size : goal.returns-clause-size
+returns-clause-size g c = c.best_found.ensures.size

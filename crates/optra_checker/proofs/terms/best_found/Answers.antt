@@ -37,3 +37,6 @@ returns-clause-best g c =
     let same : get_or c.inst-inst.result.bids.now c.args.bid r ≡ b = ap (λ bs. get_or bs c.args.bid r) c.inst-inst.ensures.bids ∙ get_or_from_slice_get node.bids c.args.bid b r at in
     subst (λ x. IsBestWorth weights node.net x best) same (subst (λ n. IsBestWorth weights n (get_or c.inst-inst.result.bids.now c.args.bid r) best) c.inst-inst.ensures.net is))
     c.search.ensures.best
+
+pub returns-clause-size : goal.returns-clause-size
+returns-clause-size g c = c.search.ensures.size

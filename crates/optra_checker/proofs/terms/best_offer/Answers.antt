@@ -35,3 +35,6 @@ best_at-requires-clause-proper g c = c.requires.proper
 
 pub best_at-requires-clause-free : goal.best_at-requires-clause-free
 best_at-requires-clause-free g c = c.requires.free
+
+pub best_at-requires-clause-instance : goal.best_at-requires-clause-instance
+best_at-requires-clause-instance g c = c.requires.instance

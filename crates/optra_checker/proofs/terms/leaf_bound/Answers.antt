@@ -35,3 +35,6 @@ term_sum-requires-clause-frees g c = c.requires.frees
 
 pub term_sum-requires-clause-watches : goal.term_sum-requires-clause-watches
 term_sum-requires-clause-watches g c = c.requires.watches
+
+pub term_sum-requires-clause-instance : goal.term_sum-requires-clause-instance
+term_sum-requires-clause-instance g c = c.requires.instance

@@ -25,3 +25,9 @@ leg_price-requires-clause-ascending g c = c.requires.ascending
 
 pub leg_price-requires-clause-proper : goal.leg_price-requires-clause-proper
 leg_price-requires-clause-proper g c = c.requires.proper
+
+pub usable_leg_ok-requires-clause-usable : goal.usable_leg_ok-requires-clause-usable
+usable_leg_ok-requires-clause-usable g c = c.requires.usable
+
+pub leg_price-requires-clause-usable : goal.leg_price-requires-clause-usable
+leg_price-requires-clause-usable g c = c.requires.usable

@@ -35,3 +35,12 @@ best_offer-requires-clause-proper g c = c.requires.proper
 
 pub best_offer-requires-clause-free : goal.best_offer-requires-clause-free
 best_offer-requires-clause-free g c = c.requires.free
+
+pub best_offer-requires-clause-instance : goal.best_offer-requires-clause-instance
+best_offer-requires-clause-instance g c = c.requires.instance
+
+pub returns-clause-best : goal.returns-clause-best
+returns-clause-best g c = c.best_offer.ensures.best
+
+pub returns-clause-size : goal.returns-clause-size
+returns-clause-size g c = c.best_offer.ensures.size

@@ -81,3 +81,6 @@ offer_at-requires-clause-ascending g c = c.requires.ascending
 
 pub offer_at-requires-clause-proper : goal.offer_at-requires-clause-proper
 offer_at-requires-clause-proper g c = c.requires.proper
+
+pub offer_at-requires-clause-instance : goal.offer_at-requires-clause-instance
+offer_at-requires-clause-instance g c = c.requires.instance

@@ -15,3 +15,9 @@ returns g c =
     let items = λ (ws : Vec (Option (Vec g.row.F-Row.Denot Global)) Global). map (option_map (λ (w : Vec g.row.F-Row.Denot Global). w.items)) ws.items in
     if_ok c.watch_all.result (λ ws. AreWatches rows bids loads frees (items ws)) (λ ws. AreTreeWatches rows bids c.args.tree.now frees (items ws))
     (λ ws are. record { loads = loads; split = c.in_ok-loads.ensures; are = are }) c.watch_all.ensures
+
+pub split_loads-requires : goal.split_loads-requires
+split_loads-requires g c = c.requires.items
+
+pub watch_all-requires : goal.watch_all-requires
+watch_all-requires g c = c.requires.frees

@@ -53,3 +53,9 @@ returns-else-keeps_off g c =
 
 pub keeps_off-requires-clause-rising : goal.keeps_off-requires-clause-rising
 keeps_off-requires-clause-rising g c = c.requires.rising
+
+pub keeps_off-requires-clause-usable : goal.keeps_off-requires-clause-usable
+keeps_off-requires-clause-usable g c = c.requires.usable
+
+pub has_room-requires-clause-usable : goal.has_room-requires-clause-usable
+has_room-requires-clause-usable g c = c.requires.usable

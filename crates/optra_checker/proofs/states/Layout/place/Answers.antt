@@ -12,3 +12,9 @@ returns-clause-within c =
     let s = c.slot.ensures.value in
     let same : c.spot.result * c.from.result + c.slot.result ≡ place_of c.args.self c.args.state = (λ i. v i * f i + s i) in
     subst (λ n. n < places_of c.args.self) (sym same) p
+
+pub spot-requires-clause-small : goal.spot-requires-clause-small
+spot-requires-clause-small c = c.requires.small
+
+pub spot-requires-clause-placed : goal.spot-requires-clause-placed
+spot-requires-clause-placed c = c.requires.placed

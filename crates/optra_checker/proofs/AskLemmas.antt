@@ -1,0 +1,37 @@
+-- What a leg by a way costs may be asked of.
+use Rattle.std.proofs.Common.{◌≡◌, ◌≤◌, ◌<◌, length, List, Option, sym, ap, subst, arith}
+use Rattle.std.proofs.lemmas.Option.{slice_get_within}
+use Rattle.optra_network.specs.Net.{Net}
+use Rattle.optra_network.specs.declared.TypeId.{TypeId}
+use Rattle.optra_bid.specs.declared.bids.Bid.{Bid}
+use Rattle.optra_walk.specs.declared.Action.{Action}
+use Rattle.optra_walk.specs.declared.Leg.{Leg}
+use Rattle.optra_walk.specs.Families.{IsUsable}
+use Rattle.optra_walk.specs.Legs.{dwell_of}
+use Rattle.optra_checker.specs.Asks.{AreAsked}
+use Rattle.optra_checker.specs.Tables.{IsReadyFor}
+use Rattle.optra_checker.specs.Ways.{leg_by, IsWay}
+use Rattle.optra_checker.specs.Weights.{Weights, AreWeightsFor}
+use Rattle.optra_checker.specs.declared.asks.Ask.{Ask}
+use Rattle.optra_checker.specs.declared.rest_table.RestTable.{RestTable}
+use Rattle.optra_checker.specs.declared.states.State.{State}
+use Rattle.optra_checker.specs.declared.ways.Way.{Way}
+use Rattle.optra_checker.proofs.ReachLemmas.{track_there}
+
+module _ (w : Weights) (net : Net) (bid : Bid) (table : RestTable) (s : State) (ready : IsReadyFor w net bid table s) (way : Way) (by : IsWay net bid.path s way) (for : AreWeightsFor w net bid.path) where
+  pub leg_usable : (a : Action) → dwell_of a ≤ 240 → (leg : Leg) → leg ≡ leg_by s way.track a → IsUsable w.net w.kind leg
+  leg_usable a few leg is =
+      let late = ready.placed.late in
+      let end = ready.setting.small.end in
+      let here : IsUsable net bid.path.kind (leg_by s way.track a) = record { proper = ready.setting.proper; may_use = by.may_use; depart = omega arith; dwell = few } in
+      subst (λ (l : Leg). IsUsable w.net w.kind l) (sym is)
+      (subst (λ (k : TypeId). IsUsable w.net k (leg_by s way.track a)) (sym for.kind_is) (subst (λ (n : Net). IsUsable n bid.path.kind (leg_by s way.track a)) (sym for.net_is) here))
+
+  pub track_asked : (a : Action) (leg : Leg) → leg ≡ leg_by s way.track a → (asks : List (Option Ask)) → AreAsked w asks → leg.track.0 < length asks
+  track_asked a leg is asks are =
+      let there = track_there net.tracks way.track.0 s.station by.tail in
+      let within = slice_get_within net.tracks way.track.0 there.0 there.1 in
+      let tracks : length w.net.tracks ≡ length net.tracks = ap (λ (n : Net). length n.tracks) for.net_is in
+      let track : leg.track.0 ≡ way.track.0 = ap (λ (l : Leg). l.track.0) is in
+      let len = are.len in
+      omega (arith, within, tracks, track, len)
