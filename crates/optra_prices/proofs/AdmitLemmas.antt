@@ -8,7 +8,7 @@ use Rattle.optra_walk.specs.Families.{Rows}
 use Rattle.optra_prices.specs.Courses.{HaveCapacities}
 use Rattle.optra_prices.specs.Listings.{AddsZeros}
 use Rattle.optra_prices.specs.Tables.{Extends, group_price}
-use Rattle.optra_prices.specs.declared.numbering.Touch.{Touch}
+use Rattle.optra_prices.specs.declared.touch.Touch.{Touch}
 use Rattle.optra_prices.proofs.ListLemmas.{some_at}
 use Rattle.optra_prices.proofs.ValueOfLemmas.{zeros_at}
 

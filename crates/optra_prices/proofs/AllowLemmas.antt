@@ -32,7 +32,7 @@ use Rattle.optra_prices.specs.declared.rooms.Told.{Told}
 use Rattle.optra_prices.specs.ArcTerms.{ArcTerm}
 use Rattle.optra_prices.specs.declared.numbering.BidTable.{BidTable}
 use Rattle.optra_prices.specs.declared.numbering.Groups.{Groups}
-use Rattle.optra_prices.specs.declared.numbering.Touch.{Touch}
+use Rattle.optra_prices.specs.declared.touch.Touch.{Touch}
 use Rattle.optra_prices.specs.declared.rooms.Room.{Room}
 use Rattle.optra_prices.proofs.ListLemmas.{some_at, all_at}
 use Rattle.optra_prices.proofs.ClaimLemmas.{placed_load}
@@ -75,7 +75,7 @@ module _ {R : Type 0} (cmp : R → R → Ordering) (net : Net) (proper : IsPrope
         let within = slice_get_within table.arcs k arc arc_at in
         let count = at.arcs_are.count in
         let usable = arc_usable net proper bid table.graph.now at.arcs_are.graph k leg (omega (arith, within, count)) there in
-        let group = group_at groups.starts.items groups.touches.items arc.group in
+        let group = group_at groups.starts.items groups.touches arc.group in
         subst (λ (kind : TypeId). HasRoomForAll room group ↔ (IsBlocked rows bids node number kind leg → ⊥)) (sym (kind_is bids number bid here))
         (room_free cmp rows bids node number numbered room is group bid.path.kind leg (used bid.path.kind leg) (at.arcs_are.terms.legs_are k leg arc arc_at there).group_is (lists bid.path.kind leg usable));
   }
@@ -106,13 +106,13 @@ pub arc_mark : {R : Type 0} (net : Net) (rows : Rows R) (bids : List Bid) (node 
 arc_mark net rows bids node number room t groups arcs tells k arc told mark at same is lets = record {
   start_is = λ minute start.
       let by = lets.start_is minute start in
-      let has : told.has_room ≡ true = is.1 (subst (HasRoomForAll room) (sym (ap (group_at groups.starts.items groups.touches.items) same ∙ tells.starts_are k minute arc at start)) (All-nil (HasRoomFor room))) in
+      let has : told.has_room ≡ true = is.1 (subst (HasRoomForAll room) (sym (ap (group_at groups.starts.items groups.touches) same ∙ tells.starts_are k minute arc at start)) (All-nil (HasRoomFor room))) in
       ((λ e. (by.0 e).1), (λ ok. by.1 (has, ok)));
   leg_is = λ leg there.
       let by = lets.leg_is leg there in
       let free = tells.legs_are k leg arc at there in
-      let is_here : (told.has_room ≡ true) ↔ HasRoomForAll room (group_at groups.starts.items groups.touches.items arc.group) =
-      subst (λ (g : ℕ). (told.has_room ≡ true) ↔ HasRoomForAll room (group_at groups.starts.items groups.touches.items g)) same is
+      let is_here : (told.has_room ≡ true) ↔ HasRoomForAll room (group_at groups.starts.items groups.touches arc.group) =
+      subst (λ (g : ℕ). (told.has_room ≡ true) ↔ HasRoomForAll room (group_at groups.starts.items groups.touches g)) same is
       in
       ((λ e. record { let_by = (by.0 e).1; free = free.0 (is_here.0 (by.0 e).0) }), (λ ok. by.1 (is_here.1 (free.1 ok.free), ok.let_by)));
 }
@@ -214,7 +214,7 @@ module _ {R : Type 0} (net : Net) (rows : Rows R) (used : TypeId → Leg → Lis
   pub table_anew : (number : ℕ) (bid : Bid) → slice_get bids number ≡ Some bid → (old new : BidTable) → IsTableAnew net rows bids node number old new → IsArcTable net rows used numbered groups bid old → IsBidTable now number numbered groups bid new
   table_anew number bid here old new anew is =
       let starts = groups.starts.items in
-      let touches = groups.touches.items in
+      let touches = groups.touches in
       let terms = terms_anew number old.graph.now old.arcs new.arcs anew.arcs bid starts touches is.arcs_are.terms in
       let marks = marks_anew number old.graph.now old.arcs new.arcs anew.arcs bid here in
       record {

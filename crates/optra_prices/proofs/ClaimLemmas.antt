@@ -23,7 +23,7 @@ use Rattle.optra_prices.specs.Holdings.{part_of}
 use Rattle.optra_prices.specs.Tables.{IsNumbering, number_in}
 use Rattle.optra_prices.specs.Uses.{touch_use, touch_uses}
 use Rattle.optra_prices.specs.declared.claims.Claim.{Claim}
-use Rattle.optra_prices.specs.declared.numbering.Touch.{Touch}
+use Rattle.optra_prices.specs.declared.touch.Touch.{Touch}
 use Rattle.optra_prices.proofs.HoldLemmas.{part_push, part_all}
 use Rattle.optra_prices.proofs.ListLemmas.{zip_at, same_first, same_rest}
 

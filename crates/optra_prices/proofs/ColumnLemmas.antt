@@ -7,15 +7,17 @@ use Rattle.std.proofs.lemmas.Int.{ints, clamps}
 use Rattle.std.proofs.lemmas.List.{get_or-set_same, get_or-set_other, get_or_default, get_or_past, length-set, take_more}
 use Rattle.std.proofs.lemmas.List.Elements.{All-contains, All-set, All-weaker, Contains-push_cases}
 use Rattle.std.proofs.Math.IntN.{zero-*ℤ}
-use Rattle.optra_prices.specs.Columns.{IsColumns, AreListed, IsDue, KeepsMarks, MarksGroups, MarksMore, MarksRow, MarkTells, PricesAllButDue, Reprices, mark_at, price_at}
+use Rattle.optra_prices.specs.Columns.{IsColumns, AreListed, IsDue, KeepsMarks, MarksGroups, MarksMore, MarksRow, MarkTells, IsPricedOrDue, PricesAllButDue, Reprices, mark_at, price_at}
 use Rattle.optra_prices.specs.Tables.{AreGroups, IsGroupPrice, group_at, group_price}
 use Rattle.optra_prices.specs.Indexes.{IsIndex}
+use Rattle.optra_prices.specs.Shares.{AreShares}
 use Rattle.optra_prices.specs.Users.{IsTouched, FindsUsers}
+use Rattle.optra_prices.specs.declared.index.Index.{Index}
 use Rattle.optra_prices.specs.declared.columns.Columns.{Columns}
 use Rattle.optra_prices.specs.declared.columns.Mark.{Mark}
 use Rattle.optra_prices.specs.declared.columns.Mark.TheVariants.{Still, Due, Rose, Fell}
 use Rattle.optra_prices.specs.declared.numbering.Groups.{Groups}
-use Rattle.optra_prices.specs.declared.numbering.Touch.{Touch}
+use Rattle.optra_prices.specs.declared.touch.Touch.{Touch}
 use Rattle.optra_node.proofs.LoadLemmas.{contains_head, contains_later}
 use Rattle.optra_node.proofs.SumLemmas.{sum_of-cons}
 use Rattle.optra_prices.proofs.ValueOfLemmas.{set_elsewhere}
@@ -50,7 +52,7 @@ listed_more marks due more g mark listed here kept h marked = elim (cases_eq h g
 -- the group has its price and its mark tells how it has moved, or it is due and left
 abbrev pub IsTold : List ℤ → Columns → ℕ → Columns → ℕ → Type 0
 IsTold prices old k now g =
-    ((g + 1 < length old.groups.starts.items → price_at now.grouped.items g ≡ group_price prices (group_at old.groups.starts.items old.groups.touches.items g))
+    ((g + 1 < length old.groups.starts.items → price_at now.grouped.items g ≡ group_price prices (group_at old.groups.starts.items old.groups.touches g))
     × MarkTells (price_at old.grouped.items g) (price_at now.grouped.items g) (mark_at now.marks.items g))
     ⊎ ((IsDue now g) × (price_at now.grouped.items g ≡ price_at old.grouped.items g) × IsLeft old.due.items k g)
 
@@ -72,23 +74,24 @@ touched_or prices row x (touch ∷ touches) = elim (cases_eq touch.row row) as (
 
 -- the group is due, or has its price and no mark
 abbrev HasPrice : List ℤ → Groups → Columns → ℕ → Type 0
-HasPrice prices groups c g = IsDue c g ⊎ ((mark_at c.marks.items g ≡ Still) × (price_at c.grouped.items g ≡ group_price prices (group_at groups.starts.items groups.touches.items g)))
+HasPrice prices groups c g = IsDue c g ⊎ ((mark_at c.marks.items g ≡ Still) × (price_at c.grouped.items g ≡ group_price prices (group_at groups.starts.items groups.touches g)))
 
 -- where the groups that touch the row are due, each of the others still has its price
-pub moved_due : (prices : List ℤ) (row : ℕ) (x : ℤ) (old new : Columns) → IsColumns old.groups old → new.groups ≡ old.groups → MarksRow row old new → PricesAllButDue prices old → PricesAllButDue (set prices row x) new
+pub moved_due : (prices : List ℤ) (row : ℕ) (x : ℤ) (old new : Columns) → IsColumns old.groups old → new.groups ≡ old.groups → MarksRow row old new → PricesAllButDue prices old
+    → (g : ℕ) → g + 1 < length new.groups.starts.items → IsPricedOrDue (set prices row x) new g
 moved_due prices row x old new is groups marks due = subst (λ (gs : Groups). (g : ℕ) → g + 1 < length gs.starts.items → HasPrice (set prices row x) gs new g) (sym groups) each
   where
     -- what was due stays due
-    by : (g : ℕ) → group_price (set prices row x) (group_at old.groups.starts.items old.groups.touches.items g) ≡ group_price prices (group_at old.groups.starts.items old.groups.touches.items g)
+    by : (g : ℕ) → group_price (set prices row x) (group_at old.groups.starts.items old.groups.touches g) ≡ group_price prices (group_at old.groups.starts.items old.groups.touches g)
         → (mark_at new.marks.items g ≡ mark_at old.marks.items g) ⊎ IsDue new g → HasPrice prices old.groups old g → HasPrice (set prices row x) old.groups new g
     by g same (inr marked) has = inl marked
     by g same (inl mark) (inl was) = inl (mark ∙ was)
     by g same (inl mark) (inr has) = inr (mark ∙ has.0, ap (λ v. price_at v.items g) marks.more.prices ∙ has.1 ∙ sym same)
 
     each : (g : ℕ) → g + 1 < length old.groups.starts.items → HasPrice (set prices row x) old.groups new g
-    each g l = elim (touched_or prices row x (group_at old.groups.starts.items old.groups.touches.items g)) as (λ _. HasPrice (set prices row x) old.groups new g) [
+    each g l = elim (touched_or prices row x (group_at old.groups.starts.items old.groups.touches g)) as (λ _. HasPrice (set prices row x) old.groups new g) [
       | inl touched ↦ inl (marks.users_due g (let a = is.count in let b = is.mark_count in omega arith) (is.found g row l touched))
-      | inr same ↦ by g same (marks.more.marks g) (due g l)
+      | inr same ↦ by g same (marks.more.marks g) (due.each g l)
     ]
 
 -- ---- marks after marks
@@ -96,6 +99,7 @@ pub marks_on : (old mid new : Columns) → MarksMore old mid → MarksMore mid n
 marks_on old mid new a b = record {
   users = b.users ∙ a.users;
   prices = b.prices ∙ a.prices;
+  running = b.running ∙ a.running;
   marks = λ g. by g (a.marks g) (b.marks g);
 }
   where
@@ -163,13 +167,15 @@ below_all n groups old now past below = record {
 }
 
 -- the groups of a row are due
-pub marked_columns : (old new : Columns) (groups : List ℕ) → IsColumns old.groups old → new.groups ≡ old.groups → new.users ≡ old.users → new.grouped ≡ old.grouped → new.highest ≡ old.highest → AreListed new.marks.items new.due.items
+pub marked_columns : (old new : Columns) (groups : List ℕ) → IsColumns old.groups old → new.groups ≡ old.groups → new.users ≡ old.users → new.grouped ≡ old.grouped → new.highest ≡ old.highest → new.amounts ≡ old.amounts → new.running ≡ old.running → AreListed new.marks.items new.due.items
     → MarksGroups groups old.marks.items new.marks.items → IsColumns old.groups new
-marked_columns old new groups is same users grouped highest listed marks = record {
+marked_columns old new groups is same users grouped highest amounts running listed marks = record {
   groups_are = same;
-  are = subst (λ (gs : Groups). AreGroups gs.starts.items gs.touches.items) (sym same) is.are;
+  are = subst (λ (gs : Groups). AreGroups gs.starts.items gs.touches) (sym same) is.are;
   users_are = subst IsIndex (sym users) is.users_are;
   found = subst (FindsUsers new.groups) (sym users) (subst (λ (gs : Groups). FindsUsers gs old.users) (sym same) is.found);
+  shares = subst (λ (gs : Groups). AreShares gs new.users new.amounts.items) (sym same) (subst (λ v. AreShares old.groups new.users v.items) (sym amounts) (subst (λ (us : Index). AreShares old.groups us old.amounts.items) (sym users) is.shares));
+  running_count = ap (λ v. length v.items) running ∙ is.running_count ∙ ap (λ v. length v.items) (sym grouped);
   count = ap (λ v. length v.items + 1) grouped ∙ is.count ∙ ap (λ (gs : Groups). length gs.starts.items) (sym same);
   mark_count = marks.keeps.count ∙ is.mark_count ∙ ap (λ v. length v.items) (sym grouped);
   range = subst (λ v. All IsGroupPrice v.items) (sym grouped) is.range;
@@ -187,7 +193,7 @@ tells_by old price price' mark mark' e f tells = subst (λ (z : ℤ). MarkTells 
 
 pub told_first : (prices : List ℤ) (old : Columns) → IsColumns old.groups old → PricesAllButDue prices old → (g : ℕ) → IsTold prices old 0 old g
 told_first prices old is due g = elim (cases_lt (g + 1) (length old.groups.starts.items)) as (λ _. IsTold prices old 0 old g) [
-  | inl within ↦ by within (due g within)
+  | inl within ↦ by within (due.each g within)
   | inr past ↦
       let still : mark_at old.marks.items g ≡ Still = get_or_past old.marks.items g Still (let a = is.count in let b = is.mark_count in omega arith) in
       inl (λ l. absurd (omega arith), still_tells (price_at old.grouped.items g) (mark_at old.marks.items g) still)
@@ -204,7 +210,7 @@ told_more prices old now new k g groups here repriced h (inl told) =
 told_more prices old now new k g groups here repriced h (inr (due, same, left)) = elim (cases_eq h g) as (λ _. IsTold prices old (k + 1) new h) [
   | inl is ↦
       let due_here : IsDue now g = subst (IsDue now) is due in
-      let priced = repriced.priced due_here ∙ ap (λ (gs : Groups). group_price prices (group_at gs.starts.items gs.touches.items g)) groups in
+      let priced = repriced.priced due_here ∙ ap (λ (gs : Groups). group_price prices (group_at gs.starts.items gs.touches g)) groups in
       let marked = repriced.marked due_here in
       subst (IsTold prices old (k + 1) new) (sym is) (inl (λ l. priced, subst (λ (z : ℤ). MarkTells z (price_at new.grouped.items g) (mark_at new.marks.items g)) (sym (ap (price_at now.grouped.items) is) ∙ same ∙ ap (price_at old.grouped.items) is) marked))
   | inr apart ↦
@@ -220,7 +226,7 @@ told_more prices old now new k g groups here repriced h (inr (due, same, left)) 
 ]
 
 pub not_due : (prices : List ℤ) (g : ℕ) (c : Columns) → (IsDue c g → ⊥) → Reprices prices g c c
-not_due prices g c other_mark = record { due_is = refl; priced = λ due. absurd (other_mark due); marked = λ due. absurd (other_mark due); kept = λ h other. (refl, refl) }
+not_due prices g c other_mark = record { due_is = refl; running_is = refl; priced = λ due. absurd (other_mark due); marked = λ due. absurd (other_mark due); kept = λ h other. (refl, refl) }
 
 pub past_due : (c : Columns) (g : ℕ) → length c.marks.items ≤ g → IsDue c g → ⊥
 past_due c g past due = let still : mark_at c.marks.items g ≡ Still = get_or_past c.marks.items g Still past in cc
@@ -240,7 +246,7 @@ high_max highest price h p =
 
 -- when all that are listed are priced, each group has its price, and its mark tells how it has moved
 pub told_all : (prices : List ℤ) (old now : Columns) (k g : ℕ) → length old.due.items ≤ k → IsTold prices old k now g
-    → (g + 1 < length old.groups.starts.items → price_at now.grouped.items g ≡ group_price prices (group_at old.groups.starts.items old.groups.touches.items g)) × MarkTells (price_at old.grouped.items g) (price_at now.grouped.items g) (mark_at now.marks.items g)
+    → (g + 1 < length old.groups.starts.items → price_at now.grouped.items g ≡ group_price prices (group_at old.groups.starts.items old.groups.touches g)) × MarkTells (price_at old.grouped.items g) (price_at now.grouped.items g) (mark_at now.marks.items g)
 told_all prices old now k g past (inl told) = told
 told_all prices old now k g past (inr waits) = absurd (none_left old.due.items k g past waits.2)
 

@@ -14,7 +14,7 @@ use Rattle.optra_prices.specs.Claims.{IsClaim, AreClaims}
 use Rattle.optra_prices.specs.Rooms.{IsRoom, IsNumberWithin, IsClaimWithin}
 use Rattle.optra_prices.specs.Uses.{touch_use, touch_uses}
 use Rattle.optra_prices.specs.declared.claims.Claim.{Claim}
-use Rattle.optra_prices.specs.declared.numbering.Touch.{Touch}
+use Rattle.optra_prices.specs.declared.touch.Touch.{Touch}
 use Rattle.optra_prices.specs.declared.rooms.Room.{Room}
 
 -- where something is used in all, one of the parts uses something

@@ -6,7 +6,7 @@ use Rattle.std.proofs.lemmas.Bool.{cases_lt}
 use Rattle.std.proofs.lemmas.List.{take_all, take-append-le, drop-append-le, get_or_append_left, length-append, length-drop}
 use Rattle.std.proofs.lemmas.List.Sums.{sum_by-cons}
 use Rattle.std.proofs.Math.Seq.{drop-append_seam, get_or-append_seam}
-use Rattle.optra_prices.specs.declared.numbering.Touch.{Touch}
+use Rattle.optra_prices.specs.declared.touch.Touch.{Touch}
 use Rattle.optra_prices.specs.Tables.{AreTouches, group_at, uses_in_all, AreGroups, KeepsGroups}
 
 -- what touches use is what the rows are used
@@ -63,6 +63,7 @@ module _ (starts : List ℕ) (touches more : List Touch) (groups : AreGroups sta
   pub groups_more : uses_in_all more ≤ 8192 → AreGroups after (touches ++ more)
   groups_more small = record {
     two = let two = groups.two in omega (arith, length-append starts ((length touches + length more) ∷ []));
+    first = start_kept 0 (let two = groups.two in omega arith) ∙ groups.first;
     ordered = ordered;
     within = within;
     last = last;

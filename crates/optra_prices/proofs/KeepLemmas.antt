@@ -23,7 +23,7 @@ use Rattle.optra_prices.specs.Standings.{Stands, AreTables, AllStand, valuation_
 use Rattle.optra_prices.specs.declared.numbering.BidTable.{BidTable}
 use Rattle.optra_prices.specs.declared.numbering.Groups.{Groups}
 use Rattle.optra_prices.specs.declared.numbering.Standing.{Standing}
-use Rattle.optra_prices.specs.declared.numbering.Touch.{Touch}
+use Rattle.optra_prices.specs.declared.touch.Touch.{Touch}
 use Rattle.optra_prices.proofs.AdmitLemmas.{prices_read}
 use Rattle.optra_prices.proofs.FoundLemmas.{found_moves}
 use Rattle.optra_prices.proofs.ListLemmas.{all_at, some_at}
@@ -60,7 +60,7 @@ module _ {R : Type 0} (cmp : R → R → Ordering) (s : Setting R) (proper : IsP
     (tables : List BidTable) (standings : List Standing) (are : AreTables s (length s.bids) numbered groups tables) (stand : AllStand tables [] standings) where
   -- what is known of the bids at zero prices is their valuation there
   pub zero_valued : IsValuation s.net s.rows s.bids s.node [] (valuation_of (pos 0) tables standings)
-  zero_valued = settled_valuation cmp s proper law by_used numbered [] [] (λ n row at. refl) groups [] (zero_grouped groups.starts.items groups.touches.items) tables standings are stand (pos 0) refl
+  zero_valued = settled_valuation cmp s proper law by_used numbered [] [] (λ n row at. refl) groups [] (zero_grouped groups.starts.items groups.touches) tables standings are stand (pos 0) refl
 
   standing_at : (number : ℕ) (bid : Bid) → slice_get s.bids number ≡ Some bid → (standing : Standing) × (slice_get standings number ≡ Some standing) × ((standing.stuck ≡ true) ↔ IsStuck s.net s.rows s.bids s.node number bid)
   standing_at number bid at =
@@ -69,7 +69,7 @@ module _ {R : Type 0} (cmp : R → R → Ordering) (s : Setting R) (proper : IsP
       let m = stand.count_is in
       let t = some_at tables number (omega arith) in
       let x = some_at standings number (omega arith) in
-      (x.0, x.1, stuck_at cmp s proper law by_used numbered [] [] (λ n row at. refl) groups [] (zero_grouped groups.starts.items groups.touches.items) tables standings are stand number bid t.0 x.0 at t.1 x.1)
+      (x.0, x.1, stuck_at cmp s proper law by_used numbered [] [] (λ n row at. refl) groups [] (zero_grouped groups.starts.items groups.touches) tables standings are stand number bid t.0 x.0 at t.1 x.1)
 
   clash : false ≡ true → ⊥
   clash q = cc
@@ -94,7 +94,7 @@ module _ {R : Type 0} (cmp : R → R → Ordering) (s : Setting R) (proper : IsP
   none_known free (number, bid, at, is) = free_at number bid at (λ standing there. all_at (λ (y : Standing). y.stuck ≡ false) standings number standing free there) is
 
 -- where all prices are 0, a group costs nothing
-pub free_listed : (prices none : List ℤ) → none ≡ [] → AddsZeros none prices → (groups : Groups) (g : ℕ) → group_price prices (group_at groups.starts.items groups.touches.items g) ≡ group_price [] (group_at groups.starts.items groups.touches.items g)
+pub free_listed : (prices none : List ℤ) → none ≡ [] → AddsZeros none prices → (groups : Groups) (g : ℕ) → group_price prices (group_at groups.starts.items groups.touches g) ≡ group_price [] (group_at groups.starts.items groups.touches g)
 free_listed prices none is zeros groups g =
-    let touches = group_at groups.starts.items groups.touches.items g in
+    let touches = group_at groups.starts.items groups.touches g in
     prices_read none prices zeros touches ∙ ap (λ (ps : List ℤ). group_price ps touches) is

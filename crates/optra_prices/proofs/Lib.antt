@@ -16,6 +16,7 @@ pub mod FoundLemmas
 pub mod SkipLemmas
 pub mod NarrowLemmas
 pub mod NarrowArcLemmas
+pub mod NarrowTouchLemmas
 pub mod ChoiceLemmas
 pub mod TermLemmas
 pub mod MakingLemmas
@@ -56,3 +57,6 @@ pub mod KeepLemmas
 pub mod TellingLemmas
 pub mod DecidedLemmas
 pub mod StayLemmas
+pub mod PlacedLemmas
+pub mod ShareLemmas
+pub mod RunningLemmas

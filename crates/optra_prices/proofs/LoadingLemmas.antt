@@ -27,7 +27,7 @@ use Rattle.optra_prices.specs.Uses.{touch_use, touch_uses, arc_touches, path_use
 use Rattle.optra_prices.specs.declared.numbering.BidTable.{BidTable}
 use Rattle.optra_prices.specs.declared.numbering.Groups.{Groups}
 use Rattle.optra_prices.specs.declared.numbering.Standing.{Standing}
-use Rattle.optra_prices.specs.declared.numbering.Touch.{Touch}
+use Rattle.optra_prices.specs.declared.touch.Touch.{Touch}
 use Rattle.optra_prices.proofs.ArcLemmas.{leg_there}
 use Rattle.optra_prices.proofs.HoldLemmas.{part_all}
 use Rattle.optra_prices.proofs.ListLemmas.{all_at, some_at}
@@ -98,7 +98,7 @@ first_load rows row bid (Some legs) bids walks = sum_by-append (λ (e : Entry). 
 
 module _ {R : Type 0} (cmp : R → R → Ordering) (total : IsTotalOrder cmp) (apart : TellsApart cmp) (s : Setting R) (proper : IsProper s.net)
     (lists : (kind : TypeId) (leg : Leg) → IsUsable s.net kind leg → ListsRows cmp s.rows.is_row (s.rows.uses kind leg) (s.used kind leg)) (numbered : List R) (groups : Groups) where
-  module _ (number : ℕ) (bid : Bid) (table : BidTable) (are : AreBidArcs s number bid table.graph.now numbered table.arcs groups.starts.items groups.touches.items table.forced)
+  module _ (number : ℕ) (bid : Bid) (table : BidTable) (are : AreBidArcs s number bid table.graph.now numbered table.arcs groups.starts.items groups.touches table.forced)
       (path : List ℕ) (within : All (λ k. k < length table.arcs) path) (route : (path ≡ [] → ⊥) → IsRoute table.graph.now path) where
     pub arc_there : (k : ℕ) → k < length table.arcs → slice_get table.arcs k ≡ Some (get_or table.arcs k no_arc)
     arc_there k l = slice_get-get_or table.arcs k no_arc l

@@ -15,26 +15,26 @@ use Rattle.optra_prices.specs.declared.making.Head.{Head}
 use Rattle.optra_prices.specs.declared.making.Making.{Making}
 use Rattle.optra_prices.specs.ArcTerms.{ArcTerm}
 use Rattle.optra_prices.specs.declared.numbering.Groups.{Groups}
-use Rattle.optra_prices.specs.declared.numbering.Touch.{Touch}
+use Rattle.optra_prices.specs.declared.touch.Touch.{Touch}
 use Rattle.optra_prices.proofs.NumberLemmas.{touches_kept, extends_more}
 
 module _ {R : Type 0} (net : Net) (rows : Rows R) (used : TypeId → Leg → List R) (old new : List R) (before after : Groups) where
-  group_kept : (kind : TypeId) (leg : Leg) (g : ℕ) → Extends old new → KeepsGroups before.starts.items before.touches.items after.starts.items after.touches.items
+  group_kept : (kind : TypeId) (leg : Leg) (g : ℕ) → Extends old new → KeepsGroups before.starts.items before.touches after.starts.items after.touches
       → IsGroupOf rows used kind leg old before g → IsGroupOf rows used kind leg new after g
   group_kept kind leg g extends keeps is = record {
     within = let w = is.within in let m = keeps.more in omega arith;
     touches = subst (λ (touches : List Touch). AreTouches new (rows.uses kind leg) touches (used kind leg)) (sym (keeps.same g is.within))
-        (touches_kept old new (rows.uses kind leg) extends (group_at before.starts.items before.touches.items g) (used kind leg) is.touches);
+        (touches_kept old new (rows.uses kind leg) extends (group_at before.starts.items before.touches g) (used kind leg) is.touches);
   }
 
-  pub heads_kept : (heads : List Head) → Extends old new → KeepsGroups before.starts.items before.touches.items after.starts.items after.touches.items
+  pub heads_kept : (heads : List Head) → Extends old new → KeepsGroups before.starts.items before.touches after.starts.items after.touches
       → All (IsHead net rows used old before) heads → All (IsHead net rows used new after) heads
   heads_kept heads extends keeps are k d l =
       let is = are k d l in
       record { usable = is.usable; group_is = group_kept _ _ _ extends keeps is.group_is }
 
-pub groups_more : (a b c : Groups) → KeepsGroups a.starts.items a.touches.items b.starts.items b.touches.items → KeepsGroups b.starts.items b.touches.items c.starts.items c.touches.items
-    → KeepsGroups a.starts.items a.touches.items c.starts.items c.touches.items
+pub groups_more : (a b c : Groups) → KeepsGroups a.starts.items a.touches b.starts.items b.touches → KeepsGroups b.starts.items b.touches c.starts.items c.touches
+    → KeepsGroups a.starts.items a.touches c.starts.items c.touches
 groups_more a b c h k = record {
   more = let m = h.more in let n = k.more in omega arith;
   same = λ g l. let m = h.more in k.same g (omega arith) ∙ h.same g l;
@@ -50,7 +50,7 @@ none : {X : Type 0} (P : X → Type 0) (xs : List X) → xs ≡ [] → All P xs
 none P xs is = subst (All P) (sym is) (λ k d l. absurd (omega arith))
 
 pub making_none : {R : Type 0} (net : Net) (rows : Rows R) (used : TypeId → Leg → List R) (making : Making R) → making.named.items ≡ [] → making.heads.items ≡ []
-    → AreGroups making.groups.starts.items making.groups.touches.items → IsMaking net rows used making
+    → AreGroups making.groups.starts.items making.groups.touches → IsMaking net rows used making
 making_none net rows used making no_rows no_heads groups = record {
   rows_are = none (λ row. rows.is_row row ≡ true) making.named.items no_rows;
   groups_are = groups;

@@ -18,7 +18,7 @@ use Rattle.optra_prices.specs.Rooms.{IsRoom, HasRoomFor, HasRoomForAll, IsFreeCo
 use Rattle.optra_prices.specs.Tables.{group_at}
 use Rattle.optra_prices.specs.Terms.{setting, AreBidArcs}
 use Rattle.optra_prices.specs.ArcTerms.{ArcTerm}
-use Rattle.optra_prices.specs.declared.numbering.Touch.{Touch}
+use Rattle.optra_prices.specs.declared.touch.Touch.{Touch}
 use Rattle.optra_prices.specs.declared.parts.ArcPart.{ArcPart}
 use Rattle.optra_prices.specs.declared.rooms.Room.{Room}
 use Rattle.optra_prices.proofs.ListLemmas.{some_at, all_at}

@@ -21,7 +21,7 @@ use Rattle.optra_prices.specs.Terms.{Setting, AreBidArcs}
 use Rattle.optra_prices.specs.Uses.{touch_uses, arc_touches, path_uses, AddsUses, TakesUses}
 use Rattle.optra_prices.specs.declared.numbering.BidTable.{BidTable}
 use Rattle.optra_prices.specs.declared.numbering.Groups.{Groups}
-use Rattle.optra_prices.specs.declared.numbering.Touch.{Touch}
+use Rattle.optra_prices.specs.declared.touch.Touch.{Touch}
 use Rattle.optra_prices.specs.declared.rooms.Room.{Room}
 use Rattle.optra_prices.proofs.FillLemmas.{some_part, touch_within}
 use Rattle.optra_prices.proofs.ArcLemmas.{leg_there, leads_within}
@@ -41,7 +41,7 @@ route_within table count (k ∷ arcs) route = subst (λ (n : ℕ). All (λ j. j 
 
 module _ {R : Type 0} (cmp : R → R → Ordering) (order : IsTotalOrder cmp) (apart : TellsApart cmp) (s : Setting R) (proper : IsProper s.net)
     (lists : (kind : TypeId) (leg : Leg) → IsUsable s.net kind leg → ListsRows cmp s.rows.is_row (s.rows.uses kind leg) (s.used kind leg)) (numbers : List (R × ℕ)) (numbered : List R) (numbering : IsNumbering cmp numbers numbered)
-    (groups : Groups) (number : ℕ) (bid : Bid) (table : BidTable) (are : AreBidArcs s number bid table.graph.now numbered table.arcs groups.starts.items groups.touches.items table.forced)
+    (groups : Groups) (number : ℕ) (bid : Bid) (table : BidTable) (are : AreBidArcs s number bid table.graph.now numbered table.arcs groups.starts.items groups.touches table.forced)
     (path : List ℕ) (within : All (λ k. k < length table.arcs) path) (route : (path ≡ [] → ⊥) → IsRoute table.graph.now path) (total : R → ℕ) where
   once : (i j : ℕ) (row : R) → slice_get numbered i ≡ Some row → slice_get numbered j ≡ Some row → i ≡ j
   once i j row a b = same (sym (numbering.known i row a) ∙ numbering.known j row b)

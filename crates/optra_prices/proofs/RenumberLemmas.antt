@@ -16,7 +16,7 @@ use Rattle.optra_prices.specs.Standings.{HoldArcs}
 use Rattle.optra_prices.specs.ArcTerms.{ArcTerm}
 use Rattle.optra_prices.specs.declared.numbering.BidTable.{BidTable}
 use Rattle.optra_prices.specs.declared.numbering.Groups.{Groups}
-use Rattle.optra_prices.specs.declared.numbering.Touch.{Touch}
+use Rattle.optra_prices.specs.declared.touch.Touch.{Touch}
 
 take_map : {X Y : Type 0} (f : X → Y) (n : ℕ) (xs : List X) → take n (map f xs) ≡ map f (take n xs)
 take_map f zero xs = refl
@@ -43,6 +43,7 @@ groups_renumbered numbers starts touches are =
     let long = length-map touches (renumbered numbers) in
     record {
       two = are.two;
+      first = are.first;
       ordered = are.ordered;
       within = λ g l. let w = are.within g l in omega arith;
       last = are.last ∙ sym long;
@@ -77,28 +78,28 @@ module _ {R : Type 0} (named numbered : List R) (numbers : List ℕ) (are_number
 
 -- tables serve when their rows get numbers
 pub tables_renumbered : {R : Type 0} (net : Net) (rows : Rows R) (used : TypeId → Leg → List R) (bids : List Bid) (count : ℕ) (named numbered : List R) (before after : Groups) (tables : List BidTable) → after.starts.items ≡ before.starts.items
-    → Renumbers named numbered before.touches.items after.touches.items → HoldArcs net rows used bids count named before tables → HoldArcs net rows used bids count numbered after tables
+    → Renumbers named numbered before.touches after.touches → HoldArcs net rows used bids count named before tables → HoldArcs net rows used bids count numbered after tables
 tables_renumbered net rows used bids count named numbered before after tables same renumbers hold = record {
   count_is = hold.count_is;
   each = λ number bid table bid_at table_at.
       let is = hold.each number bid table bid_at table_at in
-      let touches = map (renumbered renumbers.numbers) before.touches.items in
+      let touches = map (renumbered renumbers.numbers) before.touches in
       let starts = before.starts.items in
       record {
-        arcs_are = subst (λ (vs : List ℕ). AreArcs net rows used bid table.graph.now numbered table.arcs vs after.touches.items) (sym same)
+        arcs_are = subst (λ (vs : List ℕ). AreArcs net rows used bid table.graph.now numbered table.arcs vs after.touches) (sym same)
             (subst (λ (ts : List Touch). AreArcs net rows used bid table.graph.now numbered table.arcs starts ts) (sym renumbers.touches_are)
             (record {
               graph = is.arcs_are.graph;
               count = is.arcs_are.count;
-              groups = groups_renumbered renumbers.numbers starts before.touches.items is.arcs_are.groups;
-              terms = terms_renumbered named numbered renumbers.numbers renumbers.are net rows used bid table.graph.now starts before.touches.items table.arcs is.arcs_are.terms;
+              groups = groups_renumbered renumbers.numbers starts before.touches is.arcs_are.groups;
+              terms = terms_renumbered named numbered renumbers.numbers renumbers.are net rows used bid table.graph.now starts before.touches table.arcs is.arcs_are.terms;
             }));
         covers = is.covers;
       };
 }
 
 -- so do groups
-pub all_renumbered : {R : Type 0} (named numbered : List R) (before after : Groups) → after.starts.items ≡ before.starts.items → Renumbers named numbered before.touches.items after.touches.items
-    → AreGroups before.starts.items before.touches.items → AreGroups after.starts.items after.touches.items
+pub all_renumbered : {R : Type 0} (named numbered : List R) (before after : Groups) → after.starts.items ≡ before.starts.items → Renumbers named numbered before.touches after.touches
+    → AreGroups before.starts.items before.touches → AreGroups after.starts.items after.touches
 all_renumbered named numbered before after same renumbers are =
-    subst (λ (starts : List ℕ). AreGroups starts after.touches.items) (sym same) (subst (AreGroups before.starts.items) (sym renumbers.touches_are) (groups_renumbered renumbers.numbers before.starts.items before.touches.items are))
+    subst (λ (starts : List ℕ). AreGroups starts after.touches) (sym same) (subst (AreGroups before.starts.items) (sym renumbers.touches_are) (groups_renumbered renumbers.numbers before.starts.items before.touches are))

@@ -16,7 +16,7 @@ use Rattle.optra_node.proofs.LoadLemmas.{contains_cases, contains_head, contains
 use Rattle.optra_prices.specs.Rooms.{IsRoom, HasRoomFor, HasRoomForAll}
 use Rattle.optra_prices.specs.Tables.{IsTouch, AreTouches}
 use Rattle.optra_prices.specs.Uses.{AddsUses, TakesUses}
-use Rattle.optra_prices.specs.declared.numbering.Touch.{Touch}
+use Rattle.optra_prices.specs.declared.touch.Touch.{Touch}
 use Rattle.optra_prices.specs.declared.rooms.Room.{Room}
 
 pub zip_all : {A B : Type 0} (P : A → B → Type 0) (Q : A → Type 0) (xs : List A) (ys : List B) → AllZip P xs ys → ((x : A) (y : B) → Contains ys y → P x y → Q x) → All Q xs

@@ -21,7 +21,7 @@ use Rattle.optra_prices.specs.ArcTerms.{ArcTerm}
 use Rattle.optra_prices.specs.declared.numbering.BidTable.{BidTable}
 use Rattle.optra_prices.specs.declared.numbering.Groups.{Groups}
 use Rattle.optra_prices.specs.declared.numbering.Standing.{Standing}
-use Rattle.optra_prices.specs.declared.numbering.Touch.{Touch}
+use Rattle.optra_prices.specs.declared.touch.Touch.{Touch}
 use Rattle.optra_prices.proofs.ListLemmas.{all_at, some_at}
 use Rattle.optra_prices.proofs.TermLemmas.{arc_usable}
 use Rattle.optra_prices.proofs.ArcLemmas.{found_reply, found_term, found_stuck}
@@ -41,13 +41,13 @@ group_used {R} cmp numbered prices listed uses agrees (touch ∷ touches) (row �
     omega (arith, ints)
 
 module _ {R : Type 0} (cmp : R → R → Ordering) (s : Setting R) (proper : IsProper s.net) (law : TestsTellAllowed s.net s.rows s.bids) (by_used : PricesByUsedRows s.net s.rows cmp s.used) (numbered : List R) (prices : List ℤ) (listed : PriceList R) (agrees : Agrees cmp numbered prices listed)
-    (groups : Groups) (grouped : List ℤ) (priced : AreGroupPrices prices groups.starts.items groups.touches.items grouped) where
-  module _ (number : ℕ) (bid : Bid) (table : BidTable) (are : AreBidArcs s number bid table.graph.now numbered table.arcs groups.starts.items groups.touches.items table.forced) where
+    (groups : Groups) (grouped : List ℤ) (priced : AreGroupPrices prices groups.starts.items groups.touches grouped) where
+  module _ (number : ℕ) (bid : Bid) (table : BidTable) (are : AreBidArcs s number bid table.graph.now numbered table.arcs groups.starts.items groups.touches table.forced) where
     arc_there : (k : ℕ) → k < length table.graph.now.dag.arcs → slice_get table.arcs k ≡ Some (get_or table.arcs k no_arc)
     arc_there k l = slice_get-get_or table.arcs k no_arc (let n = are.count in omega arith)
 
     group_is : (k : ℕ) → k < length table.graph.now.dag.arcs
-        → slice_index_or grouped (get_or table.arcs k no_arc).group (pos 0) ≡ group_price prices (group_at groups.starts.items groups.touches.items (get_or table.arcs k no_arc).group)
+        → slice_index_or grouped (get_or table.arcs k no_arc).group (pos 0) ≡ group_price prices (group_at groups.starts.items groups.touches (get_or table.arcs k no_arc).group)
     group_is k l =
         priced (get_or table.arcs k no_arc).group (all_at (λ (a : ArcTerm). a.group + 1 < length groups.starts.items) table.arcs k (get_or table.arcs k no_arc) are.terms.within (arc_there k l))
 
@@ -65,14 +65,14 @@ module _ {R : Type 0} (cmp : R → R → Ordering) (s : Setting R) (proper : IsP
           let is = are.terms.legs_are k leg (get_or table.arcs k no_arc) (arc_there k l) at in
           let g = group_is k l in
           let usable = arc_usable s.net proper bid table.graph.now are.graph k leg l at in
-          let used = group_used cmp numbered prices listed (s.rows.uses bid.path.kind leg) agrees (group_at groups.starts.items groups.touches.items (get_or table.arcs k no_arc).group) (s.used bid.path.kind leg) is.group_is in
+          let used = group_used cmp numbered prices listed (s.rows.uses bid.path.kind leg) agrees (group_at groups.starts.items groups.touches (get_or table.arcs k no_arc).group) (s.used bid.path.kind leg) is.group_is in
           let price = by_used listed bid.path.kind leg usable in
           let v = is.value_is in
           omega (arith, ints);
     }
 
   module _ (number : ℕ) (bid : Bid) (table : BidTable) (standing : Standing)
-      (are : AreBidArcs s number bid table.graph.now numbered table.arcs groups.starts.items groups.touches.items table.forced) (stands : Stands table grouped standing) where
+      (are : AreBidArcs s number bid table.graph.now numbered table.arcs groups.starts.items groups.touches table.forced) (stands : Stands table grouped standing) where
     by_table : AreWeighed s.net s.rows s.bids s.node listed number bid table.graph.now (allows_by table.arcs) (weight_by table.arcs grouped)
     by_table = weighed number bid table are
 
@@ -147,7 +147,7 @@ none_stuck (first ∷ standings) e k standing at is = by first.stuck refl k at (
     by false q (suc k) at before = before (grind (arith, q, e)) k standing at is
 
 module _ {R : Type 0} (cmp : R → R → Ordering) (s : Setting R) (proper : IsProper s.net) (law : TestsTellAllowed s.net s.rows s.bids) (by_used : PricesByUsedRows s.net s.rows cmp s.used) (numbered : List R) (prices : List ℤ) (listed : PriceList R) (agrees : Agrees cmp numbered prices listed)
-    (groups : Groups) (grouped : List ℤ) (priced : AreGroupPrices prices groups.starts.items groups.touches.items grouped)
+    (groups : Groups) (grouped : List ℤ) (priced : AreGroupPrices prices groups.starts.items groups.touches grouped)
     (tables : List BidTable) (standings : List Standing) (are : AreTables s (length s.bids) numbered groups tables) (stand : AllStand tables grouped standings) where
   -- a bid with its table and what stands
   pub record Placed (number : ℕ) : Type 0 where

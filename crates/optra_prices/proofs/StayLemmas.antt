@@ -30,7 +30,7 @@ use Rattle.optra_prices.specs.declared.arc_tables.ArcTables.{ArcTables}
 use Rattle.optra_prices.specs.ArcTerms.{ArcTerm}
 use Rattle.optra_prices.specs.declared.numbering.BidTable.{BidTable}
 use Rattle.optra_prices.specs.declared.numbering.Groups.{Groups}
-use Rattle.optra_prices.specs.declared.numbering.Touch.{Touch}
+use Rattle.optra_prices.specs.declared.touch.Touch.{Touch}
 use Rattle.optra_prices.proofs.RoomLemmas.{zip_second}
 use Rattle.optra_prices.proofs.TermLemmas.{arc_usable}
 
@@ -102,7 +102,7 @@ module _ {R : Type 0} (cmp : R → R → Ordering) (net : Net) (proper : IsPrope
         let w = slice_get_within table.arcs j arc at in
         let count = is.arcs_are.count in
         let usable = arc_usable net proper bid table.graph.now is.arcs_are.graph j leg (omega (arith, w, count)) there in
-        let touches = group_at groups.starts.items groups.touches.items arc.group in
+        let touches = group_at groups.starts.items groups.touches arc.group in
         let term = is.arcs_are.terms.legs_are j leg arc at there in
         let touch = zip_second (IsTouch numbered (rows.uses bid.path.kind leg)) touches (used bid.path.kind leg) term.group_is row (((lists bid.path.kind leg usable).used row).0 some) in
         unused touch.0.row row touch.2.number

@@ -26,20 +26,20 @@ got (y ∷ xs) (suc k) d x e = got xs k d x e
 
 module _ {R : Type 0} (net : Net) (rows : Rows R) (used : TypeId → Leg → List R) (bids : List Bid) where
   -- the arcs serve while rows get numbers and groups are added
-  pub arcs_kept : (numbered after : List R) (groups grown : Groups) → Extends numbered after → KeepsGroups groups.starts.items groups.touches.items grown.starts.items grown.touches.items → AreGroups grown.starts.items grown.touches.items
+  pub arcs_kept : (numbered after : List R) (groups grown : Groups) → Extends numbered after → KeepsGroups groups.starts.items groups.touches grown.starts.items grown.touches → AreGroups grown.starts.items grown.touches
       → (bid : Bid) (table : BidTable) → IsArcTable net rows used numbered groups bid table → IsArcTable net rows used after grown bid table
   arcs_kept numbered after groups grown extends keeps are bid table is = record {
     arcs_are = record {
       graph = is.arcs_are.graph;
       count = is.arcs_are.count;
       groups = are;
-      terms = terms_kept net rows used bid table.graph.now numbered after groups.starts.items grown.starts.items groups.touches.items grown.touches.items table.arcs extends keeps is.arcs_are.terms;
+      terms = terms_kept net rows used bid table.graph.now numbered after groups.starts.items grown.starts.items groups.touches grown.touches table.arcs extends keeps is.arcs_are.terms;
     };
     covers = is.covers;
   }
 
   pub arcs_push : (n : ℕ) (numbered after : List R) (groups grown : Groups) (tables : List BidTable) (bid : Bid) (table : BidTable) → HoldArcs net rows used bids n numbered groups tables → Extends numbered after
-      → KeepsGroups groups.starts.items groups.touches.items grown.starts.items grown.touches.items → AreGroups grown.starts.items grown.touches.items → slice_get bids n ≡ Some bid → IsArcTable net rows used after grown bid table
+      → KeepsGroups groups.starts.items groups.touches grown.starts.items grown.touches → AreGroups grown.starts.items grown.touches → slice_get bids n ≡ Some bid → IsArcTable net rows used after grown bid table
       → HoldArcs net rows used bids (n + 1) after grown (tables ++ table ∷ [])
   arcs_push n numbered after groups grown tables bid table are extends keeps groups_are at is = record {
     count_is = let c = are.count_is in let l = length-append tables (table ∷ []) in omega arith;
@@ -69,8 +69,8 @@ module _ {R : Type 0} (s : Setting R) where
       graph = is.arcs_are.graph;
       count = is.arcs_are.count;
       groups = is.arcs_are.groups;
-      terms = terms_kept s.net s.rows s.used bid table.graph.now numbered after groups.starts.items groups.starts.items groups.touches.items groups.touches.items table.arcs extends
-          (groups_stay groups.starts.items groups.touches.items) is.arcs_are.terms;
+      terms = terms_kept s.net s.rows s.used bid table.graph.now numbered after groups.starts.items groups.starts.items groups.touches groups.touches table.arcs extends
+          (groups_stay groups.starts.items groups.touches) is.arcs_are.terms;
       marks = is.arcs_are.marks;
       forced_is = is.arcs_are.forced_is;
     };

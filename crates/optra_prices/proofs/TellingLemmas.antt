@@ -26,7 +26,7 @@ use Rattle.optra_prices.specs.declared.columns.Mark.TheVariants.{Still, Due}
 use Rattle.optra_prices.specs.ArcTerms.{ArcTerm}
 use Rattle.optra_prices.specs.declared.numbering.BidTable.{BidTable}
 use Rattle.optra_prices.specs.declared.numbering.Groups.{Groups}
-use Rattle.optra_prices.specs.declared.numbering.Touch.{Touch}
+use Rattle.optra_prices.specs.declared.touch.Touch.{Touch}
 use Rattle.optra_prices.proofs.ClaimLemmas.{claims_load}
 use Rattle.optra_prices.proofs.ColumnLemmas.{cases_still, marks_on, stays_due}
 use Rattle.optra_prices.proofs.HolderLemmas.{keeps_same, keeps_on, keeps_set}
@@ -34,7 +34,7 @@ use Rattle.optra_prices.proofs.ListLemmas.{some_at, all_at, map_at}
 
 -- ---- groups that are made due
 pub marks_same : (c : Columns) → MarksMore c c
-marks_same c = record { users = refl; prices = refl; marks = λ g. inl refl }
+marks_same c = record { users = refl; prices = refl; running = refl; marks = λ g. inl refl }
 
 -- groups that are due stay so
 users_on : (n : ℕ) (old new : Columns) → MarksMore old new → AreUsersDue n old → AreUsersDue n new
@@ -187,7 +187,7 @@ module _ {R : Type 0} (s : Setting R) (c : ArcTables R) (marked : Columns) (told
       | inr some ↦
           let g = of.group in
           let low = within number table at g of.has in
-          let found = columns.found g n (subst (λ (gs : Groups). g + 1 < length gs.starts.items) (sym columns.groups_are) low) (subst (λ (gs : Groups). IsTouched (group_at gs.starts.items gs.touches.items g) n) (sym columns.groups_are) of.touched) in
+          let found = columns.found g n (subst (λ (gs : Groups). g + 1 < length gs.starts.items) (sym columns.groups_are) low) (subst (λ (gs : Groups). IsTouched (group_at gs.starts.items gs.touches g) n) (sym columns.groups_are) of.touched) in
           let size = columns.count in
           let same = ap (λ (gs : Groups). length gs.starts.items) columns.groups_are in
           let used = claims_load s.rows s.bids c.numbering.rows.items n row row_at decisions claims are in

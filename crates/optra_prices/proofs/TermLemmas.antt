@@ -20,7 +20,7 @@ use Rattle.optra_prices.specs.Arcs.{IsArcValue, start_value, leg_value}
 use Rattle.optra_prices.specs.Tables.{Extends, AreTouches, group_at, AreGroups, KeepsGroups}
 use Rattle.optra_prices.specs.Terms.{IsStartTerm, IsLegTerm, AreTerms, IsTerm}
 use Rattle.optra_prices.specs.ArcTerms.{ArcTerm}
-use Rattle.optra_prices.specs.declared.numbering.Touch.{Touch}
+use Rattle.optra_prices.specs.declared.touch.Touch.{Touch}
 use Rattle.optra_prices.proofs.ListLemmas.{all_at}
 use Rattle.optra_prices.proofs.NumberLemmas.{push_cases, touches_kept}
 use Rattle.optra_prices.proofs.ArcLemmas.{leg_there}

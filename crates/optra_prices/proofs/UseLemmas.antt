@@ -17,7 +17,7 @@ use Rattle.optra_prices.specs.ArcTerms.{ArcTerm}
 use Rattle.optra_prices.specs.declared.numbering.BidTable.{BidTable}
 use Rattle.optra_prices.specs.declared.numbering.Groups.{Groups}
 use Rattle.optra_prices.specs.declared.numbering.Standing.{Standing}
-use Rattle.optra_prices.specs.declared.numbering.Touch.{Touch}
+use Rattle.optra_prices.specs.declared.touch.Touch.{Touch}
 use Rattle.optra_prices.proofs.StandLemmas.{set_other, set_length}
 
 -- one use that is set to more, or to less, is what its touch adds or takes
@@ -192,7 +192,7 @@ path_same groups old new n same (k ∷ path) =
     let a = sum_by-cons (λ (j : ℕ). touch_uses (arc_touches groups new j) n) k path in
     let b = sum_by-cons (λ (j : ℕ). touch_uses (arc_touches groups old j) n) k path in
     let g = group_is new.arcs k ∙ ap (λ (gs : List ℕ). get_or gs k 0) same ∙ sym (group_is old.arcs k) in
-    let h = ap (λ (group : ℕ). touch_uses (group_at groups.starts.items groups.touches.items group) n) g in
+    let h = ap (λ (group : ℕ). touch_uses (group_at groups.starts.items groups.touches group) n) g in
     let i = path_same groups old new n same path in
     omega arith
 

@@ -8,7 +8,7 @@ use Rattle.optra_prices.specs.Tables.{AreGroups}
 use Rattle.optra_prices.specs.Users.{FindsUsers, rows_touched}
 use Rattle.optra_prices.specs.declared.index.Index.{Index}
 use Rattle.optra_prices.specs.declared.numbering.Groups.{Groups}
-use Rattle.optra_prices.specs.declared.numbering.Touch.{Touch}
+use Rattle.optra_prices.specs.declared.touch.Touch.{Touch}
 
 -- a key of a part of a list has a place in it
 part_place : (keys : List ℕ) (from to x : ℕ) → to ≤ length keys → Contains (slice_range keys from to) x → (place : ℕ) × (from ≤ place) × (place < to) × (slice_index keys place ≡ x)
@@ -24,17 +24,17 @@ rows_part touches from to =
     let row = λ (touch : Touch). touch.row in
     sym (ap (take (to - from)) (drop-map row from touches) ∙ take-map row (to - from) (drop from touches))
 
-pub row_spans : (groups : Groups) (rows : List ℕ) → AreGroups groups.starts.items groups.touches.items → rows ≡ rows_touched groups.touches.items → AreSpans groups.starts.items (length rows)
+pub row_spans : (groups : Groups) (rows : List ℕ) → AreGroups groups.starts.items groups.touches → rows ≡ rows_touched groups.touches → AreSpans groups.starts.items (length rows)
 row_spans groups rows are is =
-    let long = ap length is ∙ length-map groups.touches.items (λ (touch : Touch). touch.row) in
+    let long = ap length is ∙ length-map groups.touches (λ (touch : Touch). touch.row) in
     record { ordered = are.ordered; within = λ g l. let w = are.within g l in omega arith }
 
-pub users_found : (groups : Groups) (rows : List ℕ) (users : Index) → AreGroups groups.starts.items groups.touches.items → rows ≡ rows_touched groups.touches.items → Inverts groups.starts.items rows users → FindsUsers groups users
+pub users_found : (groups : Groups) (rows : List ℕ) (users : Index) → AreGroups groups.starts.items groups.touches → rows ≡ rows_touched groups.touches → Inverts groups.starts.items rows users → FindsUsers groups users
 users_found groups rows users are is inverts g row l touched =
     let start = slice_index groups.starts.items g in
     let end = slice_index groups.starts.items (g + 1) in
-    let long = ap length is ∙ length-map groups.touches.items (λ (touch : Touch). touch.row) in
+    let long = ap length is ∙ length-map groups.touches (λ (touch : Touch). touch.row) in
     let within = are.within (g + 1) l in
-    let part = rows_part groups.touches.items start end ∙ ap (λ (xs : List ℕ). slice_range xs start end) (sym is) in
+    let part = rows_part groups.touches start end ∙ ap (λ (xs : List ℕ). slice_range xs start end) (sym is) in
     let at = part_place rows start end row (omega arith) (subst (λ (xs : List ℕ). Contains xs row) part touched) in
     subst (λ (r : ℕ). IndexHas users r g) at.3 (inverts g at.0 l at.1 at.2)

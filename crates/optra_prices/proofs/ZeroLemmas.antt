@@ -20,10 +20,10 @@ module _ {R : Type 0} (cmp : R → R → Ordering) (s : Setting R) (proper : IsP
     (number : ℕ) (table : BidTable) (standing : Standing) (table_at : slice_get tables number ≡ Some table) (standing_at : slice_get standings number ≡ Some standing) (bid : Bid) (bid_at : slice_get s.bids number ≡ Some bid) where
   pub zero_replied : IsReply s.net s.rows s.bids s.node [] number bid (path_reply table.graph.now standing.path.items)
   zero_replied =
-      reply_is cmp s proper law by_used numbered [] [] (λ n row at. refl) groups [] (zero_grouped groups.starts.items groups.touches.items) number bid table standing
+      reply_is cmp s proper law by_used numbered [] [] (λ n row at. refl) groups [] (zero_grouped groups.starts.items groups.touches) number bid table standing
       (are.each number bid table bid_at table_at).arcs_are (stand.each number table standing table_at standing_at)
 
   pub zero_termed : IsTerm s.net s.rows s.bids s.node [] number bid standing.term
   zero_termed =
-      term_is cmp s proper law by_used numbered [] [] (λ n row at. refl) groups [] (zero_grouped groups.starts.items groups.touches.items) number bid table standing
+      term_is cmp s proper law by_used numbered [] [] (λ n row at. refl) groups [] (zero_grouped groups.starts.items groups.touches) number bid table standing
       (are.each number bid table bid_at table_at).arcs_are (stand.each number table standing table_at standing_at)

@@ -48,11 +48,11 @@ AreAtUnlessTold s numbered groups told tables = (number : ℕ) (bid : Bid) (tabl
 -- arcs are in groups of touches: that of a start is empty, and there is room for that of a leg exactly where the leg is not blocked
 pub record RoomTells {R : Type 0} (rows : Rows R) (bids : List Bid) (node : List Decision) (number : ℕ) (room : Room) (t : Timed) (groups : Groups) (arcs : List ArcTerm) : Type 0 where
   pub count : length arcs ≡ length t.dag.arcs
-  pub groups_are : AreGroups groups.starts.items groups.touches.items
+  pub groups_are : AreGroups groups.starts.items groups.touches
   pub within : All (λ arc. arc.group + 1 < length groups.starts.items) arcs
-  pub starts_are : (k minute : ℕ) (arc : ArcTerm) → slice_get arcs k ≡ Some arc → start_of t k ≡ Some minute → group_at groups.starts.items groups.touches.items arc.group ≡ []
+  pub starts_are : (k minute : ℕ) (arc : ArcTerm) → slice_get arcs k ≡ Some arc → start_of t k ≡ Some minute → group_at groups.starts.items groups.touches arc.group ≡ []
   pub legs_are : (k : ℕ) (leg : Leg) (arc : ArcTerm) → slice_get arcs k ≡ Some arc → leg_of t k ≡ Some leg
-      → HasRoomForAll room (group_at groups.starts.items groups.touches.items arc.group) ↔ (IsBlocked rows bids node number (kind_at bids number) leg → ⊥)
+      → HasRoomForAll room (group_at groups.starts.items groups.touches arc.group) ↔ (IsBlocked rows bids node number (kind_at bids number) leg → ⊥)
 
 -- the mark tells whether there is room and the bid's own decisions let its walk take the arc
 pub record IsLetMark (net : Net) (bids : List Bid) (node : List Decision) (number : ℕ) (t : Timed) (k : ℕ) (has_room mark : Bool) : Type 0 where

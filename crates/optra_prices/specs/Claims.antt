@@ -9,7 +9,7 @@ use Rattle.optra_node.specs.Nodes.{yes_uses}
 use Rattle.optra_node.specs.Summaries.{decisions_for}
 use Rattle.optra_prices.specs.Uses.{touch_uses}
 use Rattle.optra_prices.specs.declared.claims.Claim.{Claim}
-use Rattle.optra_prices.specs.declared.numbering.Touch.{Touch}
+use Rattle.optra_prices.specs.declared.touch.Touch.{Touch}
 
 -- so much is claimed of each row that has a number; each row that is used has one where the claim says so
 pub record Claims {R : Type 0} (numbered : List R) (uses : R → ℕ) (claim : Claim) : Type 0 where

@@ -6,7 +6,7 @@ use Rattle.std.specs.declared.cmp.Ordering.{Ordering}
 use Rattle.optra_walk.specs.declared.Leg.{Leg}
 use Rattle.optra_walk.specs.Families.{Rows}
 use Rattle.optra_node.specs.Duals.{PriceList, capacity_price}
-use Rattle.optra_prices.specs.Columns.{IsColumns, AreStill, PricesAllButDue}
+use Rattle.optra_prices.specs.Columns.{IsColumns, AreRunning, AreStill, PricesAllButDue}
 use Rattle.optra_prices.specs.Holders.{AreHolders}
 use Rattle.optra_prices.specs.Levels.{IsLevels, moved_by}
 use Rattle.optra_prices.specs.Replies.{Valuation, IsValuation}
@@ -79,7 +79,8 @@ pub record AreSetUp {R : Type 0} (cmp : R → R → Ordering) (s : Setting R) (c
 pub record IsCourse {R : Type 0} (cmp : R → R → Ordering) (s : Setting R) (c : ArcTables R) : Type 0 where
   pub is : AreSetUp cmp s c
   pub still : AreStill c.columns
-  pub grouped : AreGroupPrices c.levels.prices.items c.columns.groups.starts.items c.columns.groups.touches.items c.columns.grouped.items
+  pub running : AreRunning c.levels.prices.items c.columns
+  pub grouped : AreGroupPrices c.levels.prices.items c.columns.groups.starts.items c.columns.groups.touches c.columns.grouped.items
 
 -- prices of rows have moved, and the groups that touch them are due
 pub record HasMoved {R : Type 0} (cmp : R → R → Ordering) (s : Setting R) (c : ArcTables R) : Type 0 where

@@ -5,6 +5,7 @@ pub mod Paths
 pub mod Deads
 pub mod Marks
 pub mod NarrowArcs
+pub mod NarrowTouches
 pub mod Laws
 pub mod Repairs
 pub mod ArcTerms
@@ -36,3 +37,4 @@ pub mod Uses
 pub mod Listings
 pub mod Parts
 pub mod Tellings
+pub mod Shares

@@ -14,7 +14,7 @@ use Rattle.optra_prices.specs.Tables.{group_at}
 use Rattle.optra_prices.specs.declared.arc_tables.ArcTables.{ArcTables}
 use Rattle.optra_prices.specs.ArcTerms.{ArcTerm}
 use Rattle.optra_prices.specs.declared.numbering.BidTable.{BidTable}
-use Rattle.optra_prices.specs.declared.numbering.Touch.{Touch}
+use Rattle.optra_prices.specs.declared.touch.Touch.{Touch}
 use Rattle.optra_prices.specs.declared.parts.ArcPart.{ArcPart}
 use Rattle.optra_prices.specs.declared.rooms.Room.{Room}
 

@@ -10,7 +10,7 @@ use Rattle.optra_prices.specs.Tables.{group_at}
 use Rattle.optra_prices.specs.declared.claims.Claim.{Claim}
 use Rattle.optra_prices.specs.declared.decided.Decided.{Decided}
 use Rattle.optra_prices.specs.declared.numbering.Groups.{Groups}
-use Rattle.optra_prices.specs.declared.numbering.Touch.{Touch}
+use Rattle.optra_prices.specs.declared.touch.Touch.{Touch}
 use Rattle.optra_prices.specs.declared.rooms.Room.{Room}
 use Rattle.optra_prices.specs.declared.rooms.Told.{Told}
 
@@ -36,7 +36,7 @@ HasRoomForAll room touches = All (HasRoomFor room) touches
 
 -- what is told of a group is whether there is room for it
 abbrev pub IsTold : Room → Groups → Told → Type 0
-IsTold room groups told = (told.has_room ≡ true) ↔ HasRoomForAll room (group_at groups.starts.items groups.touches.items told.group)
+IsTold room groups told = (told.has_room ≡ true) ↔ HasRoomForAll room (group_at groups.starts.items groups.touches told.group)
 
 -- the copy has the same capacities, and nothing is used of it
 pub record IsFreeCopy (room copy : Room) : Type 0 where

@@ -61,7 +61,7 @@ Agrees {R} cmp numbered prices listed = (n : ℕ) (row : R) → slice_get number
 
 -- the table has the arcs of the bid, as they are at all nodes
 pub record IsArcTable {R : Type 0} (net : Net) (rows : Rows R) (used : TypeId → Leg → List R) (numbered : List R) (groups : Groups) (bid : Bid) (table : BidTable) : Type 0 where
-  pub arcs_are : AreArcs net rows used bid table.graph.now numbered table.arcs groups.starts.items groups.touches.items
+  pub arcs_are : AreArcs net rows used bid table.graph.now numbered table.arcs groups.starts.items groups.touches
   pub covers : Covers table.most table.arcs
 
 -- a table for each bid, as it is at all nodes
@@ -73,12 +73,12 @@ pub record HoldArcs {R : Type 0} (net : Net) (rows : Rows R) (used : TypeId → 
 pub record IsMade {R : Type 0} (cmp : R → R → Ordering) (net : Net) (rows : Rows R) (used : TypeId → Leg → List R) (bids : List Bid) (made : Made R) : Type 0 where
   pub numbering : IsNumbering cmp made.numbering.order.items made.numbering.rows.items
   pub rows_are : All (λ row. rows.is_row row ≡ true) made.numbering.rows.items
-  pub groups_are : AreGroups made.groups.starts.items made.groups.touches.items
+  pub groups_are : AreGroups made.groups.starts.items made.groups.touches
   pub tables : HoldArcs net rows used bids (length bids) made.numbering.rows.items made.groups made.tables.items
 
 -- the table has the arcs of the bid at the node
 pub record IsBidTable {R : Type 0} (s : Setting R) (number : ℕ) (numbered : List R) (groups : Groups) (bid : Bid) (table : BidTable) : Type 0 where
-  pub arcs_are : AreBidArcs s number bid table.graph.now numbered table.arcs groups.starts.items groups.touches.items table.forced
+  pub arcs_are : AreBidArcs s number bid table.graph.now numbered table.arcs groups.starts.items groups.touches table.forced
   pub covers : Covers table.most table.arcs
 
 -- a table for each bid at a node

@@ -11,7 +11,7 @@ use Rattle.optra_bid.specs.Specs.{IsBetween}
 use Rattle.optra_dag.specs.NarrowSums.{IsWithin}
 use Rattle.optra_node.specs.Duals.{sum_of}
 use Rattle.optra_prices.specs.Arcs.{IsArcValue}
-use Rattle.optra_prices.specs.declared.numbering.Touch.{Touch}
+use Rattle.optra_prices.specs.declared.touch.Touch.{Touch}
 use Rattle.optra_prices.specs.ArcTerms.{ArcTerm}
 
 -- the rows ascend, each of which stands with its number
@@ -58,6 +58,7 @@ uses_in_all touches = sum_by (λ touch. touch.uses) touches
 -- groups stand one after the other; the first one is empty, and none uses more than a leg may
 pub record AreGroups (starts : List ℕ) (touches : List Touch) : Type 0 where
   pub two : 1 < length starts
+  pub first : slice_index starts 0 ≡ 0
   pub ordered : (g : ℕ) → g + 1 < length starts → slice_index starts g ≤ slice_index starts (g + 1)
   pub within : (g : ℕ) → g < length starts → slice_index starts g ≤ length touches
   pub last : slice_index starts (length starts - 1) ≡ length touches

@@ -38,7 +38,7 @@ TellsOwn decisions told = (number : ℕ) → number < length told → is_told to
 pub record IsRowOf (groups : Groups) (arcs : List ArcTerm) (n : ℕ) : Type 0 where
   pub group : ℕ
   pub has : Contains (groups_of arcs) group
-  pub touched : IsTouched (group_at groups.starts.items groups.touches.items group) n
+  pub touched : IsTouched (group_at groups.starts.items groups.touches group) n
 
 -- a bid that isn't told has none of the decisions, and no arc of it touches a row that a yes leg among them uses
 pub record TellsMoved {R : Type 0} (rows : Rows R) (bids : List Bid) (decisions : List Decision) (c : ArcTables R) : Type 0 where

@@ -12,7 +12,7 @@ use Rattle.optra_node.specs.Spans.{IsLegOk, IsStartOk}
 use Rattle.optra_prices.specs.Arcs.{start_value, leg_value, IsArcValue}
 use Rattle.optra_prices.specs.Tables.{AreTouches, group_at, AreGroups}
 use Rattle.optra_prices.specs.ArcTerms.{ArcTerm}
-use Rattle.optra_prices.specs.declared.numbering.Touch.{Touch}
+use Rattle.optra_prices.specs.declared.touch.Touch.{Touch}
 
 -- a family on a network, with the rows that a leg uses; the bids; and a node
 pub record Setting (R : Type 0) : Type 0 where

@@ -4,7 +4,7 @@ use Rattle.optra_prices.specs.Indexes.{IndexHas}
 use Rattle.optra_prices.specs.Tables.{group_at}
 use Rattle.optra_prices.specs.declared.index.Index.{Index}
 use Rattle.optra_prices.specs.declared.numbering.Groups.{Groups}
-use Rattle.optra_prices.specs.declared.numbering.Touch.{Touch}
+use Rattle.optra_prices.specs.declared.touch.Touch.{Touch}
 
 -- the rows that are touched
 abbrev pub rows_touched : List Touch → List ℕ
@@ -16,4 +16,4 @@ IsTouched touches row = Contains (rows_touched touches) row
 
 -- each group is one of those of each row that it touches
 abbrev pub FindsUsers : Groups → Index → Type 0
-FindsUsers groups users = (g row : ℕ) → g + 1 < length groups.starts.items → IsTouched (group_at groups.starts.items groups.touches.items g) row → IndexHas users row g
+FindsUsers groups users = (g row : ℕ) → g + 1 < length groups.starts.items → IsTouched (group_at groups.starts.items groups.touches g) row → IndexHas users row g

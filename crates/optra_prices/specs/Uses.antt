@@ -5,7 +5,7 @@ use Rattle.optra_prices.specs.Tables.{group_at, no_arc, AreGroups}
 use Rattle.optra_prices.specs.declared.numbering.BidTable.{BidTable}
 use Rattle.optra_prices.specs.declared.numbering.Groups.{Groups}
 use Rattle.optra_prices.specs.declared.numbering.Standing.{Standing}
-use Rattle.optra_prices.specs.declared.numbering.Touch.{Touch}
+use Rattle.optra_prices.specs.declared.touch.Touch.{Touch}
 
 -- how much one touch uses of the row with number n
 abbrev pub touch_use : Touch → ℕ → ℕ
@@ -17,7 +17,7 @@ touch_uses touches n = sum_by (λ touch. touch_use touch n) touches
 
 -- what an arc touches
 abbrev pub arc_touches : Groups → BidTable → ℕ → List Touch
-arc_touches groups table k = group_at groups.starts.items groups.touches.items (slice_index_or table.arcs k no_arc).group
+arc_touches groups table k = group_at groups.starts.items groups.touches (slice_index_or table.arcs k no_arc).group
 
 -- how much the arcs of a path use of the row with number n
 abbrev pub path_uses : Groups → BidTable → List ℕ → ℕ → ℕ
@@ -68,5 +68,5 @@ pub record CountsPath (groups : Groups) (table : BidTable) (before path : List �
 
 -- each arc of the table has a group
 pub record HasGroups (groups : Groups) (table : BidTable) : Type 0 where
-  pub are : AreGroups groups.starts.items groups.touches.items
+  pub are : AreGroups groups.starts.items groups.touches
   pub within : All (λ arc. arc.group + 1 < length groups.starts.items) table.arcs

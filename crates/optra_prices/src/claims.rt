@@ -8,9 +8,10 @@ ghost use Rattle.optra_prices.specs.Rooms.{IsClaimWithin};
 ghost use Rattle.optra_prices.specs.Tables.{IsNumbering, number_in};
 ghost use Rattle.optra_prices.specs.Uses.{AddsUses, TakesUses};
 
-use crate::numbering::Touch;
 use crate::rooms::{Room, add_touches, are_touches_within, take_touches};
 use crate::row_numbers::{RowNumbers, number_of};
+use crate::touch::Touch;
+use crate::touch_slice::TouchSlice;
 use optra_network::{Network, NoMemory, TrackId, TypeId};
 use optra_node::Decision;
 use optra_walk::{Instance, Leg, RowFamily};
@@ -135,6 +136,16 @@ pub(crate) fn claims_of<F: RowFamily>(
     Ok(claims)
 }
 
+/// What a claim touches.
+pub(crate) fn claimed(claim: &Claim) -> TouchSlice<'_>
+    ensures { result ≡ claim.now.touches.items }
+{
+    TouchSlice {
+        narrow: &[],
+        wide: &claim.touches,
+    }
+}
+
 /// Adds what is claimed.
 pub(crate) fn add_claims(room: &mut Room, claims: &[Claim]) -> Result<(), NoMemory>
     ensures uses { OnOk result (AddsUses (claim_uses claims.now) room.old.loads.uses
@@ -142,7 +153,7 @@ pub(crate) fn add_claims(room: &mut Room, claims: &[Claim]) -> Result<(), NoMemo
     ensures capacities { OnOk result (room.new.loads.capacities ≡ room.old.loads.capacities) }
 {
     for claim in claims {
-        add_touches(room, &claim.touches)?;
+        add_touches(room, &claimed(claim))?;
     }
     Ok(())
 }
@@ -153,16 +164,16 @@ pub(crate) fn take_claims(room: &mut Room, claims: &[Claim])
     ensures capacities { room.new.loads.capacities ≡ room.old.loads.capacities }
 {
     for claim in claims {
-        take_touches(room, &claim.touches);
+        take_touches(room, &claimed(claim));
     }
 }
 
 /// What the claim at a place touches.
-fn touches_at(claims: &[Claim], place: usize) -> &[Touch]
+fn touches_at(claims: &[Claim], place: usize) -> TouchSlice<'_>
     requires { place < length claims.now }
-    ensures { result.now ≡ touches_at claims.now place }
+    ensures { result ≡ touches_at claims.now place }
 {
-    &claims[place].touches
+    claimed(&claims[place])
 }
 
 /// Adds what the claims at places use.
@@ -177,7 +188,7 @@ pub(crate) fn add_placed(
     ensures capacities { OnOk result (room.new.loads.capacities ≡ room.old.loads.capacities) }
 {
     for place in places {
-        add_touches(room, touches_at(claims, *place))?;
+        add_touches(room, &touches_at(claims, *place))?;
     }
     Ok(())
 }
@@ -190,7 +201,7 @@ pub(crate) fn take_placed(room: &mut Room, claims: &[Claim], places: &[usize])
     ensures capacities { room.new.loads.capacities ≡ room.old.loads.capacities }
 {
     for place in places {
-        take_touches(room, touches_at(claims, *place));
+        take_touches(room, &touches_at(claims, *place));
     }
 }
 
@@ -198,7 +209,7 @@ pub(crate) fn take_placed(room: &mut Room, claims: &[Claim], places: &[usize])
 fn is_claim_within(room: &Room, claim: &Claim) -> bool
     ensures { IsTrue result ↔ IsClaimWithin room.now claim.now }
 {
-    claim.whole && are_touches_within(room, &claim.touches)
+    claim.whole && are_touches_within(room, &claimed(claim))
 }
 
 /// The same of each of the claims.

@@ -1,16 +1,18 @@
-//! The prices of groups of touches, brought up to date only where the price of a row that they touch has moved.
+//! The prices of groups of touches, which move with the prices of the rows that they touch.
 //!
-//! A group whose price may be old is due. It is priced anew before the bids are searched, and its mark then tells how
-//! its price has moved since they were searched last.
-ghost use Rattle.std.specs.Prelude.{◌≡◌, ◌⊎◌, ◌<◌, ℕ, [], All, Contains, IfOk, OnOk, length, slice_set};
-ghost use Rattle.optra_prices.specs.Columns.{IsColumns, AreListed, KeepsMarks, MarksGroups, MarksRow, MarkTells, MarksTell, AreStill, PricesAllButDue, Reprices, mark_at};
+//! A price of a row that moves moves the prices of its groups, by what each uses of it, and makes these groups due. A due
+//! group takes the price that it has now before the bids are searched, and its mark then tells how its price has moved
+//! since they were searched last.
+ghost use Rattle.std.specs.Prelude.{◌≡◌, ◌⊎◌, ◌<◌, ◌≤◌, ℕ, pos, ◌+ℤ◌, ◌*ℤ◌, [], All, Contains, IfOk, OnOk, length, slice_set};
+ghost use Rattle.optra_prices.specs.Columns.{IsColumns, AreListed, AreRunning, IsPriceMove, IsGroupMove, IsMovedPrice, MovesRunning, price_at, KeepsMarks, MarksGroups, MarksRow, MarkTells, MarksTell, AreStill, PricesAllButDue, Reprices, mark_at};
 ghost use Rattle.optra_prices.specs.Indexes.{IsIndex, items_at};
 ghost use Rattle.optra_prices.specs.declared.columns.Mark.TheVariants.{Still, Due};
 ghost use Rattle.optra_prices.specs.Tables.{AreGroups, AreGroupPrices, IsRowPrice};
 
-use crate::grouping::price_at;
 use crate::index::{Index, end_of, start_of};
 use crate::numbering::Groups;
+use crate::numbers::Numbers;
+use crate::shares::find_amounts;
 use crate::users::find_users;
 use optra_network::NoMemory;
 use std::alloc::Global;
@@ -33,8 +35,12 @@ pub(crate) enum Mark {
 pub(crate) struct Columns {
     pub(crate) groups: Groups,
     pub(crate) users: Index,
-    /// The prices of the groups.
+    /// How much each touch uses, in the order of `users`.
+    pub(crate) amounts: Numbers,
+    /// The prices at which the bids were searched.
     pub(crate) grouped: Vec<i64>,
+    /// The prices that the groups have now.
+    pub(crate) running: Vec<i64>,
     /// How the prices of the groups have moved.
     pub(crate) marks: Vec<Mark>,
     /// The groups that are marked.
@@ -45,18 +51,23 @@ pub(crate) struct Columns {
 
 /// The groups at zero prices.
 pub(crate) fn new_columns(alloc: Global, groups: Groups) -> Result<Columns, NoMemory>
-    requires { AreGroups groups.starts.items groups.touches.items }
+    requires { AreGroups groups.starts.items groups.touches }
     ensures columns { IfOk result (IsColumns groups) }
     ensures still { IfOk result AreStill }
     ensures zero { IfOk result (λ columns. AreGroupPrices [] groups.starts.items
-        groups.touches.items columns.grouped.items) }
+        groups.touches columns.grouped.items) }
+    ensures running { IfOk result (λ columns. AreGroupPrices [] groups.starts.items
+        groups.touches columns.running.items) }
 {
+    let amounts = find_amounts(alloc, &groups)?;
     let users = find_users(alloc, &groups)?;
     let count = groups.starts.len() - 1;
     Ok(Columns {
         groups,
         users,
+        amounts,
         grouped: vec![in alloc; 0; count]?,
+        running: vec![in alloc; 0; count]?,
         marks: vec![in alloc; Mark::Still; count]?,
         due: Vec::new(alloc),
         highest: 0,
@@ -118,6 +129,54 @@ pub(crate) fn mark_row(columns: &mut Columns, row: usize) -> Result<(), NoMemory
     Ok(())
 }
 
+/// By how much the price of a group moves.
+fn group_move(by: i64, uses: usize) -> i64
+    requires by { IsPriceMove by }
+    requires few { uses ≤ 8192 }
+    ensures value { result ≡ by *ℤ pos uses }
+    ensures range { IsGroupMove result }
+{
+    by * uses as i64
+}
+
+/// The price of a group that has moved by so much.
+fn moved_price(price: i64, by: i64) -> i64
+    requires price { IsMovedPrice price }
+    requires by { IsGroupMove by }
+    ensures { result ≡ price +ℤ by }
+{
+    price + by
+}
+
+/// Moves the price that a group has now.
+fn move_group(running: &mut Vec<i64>, g: usize, by: i64, uses: usize)
+    requires by { IsPriceMove by }
+    requires few { g < length running.old.items → uses ≤ 8192 }
+    requires range { IsMovedPrice (price_at running.old.items g) }
+    ensures { running.new.items ≡ slice_set running.old.items g (price_at running.old.items g
+        +ℤ by *ℤ pos uses) }
+{
+    if g < running.len() {
+        running[g] = moved_price(running[g], group_move(by, uses));
+    }
+}
+
+/// Moves the prices that the groups have now, once the price of a row that they touch moves by so much.
+pub(crate) fn move_groups(columns: &mut Columns, prices: &[i64], row: usize, by: i64)
+    requires columns { IsColumns columns.old.groups columns.old }
+    requires prices { All IsRowPrice prices.now }
+    requires running { AreRunning prices.now columns.old }
+    requires by { IsPriceMove by }
+    ensures rest { columns.new ≡ record columns.old { running = columns.new.running } }
+    ensures running { MovesRunning row by columns.old columns.new }
+{
+    let _ = prices;
+    for place in start_of(&columns.users, row)..end_of(&columns.users, row) {
+        let g = columns.users.items.at(place);
+        move_group(&mut columns.running, g, by, columns.amounts.at(place));
+    }
+}
+
 /// The mark of a group.
 pub(crate) fn mark_at(marks: &[Mark], g: usize) -> Mark
     ensures { result ≡ mark_at marks.now g }
@@ -142,13 +201,15 @@ fn mark_of(old: i64, new: i64) -> Mark
 fn reprice_group(columns: &mut Columns, prices: &[i64], g: usize)
     requires columns { IsColumns columns.old.groups columns.old }
     requires prices { All IsRowPrice prices.now }
+    requires running { AreRunning prices.now columns.old }
     ensures columns { IsColumns columns.old.groups columns.new }
     ensures repriced { Reprices prices.now g columns.old columns.new }
 {
     if g >= columns.grouped.len() || columns.marks[g] != Mark::Due {
         return;
     }
-    let price = price_at(prices, &columns.groups, g);
+    let _ = prices;
+    let price = columns.running[g];
     columns.marks[g] = mark_of(columns.grouped[g], price);
     columns.grouped[g] = price;
     columns.highest = columns.highest.max(price);
@@ -161,9 +222,10 @@ pub(crate) fn reprice(columns: &mut Columns, prices: &[i64])
     requires due { PricesAllButDue prices.now columns.old }
     ensures columns { IsColumns columns.old.groups columns.new }
     ensures prices { AreGroupPrices prices.now columns.new.groups.starts.items
-        columns.new.groups.touches.items columns.new.grouped.items }
+        columns.new.groups.touches columns.new.grouped.items }
     ensures marks { MarksTell columns.old.grouped.items columns.new.grouped.items
         columns.new.marks.items }
+    ensures running { AreRunning prices.now columns.new }
 {
     for k in 0..columns.due.len() {
         let g = columns.due[k];
@@ -197,6 +259,7 @@ pub(crate) fn still(columns: &mut Columns)
     ensures columns { IsColumns columns.old.groups columns.new }
     ensures still { AreStill columns.new }
     ensures same { columns.new.grouped ≡ columns.old.grouped }
+    ensures running { columns.new.running ≡ columns.old.running }
 {
     still_groups(&mut columns.marks, &columns.due);
     columns.due.clear();

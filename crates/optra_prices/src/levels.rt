@@ -4,15 +4,15 @@
 //! 0 and stays 0. The price of all capacity is kept by difference.
 ghost use Rattle.std.specs.Prelude.{◌≡◌, ◌+◌, ◌<◌, ◌≤◌, true, [], ◌∷◌, ◌++◌, pos, ◌+ℤ◌, ◌-ℤ◌, ◌*ℤ◌, All, IfOk, OnOk, length, slice_set};
 ghost use Rattle.optra_prices.specs.Bounds.{IsCapacityPrice, IsStepLength, IsWholePrice, most_capacity};
-ghost use Rattle.optra_prices.specs.Columns.{IsColumns, PricesAllButDue};
+ghost use Rattle.optra_prices.specs.Columns.{IsColumns, IsPriceMove, PricesAllButDue};
 ghost use Rattle.optra_prices.specs.Levels.{IsLevels, IsMove, AreUnused, KeepsPrices, KeepsUses, Wakes, WakesAbove, Rests, MovesRow, MovesTo, HoldsPrices, moved_by, is_listed, next_at, use_of};
 ghost use Rattle.optra_prices.specs.Tables.{IsRowPrice};
 ghost use Rattle.optra_prices.specs.Uses.{AddsUses, TakesUses, touch_use};
 
-use crate::columns::{Columns, mark_row};
+use crate::columns::{Columns, mark_row, move_groups};
 use crate::loads::Loads;
 use crate::next_prices::next_price;
-use crate::numbering::Touch;
+use crate::touch::Touch;
 use optra_network::NoMemory;
 use std::alloc::Global;
 
@@ -49,6 +49,16 @@ fn capacity_after(total: i128, old: i64, new: i64, capacity: u32) -> i128
     ensures { result ≡ total +ℤ (new *ℤ pos capacity -ℤ old *ℤ pos capacity) }
 {
     total + (capacity_product(new, capacity) - capacity_product(old, capacity))
+}
+
+/// By how much a price of a row moves.
+fn price_move(old: i64, new: i64) -> i64
+    requires old { IsRowPrice old }
+    requires new { IsRowPrice new }
+    ensures value { result ≡ new -ℤ old }
+    ensures range { IsPriceMove result }
+{
+    new - old
 }
 
 /// No row yet.
@@ -127,7 +137,7 @@ fn wake_above(levels: &mut Levels, number: usize, more: u32) -> Result<(), NoMem
     Ok(())
 }
 
-/// Sets the price of a row, and makes the groups due that touch it.
+/// Sets the price of a row, moves the prices of the groups that touch it, and makes these groups due.
 pub(crate) fn set_price(
     levels: &mut Levels,
     columns: &mut Columns,
@@ -155,6 +165,7 @@ pub(crate) fn set_price(
     }
     wake(levels, number)?;
     mark_row(columns, number)?;
+    move_groups(columns, &levels.prices, number, price_move(old, price));
     levels.capacity = capacity_after(levels.capacity, old, price, levels.loads.capacity(number));
     levels.prices[number] = price;
     Ok(())

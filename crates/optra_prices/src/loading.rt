@@ -7,42 +7,43 @@ ghost use Rattle.optra_prices.specs.Uses.{touch_uses, arc_touches, path_uses, Ar
 
 use crate::grouping::group;
 use crate::levels::{Levels, add_touch, forget_uses, take_touch};
-use crate::numbering::{BidTable, Groups, Standing, Touch};
+use crate::numbering::{BidTable, Groups, Standing};
 use crate::settling::group_of;
+use crate::touch_slice::TouchSlice;
 use optra_network::NoMemory;
 use std::alloc::Global;
 
 /// What an arc touches.
-pub(crate) fn arc_touches<'a>(groups: &'a Groups, table: &BidTable<'_>, k: u32) -> &'a [Touch]
+pub(crate) fn arc_touches<'a>(groups: &'a Groups, table: &BidTable<'_>, k: u32) -> TouchSlice<'a>
     requires { HasGroups groups.now table.now }
-    ensures { result.now ≡ arc_touches groups.now table.now k }
+    ensures { result ≡ arc_touches groups.now table.now k }
 {
     group(groups, group_of(&table.arcs, k))
 }
 
 /// Adds what a group uses.
-fn add_group(levels: &mut Levels, touches: &[Touch]) -> Result<(), NoMemory>
+fn add_group(levels: &mut Levels, touches: &TouchSlice<'_>) -> Result<(), NoMemory>
     requires { IsLevels levels.old }
     ensures levels { OnOk result (IsLevels levels.new) }
     ensures uses { OnOk result (AddsUses (touch_uses touches.now) levels.old.loads.uses
         levels.new.loads.uses) }
     ensures prices { OnOk result (KeepsPrices levels.old levels.new) }
 {
-    for touch in touches {
-        add_touch(levels, *touch)?;
+    for k in 0..touches.len() {
+        add_touch(levels, touches.at(k))?;
     }
     Ok(())
 }
 
 /// Takes away what a group uses.
-fn take_group(levels: &mut Levels, touches: &[Touch])
+fn take_group(levels: &mut Levels, touches: &TouchSlice<'_>)
     requires { IsLevels levels.old }
     ensures levels { IsLevels levels.new }
     ensures uses { TakesUses (touch_uses touches.now) levels.old.loads.uses levels.new.loads.uses }
     ensures prices { KeepsPrices levels.old levels.new }
 {
-    for touch in touches {
-        take_touch(levels, *touch);
+    for k in 0..touches.len() {
+        take_touch(levels, touches.at(k));
     }
 }
 
@@ -61,7 +62,7 @@ fn add_path(
     ensures prices { OnOk result (KeepsPrices levels.old levels.new) }
 {
     for k in path {
-        add_group(levels, arc_touches(groups, table, *k))?;
+        add_group(levels, &arc_touches(groups, table, *k))?;
     }
     Ok(())
 }
@@ -76,7 +77,7 @@ fn take_path(levels: &mut Levels, groups: &Groups, table: &BidTable<'_>, path: &
     ensures prices { KeepsPrices levels.old levels.new }
 {
     for k in path {
-        take_group(levels, arc_touches(groups, table, *k));
+        take_group(levels, &arc_touches(groups, table, *k));
     }
 }
 

@@ -143,13 +143,13 @@ fn new_group<F: RowFamily>(
 ) -> Result<usize, NoMemory>
     requires usable { IsUsable net.now kind leg }
     requires rows { All (λ row. (F.rows_of rows.now net.now).is_row row ≡ true) named.old.items }
-    requires groups { AreGroups groups.old.starts.items groups.old.touches.items }
+    requires groups { AreGroups groups.old.starts.items groups.old.touches }
     ensures { IfOk result (FindsGroup (F.rows_of rows.now net.now) (F.rows_used rows.now net.now)
         kind leg named.old.items named.new.items groups.old groups.new) }
 {
     let number = groups.starts.len() - 1;
     push_touches(net, rows, named, &mut groups.touches, like, kind, leg)?;
-    groups.starts.push(groups.touches.len())?;
+    groups.starts.push(groups.touches.slice().len())?;
     Ok(number)
 }
 

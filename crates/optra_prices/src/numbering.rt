@@ -1,19 +1,13 @@
 //! What the arcs of bids' graphs add and touch.
 use crate::arcs::Arcs;
+use crate::touches::Touches;
 use optra_graph::TimeGraph;
-
-/// A row by its number, and how much of it is used.
-#[derive(Clone, Copy)]
-pub(crate) struct Touch {
-    pub(crate) row: usize,
-    pub(crate) uses: u32,
-}
 
 /// Groups of touches: those of group `g` stand from `starts[g]` up to `starts[g + 1]`. All bids share them.
 #[derive(Drop)]
 pub(crate) struct Groups {
     pub(crate) starts: Vec<usize>,
-    pub(crate) touches: Vec<Touch>,
+    pub(crate) touches: Touches,
 }
 
 /// The arcs of a bid's graph at a node, a number that none of their values exceeds in size, and whether the bid has a yes

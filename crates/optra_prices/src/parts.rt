@@ -43,10 +43,10 @@ fn tell_table(
     table: &BidTable<'_>,
     room: &Room,
 ) -> Result<(), NoMemory>
-    requires groups { AreGroups groups.now.starts.items groups.now.touches.items }
+    requires groups { AreGroups groups.now.starts.items groups.now.touches }
     requires within { All (λ arc. arc.group + 1 < length groups.now.starts.items)
         table.now.arcs }
-    ensures { OnOk result (ArePartsOf room.now groups.now.starts.items groups.now.touches.items
+    ensures { OnOk result (ArePartsOf room.now groups.now.starts.items groups.now.touches
         table.now.arcs (length table.now.arcs) parts.new.items) }
 {
     parts.clear();

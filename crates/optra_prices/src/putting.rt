@@ -23,7 +23,7 @@ pub(crate) fn add_arcs(
     ensures capacities { OnOk result (room.new.loads.capacities ≡ room.old.loads.capacities) }
 {
     for k in path {
-        add_touches(room, arc_touches(groups, table, *k))?;
+        add_touches(room, &arc_touches(groups, table, *k))?;
     }
     Ok(())
 }
@@ -36,7 +36,7 @@ pub(crate) fn take_arcs(room: &mut Room, groups: &Groups, table: &BidTable<'_>, 
     ensures capacities { room.new.loads.capacities ≡ room.old.loads.capacities }
 {
     for k in path {
-        take_touches(room, arc_touches(groups, table, *k));
+        take_touches(room, &arc_touches(groups, table, *k));
     }
 }
 
@@ -52,7 +52,7 @@ pub(crate) fn are_arcs_within(
         (arc_touches groups.now table.now k)) path.now }
 {
     for k in path {
-        if !are_touches_within(room, arc_touches(groups, table, *k)) {
+        if !are_touches_within(room, &arc_touches(groups, table, *k)) {
             return false;
         }
     }
@@ -71,7 +71,7 @@ pub(crate) fn has_room_for_each(
         path.now }
 {
     for k in path {
-        if !has_room(room, arc_touches(groups, table, *k)) {
+        if !has_room(room, &arc_touches(groups, table, *k)) {
             return false;
         }
     }

@@ -6,8 +6,10 @@ ghost use Rattle.optra_prices.specs.Uses.{touch_use, touch_uses, AddsUses, Takes
 
 use crate::grouping::group;
 use crate::loads::Loads;
-use crate::numbering::{Groups, Touch};
+use crate::numbering::Groups;
 use crate::row_numbers::RowNumbers;
+use crate::touch::Touch;
+use crate::touch_slice::TouchSlice;
 use optra_network::{Network, NoMemory};
 use optra_walk::RowFamily;
 use std::alloc::Global;
@@ -82,24 +84,24 @@ fn take_touch(room: &mut Room, touch: Touch)
 }
 
 /// Adds what touches use.
-pub(crate) fn add_touches(room: &mut Room, touches: &[Touch]) -> Result<(), NoMemory>
+pub(crate) fn add_touches(room: &mut Room, touches: &TouchSlice<'_>) -> Result<(), NoMemory>
     ensures uses { OnOk result (AddsUses (touch_uses touches.now) room.old.loads.uses
         room.new.loads.uses) }
     ensures capacities { OnOk result (room.new.loads.capacities ≡ room.old.loads.capacities) }
 {
-    for touch in touches {
-        add_touch(room, *touch)?;
+    for k in 0..touches.len() {
+        add_touch(room, touches.at(k))?;
     }
     Ok(())
 }
 
 /// Takes away what touches use.
-pub(crate) fn take_touches(room: &mut Room, touches: &[Touch])
+pub(crate) fn take_touches(room: &mut Room, touches: &TouchSlice<'_>)
     ensures uses { TakesUses (touch_uses touches.now) room.old.loads.uses room.new.loads.uses }
     ensures capacities { room.new.loads.capacities ≡ room.old.loads.capacities }
 {
-    for touch in touches {
-        take_touch(room, *touch);
+    for k in 0..touches.len() {
+        take_touch(room, touches.at(k));
     }
 }
 
@@ -111,11 +113,11 @@ fn is_number_within(room: &Room, number: usize) -> bool
 }
 
 /// Whether no more is used of the touched rows than there is.
-pub(crate) fn are_touches_within(room: &Room, touches: &[Touch]) -> bool
+pub(crate) fn are_touches_within(room: &Room, touches: &TouchSlice<'_>) -> bool
     ensures { IsTrue result ↔ All (λ touch. IsNumberWithin room.now touch.row) touches.now }
 {
-    for touch in touches {
-        if !is_number_within(room, touch.row) {
+    for k in 0..touches.len() {
+        if !is_number_within(room, touches.at(k).row) {
             return false;
         }
     }
@@ -130,11 +132,11 @@ fn has_room_for(room: &Room, touch: Touch) -> bool
 }
 
 /// Whether there is room for each of the touches.
-pub(crate) fn has_room(room: &Room, touches: &[Touch]) -> bool
+pub(crate) fn has_room(room: &Room, touches: &TouchSlice<'_>) -> bool
     ensures { IsTrue result ↔ HasRoomForAll room.now touches.now }
 {
-    for touch in touches {
-        if !has_room_for(room, *touch) {
+    for k in 0..touches.len() {
+        if !has_room_for(room, touches.at(k)) {
             return false;
         }
     }
@@ -150,7 +152,7 @@ pub(crate) struct Told {
 
 /// Whether there is room for a group: what was told last, where that was of the same group, as neighbouring arcs mostly are.
 pub(crate) fn tell_group(room: &Room, groups: &Groups, number: usize, last: Told) -> Told
-    requires groups { AreGroups groups.now.starts.items groups.now.touches.items }
+    requires groups { AreGroups groups.now.starts.items groups.now.touches }
     requires within { number + 1 < length groups.now.starts.items }
     requires last { IsTold room.now groups.now last }
     ensures group { result.group ≡ number }
@@ -161,6 +163,6 @@ pub(crate) fn tell_group(room: &Room, groups: &Groups, number: usize, last: Told
     }
     Told {
         group: number,
-        has_room: has_room(room, group(groups, number)),
+        has_room: has_room(room, &group(groups, number)),
     }
 }

@@ -63,7 +63,7 @@ fn term_at<F: RowFamily>(
     ensures grows { OnOk result (Grows making.old making.new) }
     ensures term { IfOk result (λ arc. IsTerm net.now (F.rows_of rows.now net.now)
         (F.rows_used rows.now net.now) bid.now graph.now making.new.named.items
-        making.new.groups.starts.items making.new.groups.touches.items k arc) }
+        making.new.groups.starts.items making.new.groups.touches k arc) }
 {
     net.laws();
     let Some(leg) = graph.leg(k) else {
@@ -103,7 +103,7 @@ pub(crate) fn bid_table<'g, F: RowFamily>(
     ensures grows { OnOk result (Grows making.old making.new) }
     ensures table { IfOk result (λ table. AreArcs net.now (F.rows_of rows.now net.now)
         (F.rows_used rows.now net.now) bid.now table.graph.now making.new.named.items
-        table.arcs making.new.groups.starts.items making.new.groups.touches.items) }
+        table.arcs making.new.groups.starts.items making.new.groups.touches) }
     ensures covers { IfOk result (λ table. Covers table.most table.arcs) }
 {
     let count = graph.dag().arcs();

@@ -12,24 +12,25 @@ ghost use Rattle.optra_prices.specs.Terms.{setting};
 ghost use Rattle.optra_prices.specs.Uses.{touch_uses};
 
 use crate::arc_tables::ArcTables;
-use crate::claims::Claim;
+use crate::claims::{Claim, claimed};
 use crate::columns::{Columns, mark_row, still};
 use crate::decided::decisions_of;
 use crate::holders::{tell_bid, tell_holders, tell_none};
 use crate::index::Index;
-use crate::numbering::{BidTable, Touch};
+use crate::numbering::BidTable;
+use crate::touch_slice::TouchSlice;
 use optra_network::NoMemory;
 use optra_node::{Decision, Node};
 use optra_walk::{Instance, RowFamily};
 
 /// Makes the groups due that touch a touched row.
-fn mark_touches(columns: &mut Columns, touches: &[Touch]) -> Result<(), NoMemory>
+fn mark_touches(columns: &mut Columns, touches: &TouchSlice<'_>) -> Result<(), NoMemory>
     requires { IsColumns columns.old.groups columns.old }
     ensures columns { OnOk result (IsColumns columns.old.groups columns.new) }
     ensures marks { OnOk result (MarksUsed (touch_uses touches.now) columns.old columns.new) }
 {
-    for touch in touches {
-        mark_row(columns, touch.row)?;
+    for k in 0..touches.len() {
+        mark_row(columns, touches.at(k).row)?;
     }
     Ok(())
 }
@@ -41,7 +42,7 @@ fn mark_claims(columns: &mut Columns, claims: &[Claim]) -> Result<(), NoMemory>
     ensures marks { OnOk result (MarksUsed (claim_uses claims.now) columns.old columns.new) }
 {
     for claim in claims {
-        mark_touches(columns, &claim.touches)?;
+        mark_touches(columns, &claimed(claim))?;
     }
     Ok(())
 }

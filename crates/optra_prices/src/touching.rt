@@ -3,7 +3,9 @@ ghost use Rattle.std.specs.Prelude.{◌≡◌, ◌⊎◌, true, ◌++◌, ◌∷
 ghost use Rattle.optra_walk.specs.Families.{IsUsable};
 ghost use Rattle.optra_prices.specs.Tables.{Extends, AddsTouches};
 
-use crate::numbering::Touch;
+use crate::touch::Touch;
+use crate::touch_slice::TouchSlice;
+use crate::touches::Touches;
 use optra_network::{Network, NoMemory, TypeId};
 use optra_walk::{Leg, RowFamily};
 
@@ -26,10 +28,11 @@ fn name_row<F: RowFamily>(
 }
 
 /// The place of the row that a touch names, and 0 where there is none.
-fn row_at(touches: &[Touch], at: usize) -> usize {
-    match touches.get(at) {
-        Some(touch) => touch.row,
-        None => 0,
+fn row_at(touches: &TouchSlice<'_>, at: usize) -> usize {
+    if at < touches.len() {
+        touches.at(at).row
+    } else {
+        0
     }
 }
 
@@ -38,7 +41,7 @@ pub(crate) fn push_touches<F: RowFamily>(
     net: &Network,
     rows: &F,
     named: &mut Vec<F::Row>,
-    touches: &mut Vec<Touch>,
+    touches: &mut Touches,
     like: usize,
     kind: TypeId,
     leg: Leg,
@@ -49,13 +52,13 @@ pub(crate) fn push_touches<F: RowFamily>(
         named.new.items) }
     ensures extends { OnOk result (Extends named.old.items named.new.items) }
     ensures touches { OnOk result (AddsTouches named.new.items ((F.rows_of rows.now net.now).uses
-        kind leg) (F.rows_used rows.now net.now kind leg) touches.old.items touches.new.items) }
+        kind leg) (F.rows_used rows.now net.now kind leg) touches.old touches.new) }
 {
     for k in 0..8192 {
         let Some(row) = rows.touched(net, kind, leg, k) else {
             return Ok(());
         };
-        let guess = row_at(touches, like.saturating_add(k as usize));
+        let guess = row_at(&touches.slice(), like.saturating_add(k as usize));
         let place = name_row::<F>(named, guess, row)?;
         let uses = rows.leg_use(net, kind, leg, row);
         touches.push(Touch { row: place, uses })?;

@@ -1,4 +1,4 @@
-use Rattle.std.proofs.Common.{◌≡◌, ◌+◌, ◌<◌, ◌≤◌, List, length, get_or, Some, slice_get, refl, sym, ap, ◌∙◌, subst, arith}
+use Rattle.std.proofs.Common.{◌≡◌, ℕ, ◌+◌, ◌<◌, ◌≤◌, List, length, get_or, Some, slice_get, refl, sym, ap, ◌∙◌, subst, arith}
 use Rattle.std.proofs.lemmas.List.{nil_from_length}
 use Rattle.std.proofs.lemmas.Option.{slice_get-get_or}
 use Rattle.optra_dag.specs.Paths.{Graph}
@@ -6,6 +6,7 @@ use Rattle.optra_prices.specs.ArcTerms.{ArcTerm}
 use Rattle.optra_prices.specs.NarrowArcs.{with_mark}
 use Rattle.optra_prices.specs.Tables.{no_arc}
 use Rattle.optra_prices.proofs.AllowLemmas.{AreToldUpTo, told_more, told_all, arc_mark, neither}
+use Rattle.optra_prices.proofs.ListLemmas.{all_at}
 use Rattle.optra_prices.proofs.allowing.allow_arcs.Goals as goal
 
 pub loop-k-preserved : goal.loop-k-preserved
@@ -54,3 +55,20 @@ pub let_arc-allowed-requires-clause-own : goal.let_arc-allowed-requires-clause-o
 let_arc-allowed-requires-clause-own g c none =
     let empty : length c.own.result.now ≡ 0 = grind (arith, none, c.is_empty-has_own.ensures) in
     sym c.own.ensures ∙ nil_from_length c.own.result.now empty
+
+pub tell_group-last-requires-clause-within : goal.tell_group-last-requires-clause-within
+tell_group-last-requires-clause-within g c =
+    let starts = c.args.groups.now.starts.items in
+    let old = c.args.arcs.now in
+    let arcs = c.loop-k.arcs in
+    let k = c.loop-k.k in
+    let inv = c.loop-k.invariant in
+    let count = c.arcs-k-end.ensures.count in
+    let dag = ap (λ (d : Graph). length d.arcs) c.dag.ensures in
+    let kept = inv.told.count_is in
+    let given = c.requires.tells.count in
+    let within : k < length arcs = omega arith in
+    let arc = get_or arcs k no_arc in
+    let before : slice_get old k ≡ Some arc = sym (inv.told.left k (omega arith)) ∙ slice_get-get_or arcs k no_arc within in
+    let of : c.group.result ≡ arc.group = c.group.ensures ∙ ap (λ (xs : List ArcTerm). (get_or xs k no_arc).group) c.slice.ensures in
+    subst (λ (n : ℕ). n + 1 < length starts) (sym of) (all_at (λ (a : ArcTerm). a.group + 1 < length starts) old k arc c.requires.tells.within before)

@@ -2,7 +2,7 @@ use Rattle.std.proofs.Common.{◌+◌, ℕ, List, take, ◌∙◌, sym, subst}
 use Rattle.std.proofs.lemmas.List.Sums.{sum_by_more}
 use Rattle.optra_prices.specs.Claims.{placed_uses, touches_at}
 use Rattle.optra_prices.specs.Uses.{AddsUses, touch_uses}
-use Rattle.optra_prices.specs.declared.numbering.Touch.{Touch}
+use Rattle.optra_prices.specs.declared.touch.Touch.{Touch}
 use Rattle.optra_prices.proofs.UseLemmas.{adds_on}
 use Rattle.optra_prices.proofs.claims.add_placed.Goals as goal
 

@@ -6,6 +6,7 @@ use Rattle.optra_prices.proofs.columns.reprice.Given as goal
 abbrev pub invariant-loop-k : goal.invariant-loop-k
 invariant-loop-k l = record {
   columns : IsColumns l.fn.columns.groups l.columns;
+  running : l.columns.running ≡ l.fn.columns.running;
   due : l.columns.due ≡ l.fn.columns.due;
   each : (g : ℕ) → IsTold l.prices l.fn.columns l.k l.columns g;
 }

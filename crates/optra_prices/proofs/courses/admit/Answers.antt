@@ -61,7 +61,8 @@ returns-clause-course g c =
         decided = subst (λ (ds : List Decision). IsDecided net rows c.args.inst.bids.now numbering.rows.items ds c.tell_anew.new.decided) is.decided.decisions_are c.in_ok-tell_anew.ensures;
       };
       still = course.still;
-      grouped = λ h l. course.grouped h l ∙ sym (prices_read kept.levels.prices.items c.widen.new.levels.prices.items (subst (λ v. AddsZeros v.items c.widen.new.levels.prices.items) c.forget_paths.ensures.prices.prices wide.prices) (group_at kept.columns.groups.starts.items kept.columns.groups.touches.items h));
+      running = λ h l. course.running h l ∙ sym (prices_read kept.levels.prices.items c.widen.new.levels.prices.items (subst (λ v. AddsZeros v.items c.widen.new.levels.prices.items) c.forget_paths.ensures.prices.prices wide.prices) (group_at kept.columns.groups.starts.items kept.columns.groups.touches h));
+      grouped = λ h l. course.grouped h l ∙ sym (prices_read kept.levels.prices.items c.widen.new.levels.prices.items (subst (λ v. AddsZeros v.items c.widen.new.levels.prices.items) c.forget_paths.ensures.prices.prices wide.prices) (group_at kept.columns.groups.starts.items kept.columns.groups.touches h));
     }
 
 pub tell_anew-requires-clause-decisions : goal.tell_anew-requires-clause-decisions

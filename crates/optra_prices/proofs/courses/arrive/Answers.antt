@@ -13,6 +13,8 @@ use Rattle.optra_prices.specs.declared.numbering.Standing.{Standing}
 use Rattle.optra_prices.proofs.CourseLemmas.{course_priced, own_columns}
 use Rattle.optra_prices.proofs.LevelLemmas.{capacity_range}
 use Rattle.optra_prices.proofs.NarrowLemmas.{columns_up}
+use Rattle.optra_prices.specs.Columns.{AreRunning}
+use Rattle.optra_prices.proofs.RunningLemmas.{mid_running}
 use Rattle.optra_prices.proofs.StandLemmas.{terms_small}
 use Rattle.optra_prices.proofs.TableLemmas.{tables_sound}
 use Rattle.optra_prices.proofs.courses.arrive.Goals as goal
@@ -86,8 +88,8 @@ returns-clause-priced g c =
     let stand : AllStand tables priced.grouped.items standings =
     subst (λ (ts : List BidTable). AllStand ts priced.grouped.items standings) c.deref-3.ensures.value (subst (λ (ps : List ℤ). AllStand c.deref-3.result.now ps standings) c.deref-4.ensures.value c.in_ok-settle.ensures)
     in
-    let grouped : AreGroupPrices prices priced.groups.starts.items priced.groups.touches.items priced.grouped.items =
-    subst (λ (ps : List ℤ). AreGroupPrices ps priced.groups.starts.items priced.groups.touches.items priced.grouped.items) c.deref.ensures.value c.reprice.ensures.prices
+    let grouped : AreGroupPrices prices priced.groups.starts.items priced.groups.touches priced.grouped.items =
+    subst (λ (ps : List ℤ). AreGroupPrices ps priced.groups.starts.items priced.groups.touches priced.grouped.items) c.deref.ensures.value c.reprice.ensures.prices
     in
     let same = c.still.ensures.columns.groups_are in
     let fits : FitsSigned w128 c.dual_value-kept.result = search rules in
@@ -109,7 +111,8 @@ returns-clause-priced g c =
         decided = is.decided;
       };
       still = c.still.ensures.still;
-      grouped = subst (λ groups. AreGroupPrices prices groups.starts.items groups.touches.items columns.grouped.items) (sym same) (subst (λ v. AreGroupPrices prices priced.groups.starts.items priced.groups.touches.items v.items) (sym c.still.ensures.same) grouped);
+      running = mid_running prices priced columns same c.still.ensures.running (subst (λ (ps : List ℤ). AreRunning ps priced) c.deref.ensures.value c.reprice.ensures.running);
+      grouped = subst (λ groups. AreGroupPrices prices groups.starts.items groups.touches columns.grouped.items) (sym same) (subst (λ v. AreGroupPrices prices priced.groups.starts.items priced.groups.touches v.items) (sym c.still.ensures.same) grouped);
     })
     (to_z-of_z w128 c.dual_value-kept.result fits ∙ c.dual_value-kept.ensures ∙ ap (λ (ss : List Standing). value_of (to_z w128 (of_z w128 kept.levels.capacity)) ss) c.deref-7.ensures.value ∙ ap (λ (z : ℤ). value_of z standings) (to_z-of_z w128 kept.levels.capacity whole))
 

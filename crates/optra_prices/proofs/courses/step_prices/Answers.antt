@@ -7,6 +7,8 @@ use Rattle.optra_prices.specs.Terms.{Setting, setting}
 use Rattle.optra_prices.specs.Uses.{AreCounted, AreUses, HasGroups, paths_of, paths_in}
 use Rattle.optra_prices.specs.declared.numbering.BidTable.{BidTable}
 use Rattle.optra_prices.proofs.CourseLemmas.{counted_on}
+use Rattle.optra_prices.specs.Columns.{PricesAllButDue}
+use Rattle.optra_prices.proofs.RunningLemmas.{none_due}
 use Rattle.optra_prices.proofs.StepCourseLemmas.{course_grouped, step_made}
 use Rattle.optra_prices.proofs.courses.step_prices.Goals as goal
 
@@ -66,3 +68,9 @@ returns-clause-step g c =
     let low : pos 1 ≤ℤ by = let a = c.step_length-by.ensures.range.0 in omega (arith, ints) in
     step_made g.F.Row.Ord.cmp g.met.F.Row.Ord.total g.met.F.RowFamily.tells_apart s proper (λ kind leg usable. g.met.F.RowFamily.lists_rows f net kind leg usable) kept c.requires.course.is c.requires.course.is.numbering.ordered c.args.k by is low
     used c.move_prices.new.levels counts.prices.prices counts.prices.capacities counts.levels.use_count uses moves.levels.range moves.prices
+
+pub move_prices-requires-clause-due : goal.move_prices-requires-clause-due
+move_prices-requires-clause-due g c =
+    let kept = c.args.kept.now in
+    let course = c.requires.course in
+    subst (λ v. PricesAllButDue v.items kept.columns) (sym c.in_ok-count_uses.ensures.prices.prices) (none_due kept.levels.prices.items kept.columns course.still course.running course.grouped)

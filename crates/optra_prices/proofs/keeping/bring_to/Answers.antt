@@ -191,6 +191,7 @@ returns g c =
         decided = subst (λ (ds : List Decision). IsDecided net rows bids numbered ds c.allow_told.new.decided) node_is told.decided;
       };
       still = course.still;
+      running = course.running;
       grouped = course.grouped;
     })
     c.renew_all-2.ensures

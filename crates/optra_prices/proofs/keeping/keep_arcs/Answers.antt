@@ -83,7 +83,8 @@ returns g c =
     let bids : c.len.result ≡ length tables = omega (arith, c.len.ensures, c.allow_told.new.tables.ok.0) in
     let counted_count : length (paths_in counted.items) ≡ length tables = ap length none ∙ length-replicate c.len.result [] ∙ bids in
     let counted_empty = subst AreEmpty (sym none) (empty_all _) in
-    let free : AreGroupPrices [] columns.groups.starts.items columns.groups.touches.items columns.grouped.items = subst (λ gs. AreGroupPrices [] gs.starts.items gs.touches.items columns.grouped.items) (sym groups) made.zero in (
+    let known : AreGroupPrices [] columns.groups.starts.items columns.groups.touches columns.running.items = subst (λ gs. AreGroupPrices [] gs.starts.items gs.touches columns.running.items) (sym groups) made.running in
+    let free : AreGroupPrices [] columns.groups.starts.items columns.groups.touches columns.grouped.items = subst (λ gs. AreGroupPrices [] gs.starts.items gs.touches columns.grouped.items) (sym groups) made.zero in (
       c.root-node.result,
       record {
         is = record {
@@ -95,12 +96,13 @@ returns g c =
           counted = none_counted columns.groups tables (paths_in counted.items) levels.loads.uses counted_count counted_empty wide.unused;
           columns = own_columns making.groups columns made.columns;
           tables = subst (λ gs. AreTables s (length s.bids) numbered gs tables) (sym groups) tables_at;
-          stand = stand_free tables columns.grouped.items copies (free_groups columns.groups.starts.items columns.groups.touches.items columns.grouped.items made.columns.count free) (copies_stand tables [] zero copies same stand);
+          stand = stand_free tables columns.grouped.items copies (free_groups columns.groups.starts.items columns.groups.touches columns.grouped.items made.columns.count free) (copies_stand tables [] zero copies same stand);
           zero = stand;
           holders = subst (λ (ts : List BidTable). AreHolders ts c.in_ok-holders.holders) c.deref.ensures.value c.in_ok-holders.ensures;
           decided = subst (λ (ds : List Decision). IsDecided net rows c.args.inst.bids.now numbered ds c.allow_told.new.decided) node_is c.in_ok-allow_told.ensures.decided;
         };
         still = made.still;
+        running = λ h l. known h l ∙ sym (free_listed levels.prices.items c.no_levels-levels.result.prices.items c.no_levels-levels.ensures.none.0 wide.prices columns.groups h);
         grouped = λ h l. free h l ∙ sym (free_listed levels.prices.items c.no_levels-levels.result.prices.items c.no_levels-levels.ensures.none.0 wide.prices columns.groups h);
       },
     )

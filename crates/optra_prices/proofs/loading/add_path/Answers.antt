@@ -1,6 +1,6 @@
 use Rattle.std.proofs.Common.{List, ◌∙◌, subst}
 use Rattle.optra_prices.specs.Uses.{AddsUses, touch_uses}
-use Rattle.optra_prices.specs.declared.numbering.Touch.{Touch}
+use Rattle.optra_prices.specs.declared.touch.Touch.{Touch}
 use Rattle.optra_prices.proofs.UseLemmas.{adds_on, path_more}
 use Rattle.optra_prices.proofs.loading.add_path.Goals as goal
 

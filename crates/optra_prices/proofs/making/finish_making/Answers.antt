@@ -2,7 +2,7 @@ use Rattle.std.proofs.Common.{◌≡◌, true, List, subst}
 use Rattle.std.specs.Prelude.{Contains}
 use Rattle.std.proofs.lemmas.List.Elements.{All-weaker}
 use Rattle.optra_prices.specs.Rankings.{Renumbers}
-use Rattle.optra_prices.specs.declared.numbering.Touch.{Touch}
+use Rattle.optra_prices.specs.declared.touch.Touch.{Touch}
 use Rattle.optra_prices.proofs.ListLemmas.{all_at}
 use Rattle.optra_prices.proofs.PlaceLemmas.{contains_at}
 use Rattle.optra_prices.proofs.making.finish_making.Goals as goal
@@ -17,5 +17,5 @@ returns g c =
       numbering = is.numbering;
       rows_are = All-weaker (Contains named) (λ row. rows.is_row row ≡ true) (λ row has. let p = contains_at named row has in all_at (λ r. rows.is_row r ≡ true) named p.0 row c.requires.rows_are p.1) numbering.rows.items is.rows;
       starts_are = c.shrink_to_fit.ensures.items;
-      renumbers = subst (λ (old : List Touch). Renumbers named numbering.rows.items old c.number_rows.new.touches.items) c.shrink_to_fit-2.ensures.items is.renumbers;
+      renumbers = subst (λ (old : List Touch). Renumbers named numbering.rows.items old c.number_rows.new.touches) c.shrink_to_fit-2.ensures is.renumbers;
     }

@@ -1,6 +1,7 @@
 use Rattle.std.proofs.Common.{ℕ, List, length, refl, sym, ap, ◌∙◌, subst}
 use Rattle.std.specs.Prelude.{All}
 use Rattle.std.proofs.lemmas.Result.{IfOk-weaker}
+use Rattle.optra_prices.specs.Columns.{AreRunning}
 use Rattle.optra_prices.specs.Courses.{replies_at}
 use Rattle.optra_prices.specs.Overfull.{AreOverfilled, ListsAbove}
 use Rattle.optra_prices.specs.Tables.{AreGroupPrices}
@@ -43,7 +44,8 @@ returns-clause-kept g c =
     ok_anyway c.rows_above.result (record {
       is = counted_on g.F.Row.Ord.cmp s kept kept.columns is.columns used counted is counts.levels counted_is (ap (λ v. length v.items) counts.prices.prices) counts.prices.capacities refl;
       still = c.requires.still;
-      grouped = subst (λ prices. AreGroupPrices prices.items kept.columns.groups.starts.items kept.columns.groups.touches.items kept.columns.grouped.items) (sym counts.prices.prices) c.requires.grouped;
+      running = subst (λ prices. AreRunning prices.items kept.columns) (sym counts.prices.prices) c.requires.running;
+      grouped = subst (λ prices. AreGroupPrices prices.items kept.columns.groups.starts.items kept.columns.groups.touches kept.columns.grouped.items) (sym counts.prices.prices) c.requires.grouped;
     })
 
 pub returns-clause-rows : goal.returns-clause-rows

@@ -51,6 +51,6 @@ returns g c =
     let same : table ≡ there.0 = same_Some table there.0 (sym at ∙ there.1) in
     let graph : table.graph.now ≡ t = ap (λ (x : BidTable). x.graph.now) same ∙ there.2 in
     subst (λ (x : Timed). AreParts net rows bids c.args.node.now total number bid x (length x.dag.arcs) parts) graph
-    (parts_are g.F.Row.Ord.cmp net proper rows used lists bids c.args.node.now number bid table.graph.now numbered table.arcs groups.starts.items groups.touches.items table.forced
+    (parts_are g.F.Row.Ord.cmp net proper rows used lists bids c.args.node.now number bid table.graph.now numbered table.arcs groups.starts.items groups.touches table.forced
     (c.requires.kept.is.tables.each number bid table here at).arcs_are total c.args.room.now is_room parts told))
     c.tell_table.ensures

@@ -14,7 +14,7 @@ pub loop-k-preserved : goal.loop-k-preserved
 loop-k-preserved c =
     let room = c.args.room.now in
     let starts = c.args.groups.now.starts.items in
-    let touches = c.args.groups.now.touches.items in
+    let touches = c.args.groups.now.touches in
     let arcs = c.args.table.now.arcs in
     let k = c.loop-k.k in
     let arc = get_or arcs k no_arc in

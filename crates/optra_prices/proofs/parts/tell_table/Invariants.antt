@@ -5,6 +5,6 @@ use Rattle.optra_prices.proofs.parts.tell_table.Given as goal
 
 abbrev pub invariant-loop-k : goal.invariant-loop-k
 invariant-loop-k l = record {
-  told : ArePartsOf l.room l.groups.starts.items l.groups.touches.items l.table.arcs l.k l.parts.items;
+  told : ArePartsOf l.room l.groups.starts.items l.groups.touches l.table.arcs l.k l.parts.items;
   last : IsTold l.room l.groups l.last;
 }

@@ -4,7 +4,7 @@ use Rattle.std.proofs.lemmas.Bool.{cases_lt}
 use Rattle.std.proofs.lemmas.List.{get_or_default}
 use Rattle.optra_prices.specs.Rooms.{IsNumberWithin}
 use Rattle.optra_prices.specs.Uses.{arc_touches}
-use Rattle.optra_prices.specs.declared.numbering.Touch.{Touch}
+use Rattle.optra_prices.specs.declared.touch.Touch.{Touch}
 use Rattle.optra_prices.proofs.putting.are_arcs_within.Goals as goal
 
 pub loop-k-preserved : goal.loop-k-preserved

@@ -4,7 +4,7 @@ use Rattle.std.proofs.lemmas.Bool.{cases_lt}
 use Rattle.std.proofs.lemmas.List.{get_or_default}
 use Rattle.optra_prices.specs.Rooms.{HasRoomFor}
 use Rattle.optra_prices.specs.Uses.{arc_touches}
-use Rattle.optra_prices.specs.declared.numbering.Touch.{Touch}
+use Rattle.optra_prices.specs.declared.touch.Touch.{Touch}
 use Rattle.optra_prices.proofs.putting.has_room_for_each.Goals as goal
 
 pub loop-k-preserved : goal.loop-k-preserved

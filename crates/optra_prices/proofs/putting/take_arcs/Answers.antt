@@ -1,6 +1,6 @@
 use Rattle.std.proofs.Common.{List, ◌∙◌, subst}
 use Rattle.optra_prices.specs.Uses.{TakesUses, touch_uses}
-use Rattle.optra_prices.specs.declared.numbering.Touch.{Touch}
+use Rattle.optra_prices.specs.declared.touch.Touch.{Touch}
 use Rattle.optra_prices.proofs.UseLemmas.{takes_on, path_more}
 use Rattle.optra_prices.proofs.putting.take_arcs.Goals as goal
 

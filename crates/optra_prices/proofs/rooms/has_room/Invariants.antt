@@ -1,7 +1,7 @@
 use Rattle.std.proofs.Common.{ℕ, ◌<◌, get_or}
 use Rattle.optra_prices.specs.Rooms.{HasRoomFor}
-use Rattle.optra_prices.specs.declared.numbering.Touch.{Touch}
+use Rattle.optra_prices.specs.declared.touch.Touch.{Touch}
 use Rattle.optra_prices.proofs.rooms.has_room.Given as goal
 
-abbrev pub invariant-loop-touch : goal.invariant-loop-touch
-invariant-loop-touch l = (k : ℕ) (d : Touch) → k < l.touch-index → HasRoomFor l.room (get_or l.touches k d)
+abbrev pub invariant-loop-k : goal.invariant-loop-k
+invariant-loop-k l = (i : ℕ) (d : Touch) → i < l.k → HasRoomFor l.room (get_or l.touches i d)

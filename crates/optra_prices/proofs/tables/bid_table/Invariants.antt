@@ -9,6 +9,6 @@ invariant-loop-k g l = record {
   making : IsMaking l.net (g.F.RowFamily.rows_of l.rows l.net) (g.F.RowFamily.rows_used l.rows l.net) l.making;
   grows : Grows l.initial.making l.making;
   count : length l.arcs ≡ l.k;
-  terms : AreTerms l.net (g.F.RowFamily.rows_of l.rows l.net) (g.F.RowFamily.rows_used l.rows l.net) l.bid l.graph l.making.named.items l.making.groups.starts.items l.making.groups.touches.items l.arcs;
+  terms : AreTerms l.net (g.F.RowFamily.rows_of l.rows l.net) (g.F.RowFamily.rows_used l.rows l.net) l.bid l.graph l.making.named.items l.making.groups.starts.items l.making.groups.touches l.arcs;
   covers : Covers l.most l.arcs;
 }

@@ -16,7 +16,7 @@ returns-in_default-clause-term g c =
     let f = c.args.rows.now in
     let is = c.start_term.ensures in
     let minute = c.unwrap_or-minute.ensures ∙ ap (λ (o : Option ℕ). unwrap_or o 0) c.start.ensures in
-    start_is_term net (g.F.RowFamily.rows_of f net) (g.F.RowFamily.rows_used f net) c.args.bid.now c.args.graph.now c.args.making.now.named.items c.args.making.now.groups.starts.items c.args.making.now.groups.touches.items c.args.k
+    start_is_term net (g.F.RowFamily.rows_of f net) (g.F.RowFamily.rows_used f net) c.args.bid.now c.args.graph.now c.args.making.now.named.items c.args.making.now.groups.starts.items c.args.making.now.groups.touches c.args.k
     c.unwrap_or-minute.result c.start_term.result c.requires.making.groups_are (sym c.leg.ensures ∙ c.in_default.is) minute is.value is.range is.group
 
 pub returns-clause-term : goal.returns-clause-term
@@ -27,5 +27,5 @@ returns-clause-term g c =
     let making = c.leg_group.new.making in
     let found = subst (λ (kind : TypeId). IsGroupOf (g.F.RowFamily.rows_of f net) (g.F.RowFamily.rows_used f net) kind leg making.named.items making.groups c.in_ok-group.group) c.kind_of.ensures c.in_ok-group.ensures.found in
     let is = c.leg_term.ensures in
-    leg_is_term net (g.F.RowFamily.rows_of f net) (g.F.RowFamily.rows_used f net) c.args.bid.now c.args.graph.now making.named.items making.groups.starts.items making.groups.touches.items c.args.k leg
+    leg_is_term net (g.F.RowFamily.rows_of f net) (g.F.RowFamily.rows_used f net) c.args.bid.now c.args.graph.now making.named.items making.groups.starts.items making.groups.touches c.args.k leg
     c.leg_term.result c.in_ok-group.group (sym c.leg.ensures ∙ c.in-Some.is) is.value is.range is.group found.within found.touches

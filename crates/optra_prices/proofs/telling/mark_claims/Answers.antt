@@ -6,7 +6,7 @@ use Rattle.optra_prices.specs.Tellings.{MarksUsed}
 use Rattle.optra_prices.specs.Uses.{touch_uses}
 use Rattle.optra_prices.specs.declared.claims.Claim.{Claim}
 use Rattle.optra_prices.specs.declared.numbering.Groups.{Groups}
-use Rattle.optra_prices.specs.declared.numbering.Touch.{Touch}
+use Rattle.optra_prices.specs.declared.touch.Touch.{Touch}
 use Rattle.optra_prices.proofs.TellingLemmas.{used_none, used_on}
 use Rattle.optra_prices.proofs.telling.mark_claims.Goals as goal
 
@@ -24,7 +24,7 @@ loop-claim-preserved c =
     let marked = c.in_ok-mark_touches.ensures in
     let claim = c.claim-item.result in
     let used = λ (n : ℕ) (x : Claim). touch_uses x.touches.items n in
-    let more = subst (λ (touches : List Touch). MarksUsed (touch_uses touches) mid new) c.deref.ensures.value marked.marks in
+    let more = subst (λ (touches : List Touch). MarksUsed (touch_uses touches) mid new) c.claimed.ensures marked.marks in
     let sum = λ (n : ℕ). sum_by_more (used n) claims k claim c.loop-claim-test.true ∙ sym (ap (λ (x : Claim). claim_uses (take k claims) n + used n x) c.claim-item.is) in
     record {
       columns = subst (λ (groups : Groups). IsColumns groups new) inv.columns.groups_are marked.columns;

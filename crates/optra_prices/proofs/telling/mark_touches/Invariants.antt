@@ -4,8 +4,8 @@ use Rattle.optra_prices.specs.Tellings.{MarksUsed}
 use Rattle.optra_prices.specs.Uses.{touch_uses}
 use Rattle.optra_prices.proofs.telling.mark_touches.Given as goal
 
-abbrev pub invariant-loop-touch : goal.invariant-loop-touch
-invariant-loop-touch l = record {
+abbrev pub invariant-loop-k : goal.invariant-loop-k
+invariant-loop-k l = record {
   columns : IsColumns l.fn.columns.groups l.columns;
-  marks : MarksUsed (touch_uses (take l.touch-index l.touches)) l.fn.columns l.columns;
+  marks : MarksUsed (touch_uses (take l.k l.touches)) l.fn.columns l.columns;
 }

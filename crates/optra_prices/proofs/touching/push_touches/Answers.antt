@@ -26,7 +26,7 @@ loop-k-preserved g c =
           (lists.are_rows c.in-Some.row ((lists.used c.in-Some.row).1 (at_contains (g.F.RowFamily.rows_used f net c.args.kind c.args.leg) c.loop-k.k c.in-Some.row at)));
       extends = extends_more _ old new c.loop-k.invariant.extends grown;
       touches = adds_touch old new (rows.uses c.args.kind c.args.leg) (g.F.RowFamily.rows_used f net c.args.kind c.args.leg) c.loop-k.k c.in_ok-place.place c.leg_use-uses.result c.in-Some.row _ _ _
-          c.loop-k.invariant.touches grown at number.place c.leg_use-uses.ensures c.in_ok-push.ensures.items;
+          c.loop-k.invariant.touches grown at number.place c.leg_use-uses.ensures c.in_ok-push.ensures;
     }
 
 pub returns-in_default : goal.returns-in_default

@@ -1,0 +1,46 @@
+//! Touches, lent to be read.
+ghost use Rattle.std.specs.Prelude.{◌≡◌, ◌<◌, length, slice_index_or};
+ghost use Rattle.optra_prices.specs.NarrowTouches.{no_touch};
+
+use crate::touch::Touch;
+use std::marker::Model;
+
+/// Touches: first the narrow ones, which use their row once, and then the others.
+#[derive(Drop)]
+pub(crate) struct TouchSlice<'a> {
+    pub(crate) narrow: &'a [u32],
+    pub(crate) wide: &'a [Touch],
+}
+
+impl<'a> Model for TouchSlice<'a> {
+    ghost use Rattle.std.specs.Prelude.{List};
+    ghost use Rattle.optra_prices.specs.NarrowTouches.{touches_of};
+    ghost use Rattle.optra_prices.specs.declared.touch.Touch.{Touch};
+
+    ghost Value = { List Touch };
+
+    ghost view = { λ a. touches_of a.narrow.now a.wide.now };
+}
+
+impl TouchSlice<'_> {
+    /// How many there are.
+    pub(crate) fn len(&self) -> usize
+        ensures { result ≡ length self.now }
+    {
+        self.narrow.len() + self.wide.len()
+    }
+
+    /// The touch at a place.
+    pub(crate) fn at(&self, k: usize) -> Touch
+        requires { k < length self.now }
+        ensures { result ≡ slice_index_or self.now k no_touch }
+    {
+        match self.narrow.get(k) {
+            Some(row) => Touch {
+                row: *row as usize,
+                uses: 1,
+            },
+            None => self.wide[k - self.narrow.len()],
+        }
+    }
+}
