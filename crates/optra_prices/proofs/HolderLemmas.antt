@@ -7,7 +7,7 @@ use Rattle.std.proofs.lemmas.List.Elements.{All-weaker}
 use Rattle.std.proofs.lemmas.Option.{same_Some, slice_get_within}
 use Rattle.optra_prices.specs.Indexes.{AreSpans, IsIndex, IndexHas, Inverts, items_at}
 use Rattle.optra_prices.specs.Columns.{mark_at}
-use Rattle.optra_prices.specs.Holders.{groups_of, AreHolders, StandsFrom, GoesOn, IsListing, HoldsGroup, HoldsArcs, is_told, KeepsTold, TellsHolders, TellsGroup, TellsFallen}
+use Rattle.optra_prices.specs.Holders.{groups_of, AreHolders, AreToldTo, StandsFrom, GoesOn, IsListing, HoldsGroup, HoldsArcs, is_told, KeepsTold, TellsHolders, TellsGroup, TellsFallen}
 use Rattle.optra_prices.specs.Keepings.{AreBrought}
 use Rattle.optra_prices.specs.Tables.{no_arc}
 use Rattle.optra_prices.specs.declared.holders.Held.{Held}
@@ -284,6 +284,29 @@ tells_more n marks due holders old mid new below tells = record {
     | inr apart ↦ tells.keeps.kept number (below.here j (omega arith) fell number m has)
   ];
 }
+
+-- one more of the first bids is told
+pub told_next : (told : List Bool) (first : ℕ) → is_told told first ≡ true → AreToldTo first told → AreToldTo (first + 1) told
+told_next told first here before number l = elim (cases_eq number first) as (λ _. is_told told number ≡ true) [
+  | inl e ↦ ap (is_told told) e ∙ here
+  | inr apart ↦ before number (omega arith)
+]
+
+-- those that are told stay so
+pub told_still : (count : ℕ) (old new : List Bool) → KeepsTold old new → AreToldTo count old → AreToldTo count new
+told_still count old new keeps told number l = keeps.kept number (told number l)
+
+-- where each bid is told, nothing is left to say
+pub all_told : (marks : List Mark) (tables : List BidTable) (count : ℕ) (now : List Bool) → length now ≡ length tables → length tables ≤ count → AreToldTo count now → TellsFallen marks tables now
+all_told marks tables count now long past told = record {
+  count = long;
+  each = λ number table at untold k d l fell.
+      let w = slice_get_within tables number table at in
+      not_both (sym untold ∙ told number (omega arith));
+}
+  where
+    not_both : false ≡ true → ⊥
+    not_both e = cc
 
 -- of a bid that isn't told no group fell, where all that are marked are listed
 pub tells_all : (n : ℕ) (marks : List Mark) (due : List ℕ) (tables : List BidTable) (holders : Index) (old now : List Bool) → length due ≤ n → length old ≡ length tables → ((g : ℕ) → (mark_at marks g ≡ Still → ⊥) → Contains due g)

@@ -38,6 +38,7 @@ pub mod PathLemmas
 pub mod UseLemmas
 pub mod CountLemmas
 pub mod PairLemmas
+pub mod NarrowLoadLemmas
 pub mod KeyLemmas
 pub mod CourseLemmas
 pub mod StepCourseLemmas
@@ -59,4 +60,5 @@ pub mod DecidedLemmas
 pub mod StayLemmas
 pub mod PlacedLemmas
 pub mod ShareLemmas
+pub mod AmountLemmas
 pub mod RunningLemmas

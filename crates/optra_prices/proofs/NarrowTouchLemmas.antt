@@ -1,6 +1,8 @@
 -- Narrow touches, and after them the others, as the touches that they stand for.
-use Rattle.std.proofs.Common.{◌≡◌, ℕ, zero, suc, ◌+◌, ◌-◌, ◌≤◌, ◌<◌, List, [], ◌∷◌, ◌++◌, map, length, take, drop, refl, sym, ap, ◌∙◌, arith, inl, inr}
+use Rattle.std.proofs.Common.{◌≡◌, ℕ, zero, suc, ◌+◌, ◌-◌, ◌≤◌, ◌<◌, List, [], ◌∷◌, ◌++◌, map, length, take, drop, refl, sym, ap, ◌∙◌, subst, arith, inl, inr}
+use Rattle.std.specs.Prelude.{All}
 use Rattle.std.specs.List.{slice_range}
+use Rattle.std.proofs.lemmas.List.Elements.{All-nil, All-cons}
 use Rattle.std.proofs.Common.{min}
 use Rattle.std.proofs.Math.Nat.{min-eq_left, min-eq_right}
 use Rattle.std.proofs.lemmas.Bool.{cases_lt}
@@ -79,3 +81,8 @@ range_lent narrow v wide w n a b from to start end long lent others f t s e l =
     ∙ ap (λ (xs : List ℕ). touches_of (slice_range xs (min a (length narrow)) (min b (length narrow))) (slice_range w (a - length narrow) (b - length narrow))) lent
     ∙ ap (λ (ts : List Touch). touches_of (slice_range narrow (min a (length narrow)) (min b (length narrow))) (slice_range ts (a - length narrow) (b - length narrow))) others
     ∙ range_of_touches narrow wide a b l
+
+-- where no others are, each uses its row once
+pub narrow_once : (narrow : List ℕ) (wide : List Touch) → wide ≡ [] → All (λ touch. touch.uses ≡ 1) (touches_of narrow wide)
+narrow_once [] wide none = subst (All (λ (t : Touch). t.uses ≡ 1)) (sym none) (All-nil (λ (t : Touch). t.uses ≡ 1))
+narrow_once (row ∷ narrow) wide none = All-cons (λ (t : Touch). t.uses ≡ 1) (touch_of row) (touches_of narrow wide) refl (narrow_once narrow wide none)

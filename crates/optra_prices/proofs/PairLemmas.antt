@@ -2,7 +2,7 @@
 use Rattle.std.proofs.Common.{◌≡◌, ℕ, zero, suc, ◌<◌, ◌≤◌, List, [], ◌∷◌, ◌++◌, length, set, get_or, replicate, refl, sym, ap, ◌∙◌, arith}
 use Rattle.std.proofs.lemmas.List.{length-set}
 use Rattle.optra_prices.specs.Loads.{capacities_in, lows_in, no_load}
-use Rattle.optra_prices.specs.declared.loads.Load.{Load}
+use Rattle.optra_prices.specs.declared.wide_loads.Load.{Load}
 
 pub lows_count : (rows : List Load) → length (lows_in rows) ≡ length rows
 lows_count [] = refl

@@ -57,6 +57,10 @@ HaveNotFallen marks arcs = All (HasNotFallen marks) (groups_of arcs)
 abbrev pub is_told : List Bool → ℕ → Bool
 is_told fallen number = slice_index_or fallen number false
 
+-- each of the first bids is told
+abbrev pub AreToldTo : ℕ → List Bool → Type 0
+AreToldTo count fallen = (number : ℕ) → number < count → is_told fallen number ≡ true
+
 -- the bids that were told are told still
 pub record KeepsTold (old new : List Bool) : Type 0 where
   pub count : length new ≡ length old

@@ -1,6 +1,7 @@
 -- How much is used of rows, beside their capacities.
 use Rattle.std.specs.Prelude.{◌≡◌, ℕ, List, length, map, replicate, slice_set}
-use Rattle.optra_prices.specs.declared.loads.Load.{Load}
+use Rattle.optra_prices.specs.declared.narrow_loads.NarrowLoad.{NarrowLoad}
+use Rattle.optra_prices.specs.declared.wide_loads.Load.{Load}
 
 -- how much is used of each row, and how much there is of it
 pub record RowLoads : Type 0 where
@@ -18,6 +19,18 @@ lows_in rows = map (λ row. row.low) rows
 -- the capacities
 abbrev pub capacities_in : List Load → List ℕ
 capacities_in rows = map (λ row. row.capacity) rows
+
+-- past the last row, of those below 2^16
+abbrev pub no_narrow_load : NarrowLoad
+no_narrow_load = record { used = 0; capacity = 0 }
+
+-- what is used of rows, where all is below 2^16
+abbrev pub used_in : List NarrowLoad → List ℕ
+used_in rows = map (λ row. row.used) rows
+
+-- their capacities
+abbrev pub narrow_capacities_in : List NarrowLoad → List ℕ
+narrow_capacities_in rows = map (λ row. row.capacity) rows
 
 -- as many rows of the same capacities, of which nothing is used
 pub record IsUnused (old new : RowLoads) : Type 0 where

@@ -9,9 +9,9 @@ ghost use Rattle.optra_prices.specs.Indexes.{IsIndex, items_at};
 ghost use Rattle.optra_prices.specs.declared.columns.Mark.TheVariants.{Still, Due};
 ghost use Rattle.optra_prices.specs.Tables.{AreGroups, AreGroupPrices, IsRowPrice};
 
+use crate::amounts::Amounts;
 use crate::index::{Index, end_of, start_of};
 use crate::numbering::Groups;
-use crate::numbers::Numbers;
 use crate::shares::find_amounts;
 use crate::users::find_users;
 use optra_network::NoMemory;
@@ -36,7 +36,7 @@ pub(crate) struct Columns {
     pub(crate) groups: Groups,
     pub(crate) users: Index,
     /// How much each touch uses, in the order of `users`.
-    pub(crate) amounts: Numbers,
+    pub(crate) amounts: Amounts,
     /// The prices at which the bids were searched.
     pub(crate) grouped: Vec<i64>,
     /// The prices that the groups have now.

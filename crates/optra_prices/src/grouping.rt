@@ -3,6 +3,7 @@ ghost use Rattle.std.specs.Prelude.{◌≡◌, ◌||◌, ◌+◌, ◌<◌, IfOk,
 ghost use Rattle.optra_prices.specs.Tables.{group_at, AreGroups};
 
 use crate::numbering::Groups;
+use crate::numbers::Numbers;
 use crate::touch_slice::TouchSlice;
 use crate::touches::Touches;
 use optra_network::NoMemory;
@@ -12,8 +13,11 @@ use std::alloc::Global;
 pub(crate) fn empty_groups(alloc: Global) -> Result<Groups, NoMemory>
     ensures { IfOk result (λ groups. AreGroups groups.starts.items groups.touches) }
 {
+    let mut starts = Numbers::new(alloc);
+    starts.push(0)?;
+    starts.push(0)?;
     Ok(Groups {
-        starts: vec![in alloc; 0, 0]?,
+        starts,
         touches: Touches::new(alloc),
     })
 }
@@ -24,8 +28,8 @@ pub(crate) fn group(groups: &Groups, g: usize) -> TouchSlice<'_>
     requires within { g + 1 < length groups.now.starts.items }
     ensures { result ≡ group_at groups.now.starts.items groups.now.touches g }
 {
-    let start = groups.starts[g];
-    let end = groups.starts[g + 1];
+    let start = groups.starts.at(g);
+    let end = groups.starts.past(g);
     groups.touches.range(start, end)
 }
 

@@ -1,20 +1,21 @@
 //! Which bids have a group on an arc, so that a price that falls tells at once which bids have to be searched again.
 ghost use Rattle.std.specs.Prelude.{◌≡◌, ◌<◌, ◌≤◌, ℕ, true, false, IfOk, OnOk, length, replicate, slice_index, slice_set};
 ghost use Rattle.optra_prices.specs.Columns.{IsColumns, mark_at};
-ghost use Rattle.optra_prices.specs.Holders.{AreHolders, HoldsGroup, HoldsArcs, TellsHolders, TellsGroup, TellsFallen};
-ghost use Rattle.optra_prices.specs.Indexes.{IsIndex, closed};
+ghost use Rattle.optra_prices.specs.Holders.{AreHolders, AreToldTo, HoldsGroup, HoldsArcs, TellsHolders, TellsGroup, TellsFallen};
+ghost use Rattle.optra_prices.specs.Indexes.{IsIndex};
 
 use crate::arc_slice::ArcSlice;
 use crate::columns::{Columns, Mark, mark_at};
-use crate::index::{Index, OpenIndex, close, end_of, inverted, start_of};
+use crate::index::{Index, end_of, inverted, start_of};
 use crate::numbering::BidTable;
+use crate::numbers::Numbers;
 use optra_network::NoMemory;
 use std::alloc::Global;
 
 /// The groups of bids, one bid after the other, and for each group the number of the last bid that has it, from 1.
 #[derive(Drop)]
 pub(crate) struct Held {
-    pub(crate) groups: Vec<usize>,
+    pub(crate) groups: Numbers,
     pub(crate) last: Vec<u32>,
 }
 
@@ -53,31 +54,22 @@ fn hold_arcs(held: &mut Held, bid: u32, arcs: &ArcSlice<'_>) -> Result<(), NoMem
     Ok(())
 }
 
-/// The bids that have each group on an arc, in an index that is yet open.
-fn list_holders(alloc: Global, tables: &[BidTable<'_>]) -> Result<OpenIndex, NoMemory>
+/// The bids that have each group on an arc.
+pub(crate) fn find_holders(alloc: Global, tables: &[BidTable<'_>]) -> Result<Index, NoMemory>
     requires few { length tables.now ≤ 1000 }
-    ensures { IfOk result (λ holders. AreHolders tables.now (closed holders)) }
+    ensures { IfOk result (AreHolders tables.now) }
 {
     let mut held = Held {
-        groups: Vec::new(alloc),
+        groups: Numbers::new(alloc),
         last: Vec::new(alloc),
     };
-    let mut starts = Vec::with_capacity(alloc, tables.len() + 1)?;
+    let mut starts = Numbers::new(alloc);
     starts.push(0)?;
     for number in 0..tables.len() {
         hold_arcs(&mut held, number as u32 + 1, &tables[number].arcs.slice())?;
         starts.push(held.groups.len())?;
     }
     inverted(alloc, &starts, &held.groups)
-}
-
-/// The bids that have each group on an arc.
-pub(crate) fn find_holders(alloc: Global, tables: &[BidTable<'_>]) -> Result<Index, NoMemory>
-    requires few { length tables.now ≤ 1000 }
-    ensures { IfOk result (AreHolders tables.now) }
-{
-    let holders = list_holders(alloc, tables)?;
-    close(alloc, holders)
 }
 
 /// Tells a bid.
@@ -118,7 +110,19 @@ pub(crate) fn tell_none(fallen: &mut Vec<bool>, count: usize) -> Result<(), NoMe
     Ok(())
 }
 
-/// Tells the bids that have a group whose price fell. The groups that are marked lead to them.
+/// Past the first bids that are told, where those before this one are.
+fn told_up_to(fallen: &[bool], from: usize) -> usize
+    requires { AreToldTo from fallen.now }
+    ensures { AreToldTo result fallen.now }
+{
+    let mut first = from;
+    while first < fallen.len() && fallen[first] {
+        first += 1;
+    }
+    first
+}
+
+/// Tells the bids that have a group whose price fell. The groups that are marked lead to them, until all bids are told.
 pub(crate) fn tell_fallen(
     columns: &Columns,
     tables: &[BidTable<'_>],
@@ -130,7 +134,12 @@ pub(crate) fn tell_fallen(
     ensures { OnOk result (TellsFallen columns.now.marks.items tables.now fallen.new.items) }
 {
     tell_none(fallen, tables.len())?;
+    let mut first = 0;
     for g in &columns.due {
+        first = told_up_to(fallen, first);
+        if first >= tables.len() {
+            return Ok(());
+        }
         tell_group(&columns.marks, holders, *g, fallen);
     }
     Ok(())

@@ -9,6 +9,7 @@ use optra_walk::Walk;
 use std::marker::Model;
 
 mod allowing;
+mod amounts;
 mod arc_slice;
 mod arc_tables;
 mod arc_term;
@@ -35,6 +36,7 @@ mod loads;
 mod making;
 mod marking;
 mod narrow_arc;
+mod narrow_loads;
 mod next_prices;
 mod numbering;
 mod numbers;
@@ -62,6 +64,7 @@ mod users;
 mod using;
 mod valuing;
 mod weighing;
+mod wide_loads;
 pub mod zero;
 
 pub use arc_tables::ArcTables;

@@ -1,97 +1,63 @@
 //! How much is used of rows by number, beside how much there is of them; exact, without a limit but memory.
-ghost use Rattle.std.specs.Prelude.{◌≡◌, ◌↔◌, ◌+◌, ◌-◌, ◌^◌, ◌≤◌, ◌<◌, ◌++◌, ◌∷◌, [], ℕ, true, false, cond, nat_eq, min, IsTrue, IfOk, OnOk, length, replicate, slice_index, slice_index_or, slice_set};
-ghost use Rattle.optra_prices.specs.Counts.{times};
-ghost use Rattle.optra_prices.specs.Loads.{IsUnused, SetsUses, capacities_in, lows_in, no_load};
+ghost use Rattle.std.specs.Prelude.{◌≡◌, ◌↔◌, ◌+◌, ◌-◌, ◌^◌, ◌≤◌, ◌++◌, ◌∷◌, [], min, IsTrue, IfOk, IfSome, OnOk, length, slice_index};
+ghost use Rattle.optra_prices.specs.Loads.{IsUnused, SetsUses};
 
+use crate::narrow_loads::NarrowLoads;
+use crate::wide_loads::WideLoads;
 use optra_network::NoMemory;
 use std::alloc::Global;
 use std::marker::Model;
 
-/// So much is used of a row each time that it stands in the list of what is beyond the low parts.
-const BEYOND: u64 = 4_294_967_296;
-
-/// What is used of a row, less what is beyond 32 bits, and how much there is of it.
-#[derive(Clone, Copy)]
-pub(crate) struct Load {
-    pub(crate) low: u32,
-    pub(crate) capacity: u32,
-}
-
-/// Uses and capacities of rows, side by side. A row stands in `over` once for each 2^32 that its uses have beyond the low
-/// part, so that `over` is empty while uses are few.
+/// Uses and capacities of rows: in `narrow` while all are below 2^16, and in `wide` from the first one on that isn't.
 #[derive(Drop)]
 pub(crate) struct Loads {
-    rows: Vec<Load>,
-    over: Vec<usize>,
+    is_narrow: bool,
+    narrow: NarrowLoads,
+    wide: WideLoads,
 }
 
 impl Model for Loads {
-    ghost use Rattle.std.specs.Prelude.{◌≡◌, ◌≤◌, ℕ, length};
-    ghost use Rattle.optra_prices.specs.Counts.{numbers_of, times};
-    ghost use Rattle.optra_prices.specs.Loads.{RowLoads, capacities_in, lows_in};
+    ghost use Rattle.std.specs.Prelude.{cond};
+    ghost use Rattle.optra_prices.specs.Loads.{RowLoads};
 
     ghost Value = { RowLoads };
 
     ghost view = { λ a. record {
-      uses = numbers_of (times a.over.items) (lows_in a.rows.items);
-      capacities = capacities_in a.rows.items;
+      uses = cond a.is_narrow a.narrow.uses a.wide.uses;
+      capacities = cond a.is_narrow a.narrow.capacities a.wide.capacities;
     } };
-
-    ghost invariant = { λ a. (place : ℕ) → length a.rows.items ≤ place
-        → times a.over.items place ≡ 0 };
 }
 
-/// What is held of the row with this number, and nothing where there is none.
-fn load_at(rows: &[Load], number: usize) -> Load
-    ensures { result ≡ slice_index_or rows.now number no_load }
+/// The same rows in 32 bits and more.
+fn widen(narrow: &NarrowLoads, wide: &mut WideLoads) -> Result<(), NoMemory>
+    ensures uses { OnOk result (wide.new.uses ≡ narrow.now.uses) }
+    ensures capacities { OnOk result (wide.new.capacities ≡ narrow.now.capacities) }
 {
-    rows.get(number).copied().unwrap_or(Load {
-        low: 0,
-        capacity: 0,
-    })
-}
-
-/// Sets the low part of what is used of a row.
-fn set_low(rows: &mut Vec<Load>, number: usize, low: u32)
-    requires { number < length rows.old.items }
-    ensures lows { lows_in rows.new.items ≡ slice_set (lows_in rows.old.items) number low }
-    ensures capacities { capacities_in rows.new.items ≡ capacities_in rows.old.items }
-{
-    let capacity = rows[number].capacity;
-    rows[number] = Load { low, capacity };
-}
-
-/// Nothing is used of any row.
-fn clear_lows(rows: &mut Vec<Load>)
-    ensures lows { lows_in rows.new.items ≡ replicate (length rows.old.items) 0 }
-    ensures capacities { capacities_in rows.new.items ≡ capacities_in rows.old.items }
-{
-    for number in 0..rows.len() {
-        set_low(rows, number, 0);
+    wide.forget();
+    wide.reserve_exact(narrow.len())?;
+    for number in 0..narrow.len() {
+        wide.push(u32::from(narrow.capacity(number)))?;
+        wide.add(number, u32::from(narrow.used(number)))?;
     }
+    Ok(())
 }
 
-/// How often a number stands in a list.
-fn times(over: &[usize], number: usize) -> usize
-    ensures { result ≡ times over.now number }
+/// A sum, where it fits into 16 bits.
+fn narrow_sum(used: u16, more: u32) -> Option<u16>
+    ensures { IfSome result (λ sum. sum ≡ used + more) }
 {
-    over.iter().filter(|there| **there == number).count()
+    let sum = u32::from(used).checked_add(more)?;
+    u16::try_from(sum).ok()
 }
 
-/// Takes a number out of a list once, and tells whether it stood there.
-fn take_out(over: &mut Vec<usize>, number: usize) -> bool
-    ensures taken { result ≡ true → (n : ℕ) → times over.old.items n
-        ≡ times over.new.items n + cond (nat_eq number n) 1 0 }
-    ensures none { result ≡ false → times over.old.items number ≡ 0 }
-    ensures same { result ≡ false → over.new.items ≡ over.old.items }
+/// What is left of a number, down to 0.
+fn narrow_rest(used: u16, less: u32) -> u16
+    ensures { result ≡ used - less }
 {
-    for k in 0..over.len() {
-        if over[k] == number {
-            over.swap_remove(k);
-            return true;
-        }
+    match u16::try_from(less) {
+        Ok(less) => used.saturating_sub(less),
+        Err(_) => 0,
     }
-    false
 }
 
 impl Loads {
@@ -101,8 +67,9 @@ impl Loads {
         ensures capacities { result.capacities ≡ [] }
     {
         Loads {
-            rows: Vec::new(alloc),
-            over: Vec::new(alloc),
+            is_narrow: true,
+            narrow: NarrowLoads::new(alloc),
+            wide: WideLoads::new(alloc),
         }
     }
 
@@ -110,11 +77,19 @@ impl Loads {
     pub(crate) fn unused(&self, alloc: Global) -> Result<Loads, NoMemory>
         ensures { IfOk result (IsUnused self.now) }
     {
-        let mut rows = Vec::from_slice(alloc, &self.rows)?;
-        clear_lows(&mut rows);
+        if self.is_narrow {
+            let narrow = self.narrow.unused(alloc)?;
+            return Ok(Loads {
+                is_narrow: true,
+                narrow,
+                wide: WideLoads::new(alloc),
+            });
+        }
+        let wide = self.wide.unused(alloc)?;
         Ok(Loads {
-            rows,
-            over: Vec::new(alloc),
+            is_narrow: false,
+            narrow: NarrowLoads::new(alloc),
+            wide,
         })
     }
 
@@ -122,14 +97,22 @@ impl Loads {
     pub(crate) fn len(&self) -> usize
         ensures { result ≡ length self.now.uses }
     {
-        self.rows.len()
+        if self.is_narrow {
+            self.narrow.len()
+        } else {
+            self.wide.len()
+        }
     }
 
     /// Takes the memory for so many more rows, and no more.
     pub(crate) fn reserve_exact(&mut self, more: usize) -> Result<(), NoMemory>
         ensures { OnOk result (self.new ≡ self.old) }
     {
-        self.rows.reserve_exact(more)
+        if self.is_narrow {
+            self.narrow.reserve_exact(more)
+        } else {
+            self.wide.reserve_exact(more)
+        }
     }
 
     /// Adds a row, of which nothing is used.
@@ -138,7 +121,17 @@ impl Loads {
         ensures capacities { OnOk result (self.new.capacities ≡ self.old.capacities
             ++ capacity ∷ []) }
     {
-        self.rows.push(Load { low: 0, capacity })?;
+        if !self.is_narrow {
+            self.wide.push(capacity)?;
+            return Ok(());
+        }
+        if let Ok(capacity) = u16::try_from(capacity) {
+            self.narrow.push(capacity)?;
+            return Ok(());
+        }
+        widen(&self.narrow, &mut self.wide)?;
+        self.wide.push(capacity)?;
+        self.is_narrow = false;
         Ok(())
     }
 
@@ -146,8 +139,11 @@ impl Loads {
     pub(crate) fn clear(&mut self)
         ensures { IsUnused self.old self.new }
     {
-        clear_lows(&mut self.rows);
-        self.over.clear();
+        if self.is_narrow {
+            self.narrow.clear();
+        } else {
+            self.wide.clear();
+        }
     }
 
     /// Adds to what is used of a row. Where there is none, nothing changes.
@@ -155,16 +151,17 @@ impl Loads {
         ensures { OnOk result (SetsUses number (slice_index self.old.uses number + by) self.old
             self.new) }
     {
-        if number >= self.rows.len() {
+        if !self.is_narrow {
+            self.wide.add(number, by)?;
             return Ok(());
         }
-        let low = self.rows[number].low;
-        let Some(sum) = low.checked_add(by) else {
-            self.over.push(number)?;
-            set_low(&mut self.rows, number, low.wrapping_add(by));
+        if let Some(sum) = narrow_sum(self.narrow.used(number), by) {
+            self.narrow.set(number, sum);
             return Ok(());
-        };
-        set_low(&mut self.rows, number, sum);
+        }
+        widen(&self.narrow, &mut self.wide)?;
+        self.wide.add(number, by)?;
+        self.is_narrow = false;
         Ok(())
     }
 
@@ -172,38 +169,34 @@ impl Loads {
     pub(crate) fn take(&mut self, number: usize, by: u32)
         ensures { SetsUses number (slice_index self.old.uses number - by) self.old self.new }
     {
-        if number >= self.rows.len() {
-            return;
+        if self.is_narrow {
+            let rest = narrow_rest(self.narrow.used(number), by);
+            self.narrow.set(number, rest);
+        } else {
+            self.wide.take(number, by);
         }
-        let low = self.rows[number].low;
-        if by <= low {
-            set_low(&mut self.rows, number, low - by);
-            return;
-        }
-        if take_out(&mut self.over, number) {
-            set_low(&mut self.rows, number, low.wrapping_sub(by));
-            return;
-        }
-        set_low(&mut self.rows, number, 0);
     }
 
     /// How much is used of a row, or 2^64 - 1 where it is more, and 0 where there is none.
     pub(crate) fn used(&self, number: usize) -> u64
         ensures { result ≡ min (slice_index self.now.uses number) (2 ^ 64 - 1) }
     {
-        let low = u64::from(load_at(&self.rows, number).low);
-        if self.over.is_empty() {
-            return low;
+        if self.is_narrow {
+            u64::from(self.narrow.used(number))
+        } else {
+            self.wide.used(number)
         }
-        let more = times(&self.over, number) as u64;
-        more.saturating_mul(BEYOND).saturating_add(low)
     }
 
     /// How much there is of a row, and 0 where there is none.
     pub(crate) fn capacity(&self, number: usize) -> u32
         ensures { result ≡ slice_index self.now.capacities number }
     {
-        load_at(&self.rows, number).capacity
+        if self.is_narrow {
+            u32::from(self.narrow.capacity(number))
+        } else {
+            self.wide.capacity(number)
+        }
     }
 
     /// Whether no more is used of a row than there is.

@@ -186,7 +186,7 @@ fn guessed_group<F: RowFamily>(
 
 /// Where the touches of a group begin.
 fn start_of(groups: &Groups, group: usize) -> usize {
-    groups.starts.get(group).copied().unwrap_or(0)
+    groups.starts.at(group)
 }
 
 /// Where the second touch is guessed to stand of such a leg that departs a minute earlier. What that one touches from its

@@ -1,12 +1,13 @@
 //! What the arcs of bids' graphs add and touch.
 use crate::arcs::Arcs;
+use crate::numbers::Numbers;
 use crate::touches::Touches;
 use optra_graph::TimeGraph;
 
 /// Groups of touches: those of group `g` stand from `starts[g]` up to `starts[g + 1]`. All bids share them.
 #[derive(Drop)]
 pub(crate) struct Groups {
-    pub(crate) starts: Vec<usize>,
+    pub(crate) starts: Numbers,
     pub(crate) touches: Touches,
 }
 

@@ -1,11 +1,11 @@
 //! Lists of numbers, in 32 bits each while all of them fit.
-ghost use Rattle.std.specs.Prelude.{◌≡◌, ◌<◌, ◌^◌, ◌+◌, true, All, IfOk, slice_index};
+ghost use Rattle.std.specs.Prelude.{◌≡◌, ◌<◌, ◌^◌, ◌+◌, [], ◌∷◌, ◌++◌, IfOk, OnOk, length, replicate, slice_index, slice_set};
 
 use optra_network::NoMemory;
 use std::alloc::Global;
 use std::marker::Model;
 
-/// Numbers, which stand in `narrow` where each fits into 32 bits, and in `wide` otherwise.
+/// Numbers, which stand in `narrow` while each fits into 32 bits, and in `wide` from the first one on that doesn't.
 #[derive(Drop)]
 pub(crate) struct Numbers {
     is_narrow: bool,
@@ -22,28 +22,16 @@ impl Model for Numbers {
     ghost view = { λ a. record { items = cond a.is_narrow a.narrow.items a.wide.items } };
 }
 
-/// Whether each number fits into 32 bits.
-fn are_narrow(numbers: &[usize]) -> bool
-    ensures { result ≡ true → All (λ number. number < 2 ^ 32) numbers.now }
+/// The same numbers, in as many bits as any has.
+fn widen(narrow: &[u32], wide: &mut Vec<usize>) -> Result<(), NoMemory>
+    ensures { OnOk result (wide.new.items ≡ narrow.now) }
 {
-    for number in numbers {
-        if *number > u32::MAX as usize {
-            return false;
-        }
+    wide.clear();
+    wide.reserve(narrow.len())?;
+    for number in narrow {
+        wide.push(*number as usize)?;
     }
-    true
-}
-
-/// The same numbers in 32 bits each.
-fn narrowed(alloc: Global, numbers: &[usize]) -> Result<Vec<u32>, NoMemory>
-    requires { All (λ number. number < 2 ^ 32) numbers.now }
-    ensures { IfOk result (λ narrow. narrow.items ≡ numbers.now) }
-{
-    let mut narrow = Vec::with_capacity(alloc, numbers.len())?;
-    for number in numbers {
-        narrow.push(*number as u32)?;
-    }
-    Ok(narrow)
+    Ok(())
 }
 
 /// The number at a place in 32 bits, and 0 past the last one.
@@ -61,22 +49,95 @@ fn wide_at(wide: &[usize], place: usize) -> usize
 }
 
 impl Numbers {
-    /// The numbers.
-    pub(crate) fn of(alloc: Global, numbers: Vec<usize>) -> Result<Numbers, NoMemory>
-        ensures { IfOk result (λ list. list.items ≡ numbers.items) }
+    /// No numbers.
+    pub(crate) fn new(alloc: Global) -> Numbers
+        ensures { result.items ≡ [] }
     {
-        if are_narrow(&numbers) {
-            return Ok(Numbers {
-                is_narrow: true,
-                narrow: narrowed(alloc, &numbers)?,
-                wide: Vec::new(alloc),
-            });
-        }
-        Ok(Numbers {
-            is_narrow: false,
+        Numbers {
+            is_narrow: true,
             narrow: Vec::new(alloc),
-            wide: numbers,
+            wide: Vec::new(alloc),
+        }
+    }
+
+    /// No numbers, with room for so many in 32 bits each.
+    pub(crate) fn with_room(alloc: Global, count: usize) -> Result<Numbers, NoMemory>
+        ensures { IfOk result (λ numbers. numbers.items ≡ []) }
+    {
+        Ok(Numbers {
+            is_narrow: true,
+            narrow: Vec::with_capacity(alloc, count)?,
+            wide: Vec::new(alloc),
         })
+    }
+
+    /// So many zeros. More than a vector can hold are refused.
+    pub(crate) fn zeros(alloc: Global, count: usize) -> Result<Numbers, NoMemory>
+        ensures zeros { IfOk result (λ numbers. numbers.items ≡ replicate count 0) }
+        ensures few { OnOk result (count < 2 ^ 63) }
+    {
+        let narrow = vec![in alloc; 0; count]?;
+        Ok(Numbers {
+            is_narrow: true,
+            narrow,
+            wide: Vec::new(alloc),
+        })
+    }
+
+    /// How many there are.
+    pub(crate) fn len(&self) -> usize
+        ensures { result ≡ length self.now.items }
+    {
+        if self.is_narrow {
+            self.narrow.len()
+        } else {
+            self.wide.len()
+        }
+    }
+
+    /// Adds a number.
+    pub(crate) fn push(&mut self, number: usize) -> Result<(), NoMemory>
+        ensures { OnOk result (self.new.items ≡ self.old.items ++ number ∷ []) }
+    {
+        if !self.is_narrow {
+            self.wide.push(number)?;
+            return Ok(());
+        }
+        if let Ok(narrow) = u32::try_from(number) {
+            self.narrow.push(narrow)?;
+            return Ok(());
+        }
+        widen(&self.narrow, &mut self.wide)?;
+        self.wide.push(number)?;
+        self.is_narrow = false;
+        Ok(())
+    }
+
+    /// Puts a number at a place, in place of what was there.
+    pub(crate) fn set(&mut self, place: usize, number: usize) -> Result<(), NoMemory>
+        requires { place < length self.old.items }
+        ensures { OnOk result (self.new.items ≡ slice_set self.old.items place number) }
+    {
+        if !self.is_narrow {
+            self.wide[place] = number;
+            return Ok(());
+        }
+        if let Ok(narrow) = u32::try_from(number) {
+            self.narrow[place] = narrow;
+            return Ok(());
+        }
+        widen(&self.narrow, &mut self.wide)?;
+        self.wide[place] = number;
+        self.is_narrow = false;
+        Ok(())
+    }
+
+    /// Lets go the room for more numbers.
+    pub(crate) fn shrink_to_fit(&mut self)
+        ensures { self.new ≡ self.old }
+    {
+        self.narrow.shrink_to_fit();
+        self.wide.shrink_to_fit();
     }
 
     /// The number at a place, and 0 past the last one.
@@ -89,6 +150,7 @@ impl Numbers {
             wide_at(&self.wide, place)
         }
     }
+
     /// The number at the place past this one, and 0 past the last one.
     pub(crate) fn past(&self, place: usize) -> usize
         ensures { result ≡ slice_index self.now.items (place + 1) }

@@ -1,5 +1,5 @@
 //! Touches, lent to be read.
-ghost use Rattle.std.specs.Prelude.{◌≡◌, ◌<◌, length, slice_index_or};
+ghost use Rattle.std.specs.Prelude.{◌≡◌, ◌<◌, true, All, length, slice_index_or};
 ghost use Rattle.optra_prices.specs.NarrowTouches.{no_touch};
 
 use crate::touch::Touch;
@@ -28,6 +28,13 @@ impl TouchSlice<'_> {
         ensures { result ≡ length self.now }
     {
         self.narrow.len() + self.wide.len()
+    }
+
+    /// Whether it is known that each uses its row once.
+    pub(crate) fn are_once(&self) -> bool
+        ensures { result ≡ true → All (λ touch. touch.uses ≡ 1) self.now }
+    {
+        self.wide.is_empty()
     }
 
     /// The touch at a place.

@@ -1,4 +1,4 @@
-use Rattle.std.proofs.Common.{◌≡◌, true, List, subst}
+use Rattle.std.proofs.Common.{ap, ◌≡◌, true, List, subst}
 use Rattle.std.specs.Prelude.{Contains}
 use Rattle.std.proofs.lemmas.List.Elements.{All-weaker}
 use Rattle.optra_prices.specs.Rankings.{Renumbers}
@@ -16,6 +16,6 @@ returns g c =
     record {
       numbering = is.numbering;
       rows_are = All-weaker (Contains named) (λ row. rows.is_row row ≡ true) (λ row has. let p = contains_at named row has in all_at (λ r. rows.is_row r ≡ true) named p.0 row c.requires.rows_are p.1) numbering.rows.items is.rows;
-      starts_are = c.shrink_to_fit.ensures.items;
+      starts_are = ap (λ v. v.items) c.shrink_to_fit.ensures;
       renumbers = subst (λ (old : List Touch). Renumbers named numbering.rows.items old c.number_rows.new.touches) c.shrink_to_fit-2.ensures is.renumbers;
     }

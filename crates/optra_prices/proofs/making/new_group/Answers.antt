@@ -15,9 +15,9 @@ returns g c =
     let starts = c.args.groups.now.starts.items in
     let small : uses_in_all adds.more ≤ 8192 = let t = touches_use c.push_touches.new.named.items uses adds.more used adds.are in let l = lists.total in omega arith in
     let len : c.len.result ≡ length c.push_touches.new.touches = grind (arith, c.len.ensures) in
-    let count : c.len-number.result ≡ length starts = omega (arith, c.len-number.ensures, c.args.groups.now.starts.ok.0) in
+    let count : c.len-number.result ≡ length starts = c.len-number.ensures in
     let place : c.len-number.result - 1 ≡ length starts - 1 = omega arith in
-    let added = group_added starts c.args.groups.now.touches adds.more c.push.new.self.items c.push_touches.new.touches c.len.result (c.len-number.result - 1) c.requires.groups small adds.is c.in_ok-push.ensures.items len place in
+    let added = group_added starts c.args.groups.now.touches adds.more c.push.new.self.items c.push_touches.new.touches c.len.result (c.len-number.result - 1) c.requires.groups small adds.is c.in_ok-push.ensures len place in
     record {
       rows_are = is.rows;
       extends = is.extends;

@@ -7,12 +7,12 @@ use Rattle.optra_prices.proofs.shares.put_uses.Goals as goal
 
 pub loop-place-preserved : goal.loop-place-preserved
 loop-place-preserved c =
-    let rows = c.args.rows.now in
+    let rows = c.args.rows.now.items in
     let touches = c.args.touches.now in
     let n = c.loop-place.place in
     let inv = c.loop-place.invariant in
     let l : n < length touches = let t = c.loop-place-test.true in omega arith in
     record {
-      are_open = c.put.ensures.room;
-      put = uses_more rows touches n _ c.loop-place.index c.put.new.index (ap (λ (t : Touch). t.uses) c.at.ensures ∙ sym (get_or-map (λ (t : Touch). t.uses) touches n no_touch 0 l)) inv.put c.put.ensures.puts;
+      are_open = c.in_ok-put.ensures.room;
+      put = uses_more rows touches n _ c.loop-place.index c.put.new.index (ap (λ (t : Touch). t.uses) c.at.ensures ∙ sym (get_or-map (λ (t : Touch). t.uses) touches n no_touch 0 l)) inv.put c.in_ok-put.ensures.puts;
     }

@@ -6,6 +6,6 @@ use Rattle.optra_prices.proofs.shares.put_uses.Given as goal
 
 abbrev pub invariant-loop-place : goal.invariant-loop-place
 invariant-loop-place l = record {
-  are_open : IsOpen l.rows l.place l.index;
-  put : (place : ℕ) → place < l.place → slice_index l.index.items.items (put_place l.rows place) ≡ slice_index (uses_touched l.touches) place;
+  are_open : IsOpen l.rows.items l.place l.index;
+  put : (place : ℕ) → place < l.place → slice_index l.index.items.items (put_place l.rows.items place) ≡ slice_index (uses_touched l.touches) place;
 }

@@ -1,5 +1,0 @@
-use Rattle.std.proofs.Common.{ℕ, ◌<◌, ◌^◌, get_or}
-use Rattle.optra_prices.proofs.numbers.are_narrow.Given as goal
-
-abbrev pub invariant-loop-number : goal.invariant-loop-number
-invariant-loop-number l = (k d : ℕ) → k < l.number-index → get_or l.numbers k d < 2 ^ 32
