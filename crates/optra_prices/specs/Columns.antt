@@ -67,6 +67,10 @@ pub record MarksRow (row : ℕ) (old new : Columns) : Type 0 where
   pub more : MarksMore old new
   pub users_due : (g : ℕ) → g < length old.marks.items → IndexHas old.users row g → IsDue new g
 
+-- so it is, whatever prices the groups have now
+abbrev pub MarksMovedRow : ℕ → Columns → Columns → Type 0
+MarksMovedRow row old new = MarksRow row old (record new { running = old.running })
+
 -- the groups have the prices that they have at the prices of rows now
 abbrev pub AreRunning : List ℤ → Columns → Type 0
 AreRunning prices c = AreGroupPrices prices c.groups.starts.items c.groups.touches c.running.items

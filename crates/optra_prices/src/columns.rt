@@ -4,7 +4,7 @@
 //! group takes the price that it has now before the bids are searched, and its mark then tells how its price has moved
 //! since they were searched last.
 ghost use Rattle.std.specs.Prelude.{◌≡◌, ◌⊎◌, ◌<◌, ◌≤◌, ℕ, pos, ◌+ℤ◌, ◌*ℤ◌, [], All, Contains, IfOk, OnOk, length, slice_set};
-ghost use Rattle.optra_prices.specs.Columns.{IsColumns, AreListed, AreRunning, IsPriceMove, IsGroupMove, IsMovedPrice, MovesRunning, price_at, KeepsMarks, MarksGroups, MarksRow, MarkTells, MarksTell, AreStill, PricesAllButDue, Reprices, mark_at};
+ghost use Rattle.optra_prices.specs.Columns.{IsColumns, AreListed, AreRunning, IsPriceMove, IsGroupMove, IsMovedPrice, MovesRunning, price_at, KeepsMarks, MarksGroups, MarksRow, MarksMovedRow, MarkTells, MarksTell, AreStill, PricesAllButDue, Reprices, mark_at};
 ghost use Rattle.optra_prices.specs.Indexes.{IsIndex, items_at};
 ghost use Rattle.optra_prices.specs.declared.columns.Mark.TheVariants.{Still, Due};
 ghost use Rattle.optra_prices.specs.Tables.{AreGroups, AreGroupPrices, IsRowPrice};
@@ -161,20 +161,29 @@ fn move_group(running: &mut Vec<i64>, g: usize, by: i64, uses: usize)
     }
 }
 
-/// Moves the prices that the groups have now, once the price of a row that they touch moves by so much.
-pub(crate) fn move_groups(columns: &mut Columns, prices: &[i64], row: usize, by: i64)
+/// Moves the prices that the groups have now, once the price of a row that they touch moves by so much, and makes these
+/// groups due.
+pub(crate) fn move_row_groups(
+    columns: &mut Columns,
+    prices: &[i64],
+    row: usize,
+    by: i64,
+) -> Result<(), NoMemory>
     requires columns { IsColumns columns.old.groups columns.old }
     requires prices { All IsRowPrice prices.now }
     requires running { AreRunning prices.now columns.old }
     requires by { IsPriceMove by }
-    ensures rest { columns.new ≡ record columns.old { running = columns.new.running } }
-    ensures running { MovesRunning row by columns.old columns.new }
+    ensures columns { OnOk result (IsColumns columns.old.groups columns.new) }
+    ensures marks { OnOk result (MarksMovedRow row columns.old columns.new) }
+    ensures running { OnOk result (MovesRunning row by columns.old columns.new) }
 {
     let _ = prices;
     for place in start_of(&columns.users, row)..end_of(&columns.users, row) {
         let g = columns.users.items.at(place);
+        mark_group(&mut columns.marks, &mut columns.due, g)?;
         move_group(&mut columns.running, g, by, columns.amounts.at(place));
     }
+    Ok(())
 }
 
 /// The mark of a group.

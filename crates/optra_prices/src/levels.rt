@@ -9,7 +9,7 @@ ghost use Rattle.optra_prices.specs.Levels.{IsLevels, IsMove, AreUnused, KeepsPr
 ghost use Rattle.optra_prices.specs.Tables.{IsRowPrice};
 ghost use Rattle.optra_prices.specs.Uses.{AddsUses, TakesUses, touch_use};
 
-use crate::columns::{Columns, mark_row, move_groups};
+use crate::columns::{Columns, move_row_groups};
 use crate::loads::Loads;
 use crate::next_prices::next_price;
 use crate::touch::Touch;
@@ -164,8 +164,7 @@ pub(crate) fn set_price(
         return Ok(());
     }
     wake(levels, number)?;
-    mark_row(columns, number)?;
-    move_groups(columns, &levels.prices, number, price_move(old, price));
+    move_row_groups(columns, &levels.prices, number, price_move(old, price))?;
     levels.capacity = capacity_after(levels.capacity, old, price, levels.loads.capacity(number));
     levels.prices[number] = price;
     Ok(())

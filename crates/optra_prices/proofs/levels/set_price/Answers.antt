@@ -1,12 +1,11 @@
-use Rattle.std.proofs.Common.{◌≡◌, ℕ, ◌+◌, ◌<◌, ◌∙◌, length, set, sym, ap, subst, arith, rules, to_z, of_z}
+use Rattle.std.proofs.Common.{◌≡◌, ℕ, ◌<◌, ◌∙◌, length, set, sym, ap, subst, arith, rules, to_z, of_z}
 use Rattle.std.specs.Prelude.{All, ℤ, pos, ◌+ℤ◌, ◌-ℤ◌, ◌*ℤ◌, ◌≤ℤ◌, slice_index, slice_index_or, FitsSigned}
 use Rattle.std.specs.Int.{w64, w128}
 use Rattle.std.proofs.lemmas.Int.{ints, to_z-of_z}
 use Rattle.std.proofs.lemmas.List.{get_or_read, set-get_or, length-set}
 use Rattle.std.proofs.lemmas.List.Elements.{All-set}
-use Rattle.optra_prices.specs.Columns.{AreRunning, IsPricedOrDue, PricesAllButDue}
-use Rattle.optra_prices.specs.declared.columns.Columns.{Columns}
-use Rattle.optra_prices.proofs.RunningLemmas.{mid_running, moved_columns, running_moved}
+use Rattle.optra_prices.specs.Columns.{PricesAllButDue}
+use Rattle.optra_prices.proofs.RunningLemmas.{running_moved}
 use Rattle.optra_prices.specs.Listings.{capacity_below}
 use Rattle.optra_prices.specs.Tables.{IsRowPrice}
 use Rattle.optra_prices.proofs.ColumnLemmas.{moved_due}
@@ -87,20 +86,18 @@ returns-clause-due c =
     let price = to_z w64 (of_z w64 c.args.price) in
     let number = c.args.number in
     let prices = old.prices.items in
-    let marked = c.in_ok-mark_row.ensures in
-    let mid = c.mark_row.new.columns in
-    let new = c.move_groups.new.columns in
+    let columns = c.args.columns.now in
+    let new = c.move_row_groups.new.columns in
+    let is = c.in_ok-move_row_groups.ensures in
     let before = c.index-old.result.now in
     let f1 : FitsSigned w64 before = search rules in
     let before_is : to_z w64 (of_z w64 before) ≡ slice_index_or prices number (pos 0) = to_z-of_z w64 before f1 ∙ get_or_read prices number before c.requires.within c.index-old.ensures (pos 0) in
-    let moved = moved_due prices number price c.args.columns.now mid c.requires.columns marked.columns.groups_are marked.row c.requires.due in
-    let running : AreRunning prices mid = mid_running prices c.args.columns.now mid marked.columns.groups_are marked.row.more.running c.requires.due.running in
-    let same = ap (λ (v : Columns). v.groups) c.move_groups.ensures.rest in
+    let moved = moved_due prices number price columns (record new { running = columns.running }) c.requires.columns is.columns.groups_are is.marks c.requires.due in
     let f2 : FitsSigned w64 c.price_move.result = search rules in
     let moved_by : to_z w64 (of_z w64 c.price_move.result) ≡ price -ℤ slice_index_or prices number (pos 0) = to_z-of_z w64 c.price_move.result f2 ∙ c.price_move.ensures.value ∙ ap (λ (z : ℤ). price -ℤ z) before_is in
     subst (λ v. PricesAllButDue (set v.items number price) new) (sym c.in_ok-wake.ensures.wakes.prices) (record {
-      each = subst (λ (v : Columns). (g : ℕ) → g + 1 < length v.groups.starts.items → IsPricedOrDue (set prices number price) v g) (sym c.move_groups.ensures.rest) moved;
-      running = running_moved prices number price _ mid new c.requires.within moved_by same c.move_groups.ensures.running running;
+      each = moved;
+      running = running_moved prices number price _ columns new c.requires.within moved_by is.columns.groups_are is.running c.requires.due.running;
     })
 
 pub capacity_after-levels-requires-clause-old : goal.capacity_after-levels-requires-clause-old
@@ -129,8 +126,3 @@ capacity_after-levels-requires-clause-capacity c =
     let small = is.small c.args.number 0 within in
     let e = c.capacity.ensures in
     omega arith
-
-pub returns-clause-columns : goal.returns-clause-columns
-returns-clause-columns c =
-    let marked = c.in_ok-mark_row.ensures in
-    moved_columns c.args.columns.now.groups c.mark_row.new.columns c.move_groups.new.columns marked.columns c.move_groups.ensures.rest c.move_groups.ensures.running.count
