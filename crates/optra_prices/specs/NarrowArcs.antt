@@ -19,3 +19,11 @@ AreNumbered values narrow = All (λ arc. arc.value < length values) narrow
 -- the arc, where it may be taken or not
 abbrev pub with_mark : ArcTerm → Bool → ArcTerm
 with_mark arc mark = record { value = arc.value; group = arc.group; allowed = mark }
+
+-- arcs, and the prices of the groups that they touch
+pub record PricedArcs : Type 0 where
+  pub arcs : List ArcTerm
+  pub grouped : List ℤ
+
+abbrev pub priced_arcs : List ArcTerm → List ℤ → PricedArcs
+priced_arcs arcs grouped = record { arcs = arcs; grouped = grouped }

@@ -1,9 +1,11 @@
 //! The arcs of a bid's graph, lent to be read.
-ghost use Rattle.std.specs.Prelude.{◌≡◌, ◌<◌, true, false, length, slice_index_or};
+ghost use Rattle.std.specs.Prelude.{◌≡◌, ◌<◌, true, false, length, slice_index_or, IfSome};
+ghost use Rattle.optra_prices.specs.NarrowArcs.{priced_arcs};
 ghost use Rattle.optra_prices.specs.Tables.{allows_by, narrow_weight_by, no_arc};
 
 use crate::arc_term::ArcTerm;
 use crate::narrow_arc::NarrowArc;
+use crate::narrow_weights::NarrowWeights;
 use optra_dag::FAR;
 use std::marker::Model;
 
@@ -27,7 +29,7 @@ impl<'a> Model for ArcSlice<'a> {
     ghost invariant = { λ a. AreNumbered a.values.now a.narrow.now };
 }
 
-impl ArcSlice<'_> {
+impl<'a> ArcSlice<'a> {
     /// How many there are.
     pub(crate) fn len(&self) -> usize
         ensures { result ≡ length self.now }
@@ -97,5 +99,19 @@ impl ArcSlice<'_> {
         }
         let price = grouped.get(arc.group as usize).copied().unwrap_or(0);
         self.values[arc.value as usize].wrapping_sub(price)
+    }
+
+    /// The arcs at prices of groups, where all of them are narrow.
+    pub(crate) fn narrow_weights(&self, grouped: &'a [i64]) -> Option<NarrowWeights<'a>>
+        ensures { IfSome result (λ weights. weights ≡ priced_arcs self.now grouped.now) }
+    {
+        if !self.wide.is_empty() {
+            return None;
+        }
+        Some(NarrowWeights {
+            arcs: self.narrow,
+            values: self.values,
+            grouped,
+        })
     }
 }

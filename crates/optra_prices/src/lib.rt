@@ -37,6 +37,7 @@ mod making;
 mod marking;
 mod narrow_arc;
 mod narrow_loads;
+mod narrow_weights;
 mod next_prices;
 mod numbering;
 mod numbers;

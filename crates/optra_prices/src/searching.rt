@@ -4,7 +4,7 @@ ghost use Rattle.optra_bid.specs.Specs.{IsBetween};
 ghost use Rattle.optra_dag.specs.Paths.{IsPath, IsFirstBest};
 ghost use Rattle.optra_prices.specs.Arcs.{IsFound};
 ghost use Rattle.optra_prices.specs.Standings.{IsMost};
-ghost use Rattle.optra_prices.specs.Tables.{allows_by, weight_by, AreUpTo, AreWeighedTo, IsGroupPrice};
+ghost use Rattle.optra_prices.specs.Tables.{allows_by, weight_by, narrow_weight_by, AreUpTo, AreWeighedTo, IsGroupPrice};
 
 use crate::arc_slice::ArcSlice;
 use crate::arcs::Arcs;
@@ -81,6 +81,28 @@ fn most_of(values: i64, prices: i64) -> u64
     (values + prices) as u64
 }
 
+/// The first best path, in 64 bits: by the narrow arcs alone where no others are.
+fn narrow_sum(
+    buffers: &mut Buffers,
+    dag: &Dag,
+    weights: &Weights<'_>,
+    most: u64,
+) -> Result<Option<i64>, NoMemory>
+    requires count { length dag.now.arcs ≡ length weights.now.arcs }
+    requires weighed { AreWeighedTo most weights.now.arcs weights.now.grouped.now }
+    requires room { most * length dag.now.ends ≤ NARROW_ROOM }
+    ensures best { IfOk result (λ answer. IfSome answer (λ sum. IsFirstBest dag.now
+        (allows_by weights.now.arcs) (narrow_weight_by weights.now.arcs weights.now.grouped.now)
+        sum buffers.new)) }
+    ensures none { IfOk result (λ answer. IfNone answer ((path : List ℕ)
+        → IsPath dag.now (allows_by weights.now.arcs) path → ⊥)) }
+{
+    match weights.arcs.narrow_weights(weights.grouped) {
+        Some(narrow) => narrow_best_in(buffers, dag, &narrow, most),
+        None => narrow_best_in(buffers, dag, weights, most),
+    }
+}
+
 /// The first best path, in 64 bits.
 fn narrow_best(
     buffers: &mut Buffers,
@@ -97,7 +119,7 @@ fn narrow_best(
     ensures none { IfOk result (λ answer. IfNone answer ((path : List ℕ)
         → IsPath dag.now (allows_by weights.now.arcs) path → ⊥)) }
 {
-    let Some(sum) = narrow_best_in(buffers, dag, weights, most)? else {
+    let Some(sum) = narrow_sum(buffers, dag, weights, most)? else {
         return Ok(None);
     };
     Ok(Some(i128::from(sum)))

@@ -1,0 +1,43 @@
+//! What narrow arcs weigh at prices of groups, lent to a search in 64 bits.
+use crate::narrow_arc::NarrowArc;
+use optra_dag::{FAR, NarrowWeight};
+use std::marker::Model;
+
+/// Narrow arcs, whose values are known by number, and the prices of the groups that they touch.
+#[derive(Drop)]
+pub(crate) struct NarrowWeights<'a> {
+    pub(crate) arcs: &'a [NarrowArc],
+    pub(crate) values: &'a [i64],
+    pub(crate) grouped: &'a [i64],
+}
+
+impl<'a> Model for NarrowWeights<'a> {
+    ghost use Rattle.std.specs.Prelude.{[]};
+    ghost use Rattle.optra_prices.specs.NarrowArcs.{PricedArcs, priced_arcs, terms_of, AreNumbered};
+
+    ghost Value = { PricedArcs };
+
+    ghost view = { λ w. priced_arcs (terms_of w.values.now w.arcs.now []) w.grouped.now };
+
+    ghost invariant = { λ w. AreNumbered w.values.now w.arcs.now };
+}
+
+impl NarrowWeight for NarrowWeights<'_> {
+    ghost use Rattle.std.specs.Prelude.{length};
+    ghost use Rattle.optra_prices.specs.Tables.{allows_by, narrow_weight_by};
+
+    ghost asked = { λ w. length w.arcs };
+
+    ghost allows = { λ w k. allows_by w.arcs k };
+
+    ghost weight = { λ w k. narrow_weight_by w.arcs w.grouped k };
+
+    fn of(&self, arc: u32) -> i64 {
+        let arc = self.arcs[arc as usize];
+        if !arc.allowed {
+            return FAR;
+        }
+        let price = self.grouped.get(arc.group as usize).copied().unwrap_or(0);
+        self.values[arc.value as usize].wrapping_sub(price)
+    }
+}
