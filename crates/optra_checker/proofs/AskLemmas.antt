@@ -1,5 +1,8 @@
 -- What a leg by a way costs may be asked of.
-use Rattle.std.proofs.Common.{◌≡◌, ◌≤◌, ◌<◌, length, List, Option, sym, ap, subst, arith}
+use Rattle.std.proofs.Common.{◌≡◌, ◌∙◌, ℕ, ℤ, ◌≤◌, ◌<◌, length, List, get_or, set, Option, None, Some, sym, ap, subst, arith}
+use Rattle.std.specs.Prelude.{IfSome}
+use Rattle.std.proofs.lemmas.List.{length-set}
+use Rattle.std.proofs.lemmas.List.Elements.{All-set}
 use Rattle.std.proofs.lemmas.Option.{slice_get_within}
 use Rattle.optra_network.specs.Net.{Net}
 use Rattle.optra_network.specs.declared.TypeId.{TypeId}
@@ -8,15 +11,31 @@ use Rattle.optra_walk.specs.declared.Action.{Action}
 use Rattle.optra_walk.specs.declared.Leg.{Leg}
 use Rattle.optra_walk.specs.Families.{IsUsable}
 use Rattle.optra_walk.specs.Legs.{dwell_of}
-use Rattle.optra_checker.specs.Asks.{AreAsked}
+use Rattle.optra_checker.specs.Asks.{IsAsked, AreAsked}
 use Rattle.optra_checker.specs.Tables.{IsReadyFor}
 use Rattle.optra_checker.specs.Ways.{leg_by, IsWay}
-use Rattle.optra_checker.specs.Weights.{Weights, AreWeightsFor}
+use Rattle.optra_checker.specs.Weights.{Weights, TellsCost, AreAlike, AreWeightsFor}
 use Rattle.optra_checker.specs.declared.asks.Ask.{Ask}
 use Rattle.optra_checker.specs.declared.rest_table.RestTable.{RestTable}
 use Rattle.optra_checker.specs.declared.states.State.{State}
 use Rattle.optra_checker.specs.declared.ways.Way.{Way}
 use Rattle.optra_checker.proofs.ReachLemmas.{track_there}
+
+-- the leg that is kept of a track
+pub last_asked : (w : Weights) (asks : List (Option Ask)) (place : ℕ) (last : Ask) → AreAsked w asks → get_or asks place None ≡ Some last → place < length asks → IsAsked w last
+last_asked w asks place last are at within = subst (λ (o : Option Ask). IfSome o (IsAsked w)) at (are.each place None within)
+
+-- what is told of a leg is so of one that is alike
+pub alike_told : (w : Weights) (first second : Leg) (cost : Option ℤ) → AreAlike w first second → TellsCost w first cost → TellsCost w second cost
+alike_told w first second None alike told = sym alike.0 ∙ told
+alike_told w first second (Some n) alike told = (sym alike.0 ∙ told.0, told.1 ∙ alike.1, told.2)
+
+-- one more leg was asked of
+pub asked_more : (w : Weights) (asks : List (Option Ask)) (place : ℕ) (ask : Ask) → AreAsked w asks → IsAsked w ask → AreAsked w (set asks place (Some ask))
+asked_more w asks place ask are is = record {
+  len = length-set asks place (Some ask) ∙ are.len;
+  each = All-set (λ (o : Option Ask). IfSome o (IsAsked w)) asks place (Some ask) is are.each;
+}
 
 module _ (w : Weights) (net : Net) (bid : Bid) (table : RestTable) (s : State) (ready : IsReadyFor w net bid table s) (way : Way) (by : IsWay net bid.path s way) (for : AreWeightsFor w net bid.path) where
   pub leg_usable : (a : Action) → dwell_of a ≤ 240 → (leg : Leg) → leg ≡ leg_by s way.track a → IsUsable w.net w.kind leg

@@ -1,5 +1,5 @@
 -- There is time for what walks do: the stops that are done took theirs.
-use Rattle.std.proofs.Common.{◌≡◌, ℕ, ◌+◌, ◌≤◌, ◌<◌, ◌∙◌, inl, inr, Bool, false, not, sym, List, [], ◌∷◌, ◌++◌, Option, None, Some, IsSomeAnd, slice_get, slice_index, slice_index_or, get_or, length, refl, ap, subst, arith}
+use Rattle.std.proofs.Common.{◌≡◌, ℕ, zero, suc, ◌+◌, ◌≤◌, ◌<◌, ◌∙◌, inl, inr, Bool, false, not, sym, List, [], ◌∷◌, ◌++◌, Option, None, Some, IsSomeAnd, slice_get, slice_index, slice_index_or, get_or, length, refl, ap, subst, arith}
 use Rattle.std.specs.Prelude.{All}
 use Rattle.std.proofs.lemmas.Option.{slice_get_within, slice_get-get_or, get_or_from_slice_get}
 use Rattle.std.proofs.lemmas.Bool.{cases_lt}
@@ -91,6 +91,20 @@ module _ (net : Net) (path : Path) (reach : Reach) (is : IsReach net path reach)
       by (Wait d) e = same (Wait d) e refl
       by (Halt d) e = halt d e
       by Finish e = same Finish e refl
+
+-- no stop is done
+pub behind_first : (net : Net) (path : Path) (first : List ℕ) → AreLeast net path.kind false path.origin 0 first → AreBehind net path (first ∷ []) 0
+behind_first net path first least = record {
+  count = omega arith;
+  len = λ done few. ap length (only done few) ∙ least.len;
+  each = λ done few n l. subst (λ xs. IsLeastAlong net path.kind false xs (track_id n)) (sym (only done few)) (least.each n l);
+  start = least.first;
+  halt = λ done stop there few. absurd (omega (arith, few));
+}
+  where
+    only : (done : ℕ) → done ≤ 0 → slice_index_or (first ∷ []) done [] ≡ first
+    only zero few = refl
+    only (suc done) few = absurd (omega (arith, few))
 
 -- one stop more is done
 pub behind_more : (net : Net) (path : Path) (levels : List (List ℕ)) (done start : ℕ) (stop : Stop) (more : List ℕ) → slice_get path.stops done ≡ Some stop

@@ -1,5 +1,5 @@
 -- A table that is filled place by place, from late to early.
-use Rattle.std.proofs.Common.{◌≡◌, ℕ, zero, suc, ◌+◌, ◌≤◌, ◌<◌, ◌⊎◌, inl, inr, List, ◌∷◌, length, Option, None, sym, ap, ◌∙◌, Bool, true, false, ◌-◌, refl, true≢false, subst, arith, slice_set, slice_index_or}
+use Rattle.std.proofs.Common.{◌≡◌, ℕ, zero, suc, ◌+◌, ◌*◌, ◌≤◌, ◌<◌, ◌⊎◌, inl, inr, List, ◌∷◌, length, Option, None, sym, ap, ◌∙◌, Bool, true, false, ◌-◌, refl, true≢false, subst, arith, slice_set, slice_index_or}
 use Rattle.std.specs.Prelude.{ℤ, ◌&&◌, nat_lt, nat_le, slice_index, if◌then◌else◌}
 use Rattle.std.proofs.lemmas.Bool.{cases_lt, lt-ltb}
 use Rattle.std.proofs.lemmas.Bool.Decides.{nat_tests}
@@ -255,3 +255,7 @@ module _ (table : RestTable) (state : State) (minute : ℕ) (station : StationId
 
   pub spot_next : place_of table.layout state + 1 ≡ spot_at table.layout (minute - table.layout.first) station.0 + left
   spot_next = let e = spot_place in omega (arith, e, some)
+
+-- where the places of the next station begin
+pub spot_more : (layout : Layout) (minute station : ℕ) → spot_at layout minute (station + 1) ≡ spot_at layout minute station + layout.slots
+spot_more layout minute station = let e : minute * layout.stations + (station + 1) ≡ suc (minute * layout.stations + station) = omega arith in ap (λ (n : ℕ). n * layout.slots) e ∙ (omega arith)

@@ -23,7 +23,8 @@ use Rattle.optra_checker.proofs.LeafLemmas.{kind_is, slice_last, slice_before}
 use Rattle.optra_node.proofs.ChildLemmas.{some_at}
 use Rattle.std.proofs.lemmas.Option.{slice_get_within, slice_get-get_or}
 use Rattle.std.proofs.lemmas.List.{length-append, take_more}
-use Rattle.optra_checker.proofs.LeafPriceLemmas.{none_left, times_range, prices_small}
+use Rattle.optra_checker.proofs.LeafPriceLemmas.{none_left, prices_small}
+use Rattle.optra_checker.proofs.ProductLemmas.{product_within}
 
 -- a sum of nothing below zero
 pub sum_least : {X : Type 0} (f : X → ℤ) (xs : List X) → ((k : ℕ) (d : X) → k < length xs → pos 0 ≤ℤ f (get_or xs k d)) → pos 0 ≤ℤ sum_of f xs
@@ -38,7 +39,7 @@ sum_least f (x ∷ xs) h =
 pub price_least : {R : Type 0} (rows : Rows R) (prices : PriceList R) → ArePrices rows prices → (kind : TypeId) (leg : Leg) → pos 0 ≤ℤ leg_price rows prices kind leg
 price_least rows prices are kind leg =
     sum_least (λ (e : _ × ℤ). e.1 *ℤ pos (rows.uses kind leg e.0)) prices
-    (λ k d l. let s = prices_small rows prices are k d l in (times_range (get_or prices k d).1 (rows.uses kind leg (get_or prices k d).0) s.0 s.1).0)
+    (λ k d l. let s = prices_small rows prices are k d l in (product_within 2000000000000 (get_or prices k d).1 (rows.uses kind leg (get_or prices k d).0) s.0 s.1).0)
 
 module _ (w : Weights) (net : Net) (bid : Bid) (least : (leg : Leg) → pos 0 ≤ℤ w.cost_of leg) where
   free_worth : (legs : List Leg) → worth_of (free_weights net bid.path.kind) net bid legs ≡ pos 1000 *ℤ value_of net bid.path bid.money legs

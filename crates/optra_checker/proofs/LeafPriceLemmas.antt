@@ -9,10 +9,8 @@ use Rattle.std.specs.declared.cmp.Ordering.{Ordering}
 use Rattle.std.specs.declared.cmp.Ordering.TheVariants.{Less, Equal, Greater}
 use Rattle.std.proofs.lemmas.Bool.{cases_lt}
 use Rattle.std.proofs.lemmas.Int.{ints}
-use Rattle.std.proofs.Math.IntN.{negsuc}
-use Rattle.std.proofs.Math.Nat.{mul-le-mul_left}
 use Rattle.std.proofs.lemmas.Option.{slice_get_within, get_or_from_slice_get}
-use Rattle.std.proofs.lemmas.List.{take_more}
+use Rattle.std.proofs.lemmas.List.{take_more, take_all}
 use Rattle.std.proofs.lemmas.List.Sums.{sum_by_more, sum_by_more_le}
 use Rattle.optra_network.specs.declared.TypeId.{TypeId}
 use Rattle.optra_bid.specs.Specs.{IsBetween}
@@ -21,6 +19,7 @@ use Rattle.optra_walk.specs.Families.{Rows}
 use Rattle.std.proofs.lemmas.List.Sorted.{searchable_from_sorted}
 use Rattle.optra_node.specs.Duals.{sum_of, PriceList, ArePrices, price_of, capacity_price}
 use Rattle.optra_node.specs.Certificates.{AreAscending}
+use Rattle.optra_checker.specs.Sizes.{IsLegPrice}
 use Rattle.optra_node.proofs.SumLemmas.{sum_of-cons, sum_of-append}
 
 default_same : {X : Type 0} (xs : List X) (k : ℕ) (d e : X) → k < length xs → get_or xs k d ≡ get_or xs k e
@@ -121,6 +120,15 @@ module _ {R : Type 0} (rows : Rows R) where
       let is = get_or_from_slice_get used k row row at in
       ap (sum_of f) (take_more used k row l) ∙ sum_of-append f (take k used) (get_or used k row ∷ []) ∙ (let one = sum_of-cons f (get_or used k row) [] in let same = ap f is in omega (arith, ints))
 
+  -- the sum over all rows, and its bounds
+  pub priced_all : (cmp : R → R → Ordering) (prices : PriceList R) (kind : TypeId) (leg : Leg) (used : List R) (k : ℕ) (old total : ℤ) → length used ≤ k → sum_by (rows.uses kind leg) used ≤ 8192 → old ≡ total
+      → total ≡ sum_of (λ r. price_of (eq_by_cmp cmp) prices r *ℤ pos (rows.uses kind leg r)) (take k used) → pos 0 ≤ℤ total → total ≤ℤ pos (2000000000000 * sum_by (rows.uses kind leg) (take k used))
+      → (old ≡ sum_of (λ r. price_of (eq_by_cmp cmp) prices r *ℤ pos (rows.uses kind leg r)) used) × IsLegPrice old
+  priced_all cmp prices kind leg used k old total past few same value least most =
+      let all = take_all k used past in
+      let uses = ap (sum_by (rows.uses kind leg)) all in
+      (same ∙ value ∙ ap (sum_of (λ (r : R). price_of (eq_by_cmp cmp) prices r *ℤ pos (rows.uses kind leg r))) all, (omega (arith, ints, same, least), omega (arith, ints, same, most, uses, few)))
+
   -- and of what is used
   pub uses_more : (uses : R → ℕ) (used : List R) (k : ℕ) (row : R) → slice_get used k ≡ Some row → (sum_by uses (take (k + 1) used) ≡ sum_by uses (take k used) + uses row) × (sum_by uses (take k used) + uses row ≤ sum_by uses used)
   uses_more uses used k row at =
@@ -130,11 +138,6 @@ module _ {R : Type 0} (rows : Rows R) where
       let a = sum_by_more uses used k row l in
       let b = sum_by_more_le uses used k row l in
       (omega arith, omega arith)
-
--- a price times a count, within its bounds
-pub times_range : (price : ℤ) (n : ℕ) → pos 0 ≤ℤ price → price ≤ℤ pos 2000000000000 → (pos 0 ≤ℤ (price *ℤ pos n)) × ((price *ℤ pos n) ≤ℤ pos (2000000000000 * n))
-times_range (pos p) n low high = let h : p ≤ 2000000000000 = omega (arith, ints) in let m = mul-le-mul_left n h in (omega (arith, ints), omega (arith, ints))
-times_range (negsuc p) n low high = absurd (omega (arith, ints))
 
 -- the price of capacity with one listed row more
 pub capacity_more : {R : Type 0} (rows : Rows R) (prices : PriceList R) (k : ℕ) (e : R × ℤ) → k < length prices → e ≡ get_or prices k e

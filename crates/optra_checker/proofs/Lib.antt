@@ -31,3 +31,4 @@ pub mod BoundLemmas
 pub mod ReachLemmas
 pub mod VerdictLemmas
 pub mod FreeLemmas
+pub mod ProductLemmas

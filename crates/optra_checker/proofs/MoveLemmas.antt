@@ -1,6 +1,6 @@
 -- The legs by one way: which may be next, and what is behind them.
-use Rattle.std.proofs.Common.{◌≡◌, ℕ, ◌+◌, ◌-◌, ◌*◌, ◌≤◌, ◌<◌, ◌⊎◌, inl, inr, true, false, length, Option, None, Some, IfSome, IsSomeAnd, slice_get, refl, sym, ap, ◌∙◌, subst, arith}
-use Rattle.std.specs.Prelude.{ℤ, pos, ◌-ℤ◌, ◌≤ℤ◌, unwrap_or}
+use Rattle.std.proofs.Common.{◌≡◌, ℕ, ◌+◌, ◌-◌, ◌*◌, ◌≤◌, ◌<◌, ◌⊎◌, inl, inr, true, false, List, length, Option, None, Some, IfSome, IsSomeAnd, slice_get, refl, sym, ap, ◌∙◌, subst, arith}
+use Rattle.std.specs.Prelude.{All, ℤ, pos, ◌-ℤ◌, ◌≤ℤ◌, unwrap_or}
 use Rattle.std.specs.Option.{option_map}
 use Rattle.std.proofs.lemmas.Int.{ints}
 use Rattle.std.proofs.lemmas.Bool.{cases_lt}
@@ -31,6 +31,10 @@ use Rattle.optra_checker.proofs.HorizonLemmas.{after_later}
 
 some_same : {A : Type 0} (o : Option A) (a b : A) → o ≡ Some a → o ≡ Some b → a ≡ b
 some_same o a b e f = cc
+
+-- the stop at a place
+pub stop_within : (stops : List Stop) (k : ℕ) (stop : Stop) → All IsStop stops → slice_get stops k ≡ Some stop → IsStop stop
+stop_within stops k stop all at = subst IsStop (get_or_from_slice_get stops k stop stop at) (all k stop (slice_get_within stops k stop at))
 
 within_some : (o : Option ℕ) (n from to : ℕ) → o ≡ Some n → from ≤ n → n ≤ to → IsSomeAnd o (IsFromTo from to)
 within_some o n from to e l u = subst (λ v. IsSomeAnd v (IsFromTo from to)) (sym e) (l, u)
@@ -184,8 +188,7 @@ module _ (w : Weights) (net : Net) (bid : Bid) (table : RestTable) (s : State) (
 
       pub halt_few : d ≤ 240
       halt_few =
-          let is : IsStop stop_at.0 = subst IsStop (get_or_from_slice_get bid.path.stops s.done stop_at.0 stop_at.0 stop_at.1)
-          (ready.setting.stops s.done stop_at.0 (slice_get_within bid.path.stops s.done stop_at.0 stop_at.1)) in
+          let is = stop_within bid.path.stops s.done stop_at.0 ready.setting.stops stop_at.1 in
           let most = is.dwell_max in
           let within = stop_at.2.dwell.1 in
           omega arith

@@ -1,5 +1,5 @@
 -- Which states come into walks: those that are reached lead to such, and a state that is too late has no rest.
-use Rattle.std.proofs.Common.{◌≡◌, ℕ, ◌+◌, ◌≤◌, ◌<◌, ◌⊎◌, ◌∙◌, inl, inr, Bool, false, true, not, sym, List, [], ◌∷◌, ◌++◌, Option, None, Some, IsSomeAnd, slice_get, slice_index, slice_index_or, get_or, length, ◌-◌, refl, ap, subst, arith}
+use Rattle.std.proofs.Common.{◌≡◌, ℕ, zero, suc, ◌+◌, ◌≤◌, ◌<◌, ◌⊎◌, ◌∙◌, inl, inr, Bool, false, true, not, sym, List, [], ◌∷◌, ◌++◌, Option, None, Some, IsSomeAnd, slice_get, slice_index, slice_index_or, get_or, length, ◌-◌, refl, ap, subst, arith}
 use Rattle.std.specs.Option.{option_map}
 use Rattle.std.specs.Prelude.{All}
 use Rattle.std.proofs.lemmas.Option.{slice_get_within, slice_get-get_or, get_or_from_slice_get}
@@ -248,6 +248,20 @@ module _ (net : Net) (path : Path) (reach : Reach) (is : IsReach net path reach)
       by (Wait d) e i = same (Wait d) e refl i
       by (Halt d) e i = halt d e i
       by Finish e i = same Finish e refl i
+
+-- no stop is left
+pub ahead_first : (net : Net) (path : Path) (last : List ℕ) → AreLeast net path.kind true path.destination 0 last → AreAhead net path (last ∷ []) 0
+ahead_first net path last least = record {
+  count = omega arith;
+  len = λ left few. ap length (only left few) ∙ least.len;
+  each = λ left few n l. subst (λ xs. IsLeastAlong net path.kind true xs (track_id n)) (sym (only left few)) (least.each n l);
+  end = least.first;
+  halt = λ done left stop there sum few. absurd (omega (arith, few));
+}
+  where
+    only : (left : ℕ) → left ≤ 0 → slice_index_or (last ∷ []) left [] ≡ last
+    only zero few = refl
+    only (suc left) few = absurd (omega (arith, few))
 
 -- one stop more is left
 pub ahead_more : (net : Net) (path : Path) (levels : List (List ℕ)) (left start : ℕ) (stop : Stop) (more : List ℕ) → left < length path.stops → slice_get path.stops (length path.stops - 1 - left) ≡ Some stop

@@ -1,5 +1,5 @@
 //! Which states may come into a walk, by the minutes that trains take at least between stations.
-ghost use Rattle.std.specs.Prelude.{◌≡◌, ◌+◌, ◌≤◌, ◌<◌, ◌↔◌, length, map, sum, ℕ, false, true, Some, slice_get, slice_index, slice_index_or, [], IfOk, IsTrue};
+ghost use Rattle.std.specs.Prelude.{◌≡◌, ◌+◌, ◌≤◌, ◌<◌, ◌↔◌, ◌∷◌, length, map, sum, ℕ, false, true, Some, slice_get, slice_index, slice_index_or, [], IfOk, IsTrue};
 ghost use Rattle.optra_network.specs.Net.{IsStation, track_id};
 ghost use Rattle.std.specs.Option.{option_map};
 ghost use Rattle.optra_bid.specs.Specs.{IsPathOn};
@@ -193,24 +193,33 @@ fn skip_far(
     Ok(skips)
 }
 
+/// A list of one level.
+fn one_level(alloc: Global, level: &[u16]) -> Result<Vec<Vec<u16>>, NoMemory>
+    ensures { IfOk result (λ levels. map (λ level. level.items) levels.items ≡ level.now ∷ []) }
+{
+    let first = level.to_vec(alloc)?;
+    let mut levels = Vec::new(alloc);
+    levels.push(first)?;
+    Ok(levels)
+}
+
 /// For each number of stops left, the least minutes from each station on to the destination by way
 /// of them.
 fn find_ahead(
     alloc: Global,
     net: &Network,
     bid: &Bid,
-    to_destination: Vec<u16>,
+    to_destination: &[u16],
 ) -> Result<Vec<Vec<u16>>, NoMemory>
     requires path { IsPathOn net.now bid.now.path }
     requires last { AreLeast net.now bid.now.path.kind true bid.now.path.destination 0
-        to_destination.items }
+        to_destination.now }
     ensures { IfOk result (λ levels. AreAhead net.now bid.now.path (map (λ level. level.items)
         levels.items) (length bid.now.path.stops)) }
 {
     let path = &bid.path;
     let most = too_long(bid);
-    let mut levels = Vec::new(alloc);
-    levels.push(to_destination)?;
+    let mut levels = one_level(alloc, to_destination)?;
     let count = path.stops.len();
     'stops: for left in 0..count {
         let stop = path.stops[count - 1 - left];
@@ -226,18 +235,17 @@ fn find_behind(
     alloc: Global,
     net: &Network,
     bid: &Bid,
-    from_origin: Vec<u16>,
+    from_origin: &[u16],
 ) -> Result<Vec<Vec<u16>>, NoMemory>
     requires path { IsPathOn net.now bid.now.path }
     requires first { AreLeast net.now bid.now.path.kind false bid.now.path.origin 0
-        from_origin.items }
+        from_origin.now }
     ensures { IfOk result (λ levels. AreBehind net.now bid.now.path (map (λ level. level.items)
         levels.items) (length bid.now.path.stops)) }
 {
     let path = &bid.path;
     let most = too_long(bid);
-    let mut levels = Vec::new(alloc);
-    levels.push(from_origin)?;
+    let mut levels = one_level(alloc, from_origin)?;
     let count = path.stops.len();
     'stops: for done in 0..count {
         let stop = path.stops[done];
@@ -246,6 +254,28 @@ fn find_behind(
         levels.push(level)?;
     }
     Ok(levels)
+}
+
+/// The levels for the stops left, and those for the stops done.
+fn find_levels(
+    alloc: Global,
+    net: &Network,
+    bid: &Bid,
+    from_origin: &[u16],
+    to_destination: &[u16],
+) -> Result<(Vec<Vec<u16>>, Vec<Vec<u16>>), NoMemory>
+    requires path { IsPathOn net.now bid.now.path }
+    requires from { AreLeast net.now bid.now.path.kind false bid.now.path.origin 0 from_origin.now }
+    requires on { AreLeast net.now bid.now.path.kind true bid.now.path.destination 0
+        to_destination.now }
+    ensures ahead { IfOk result (λ levels. AreAhead net.now bid.now.path (map (λ level. level.items)
+        levels.0.items) (length bid.now.path.stops)) }
+    ensures behind { IfOk result (λ levels. AreBehind net.now bid.now.path (map (λ level.
+        level.items) levels.1.items) (length bid.now.path.stops)) }
+{
+    let ahead = find_ahead(alloc, net, bid, to_destination)?;
+    let behind = find_behind(alloc, net, bid, from_origin)?;
+    Ok((ahead, behind))
 }
 
 /// The minutes for so many stops.
@@ -280,8 +310,7 @@ pub(crate) fn make_reach(alloc: Global, net: &Network, bid: &Bid) -> Result<Reac
         &from_origin,
         &to_destination,
     )?;
-    let ahead = find_ahead(alloc, net, bid, to_destination.clone()?)?;
-    let behind = find_behind(alloc, net, bid, from_origin.clone()?)?;
+    let (ahead, behind) = find_levels(alloc, net, bid, &from_origin, &to_destination)?;
     Ok(Reach {
         from_origin,
         to_destination,

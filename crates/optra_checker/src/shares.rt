@@ -1,12 +1,12 @@
 //! What starts and legs add to the worth of a walk, apart from the costs of legs, in thousandths of
 //! a cent.
 ghost use Rattle.std.specs.Prelude.{◌≡◌, ◌-◌, ◌<◌, ◌^◌, pos, ◌+ℤ◌, ◌-ℤ◌, ◌*ℤ◌};
-ghost use Rattle.optra_bid.specs.Specs.{IsRate};
+ghost use Rattle.optra_bid.specs.Specs.{IsRate, IsMoney};
 ghost use Rattle.optra_walk.specs.Values.{price_off};
 ghost use Rattle.optra_checker.specs.Rests.{start_value, end_price, wait_price};
 ghost use Rattle.optra_checker.specs.Shares.{IsShare, IsStartValue, IsTimesPrice, IsPriceOff, IsBase};
 
-use optra_bid::Bid;
+use optra_bid::{Bid, Money};
 use optra_network::{Cents, Minute};
 
 /// A rate times minutes.
@@ -61,12 +61,20 @@ fn scaled_wait(rate: Cents, minutes: u16) -> i64
     1000 * times(rate, u32::from(minutes))
 }
 
+/// What the bid pays.
+fn money_of(bid: &Bid) -> Money
+    ensures same { result ≡ bid.now.money }
+    ensures amounts { IsMoney result }
+{
+    bid.money
+}
+
 /// What a start at the minute gives.
 pub(crate) fn start_value(bid: &Bid, minute: Minute) -> i64
     ensures value { result ≡ start_value bid.now minute }
     ensures range { IsStartValue result }
 {
-    let money = bid.money;
+    let money = money_of(bid);
     let minute = u32::from(minute);
     let ideal = u32::from(bid.path.depart.ideal);
     let off = price_off(ideal, money.early_depart, money.late_depart, minute);
@@ -78,7 +86,7 @@ pub(crate) fn end_price(bid: &Bid, minute: Minute) -> i64
     ensures value { result ≡ end_price bid.now minute }
     ensures range { IsShare result }
 {
-    let money = bid.money;
+    let money = money_of(bid);
     let minute = u32::from(minute);
     let ideal = u32::from(bid.path.arrive.ideal);
     let off = price_off(ideal, money.early_arrive, money.late_arrive, minute);
@@ -90,6 +98,6 @@ pub(crate) fn wait_price(bid: &Bid, minutes: u16) -> i64
     ensures value { result ≡ wait_price bid.now minutes }
     ensures range { IsShare result }
 {
-    let money = bid.money;
+    let money = money_of(bid);
     scaled_wait(money.wait, minutes)
 }

@@ -18,11 +18,17 @@ skip_far-requires-clause-same c =
 pub skip_far-requires-clause-count : goal.skip_far-requires-clause-count
 skip_far-requires-clause-count c = ap length c.deref.ensures.value ∙ c.in_ok-from_origin.ensures.len ∙ sym c.station_count.ensures.count
 
-pub find_ahead-requires-clause-path : goal.find_ahead-requires-clause-path
-find_ahead-requires-clause-path c = c.requires
-
-pub find_behind-requires-clause-path : goal.find_behind-requires-clause-path
-find_behind-requires-clause-path c = c.requires
+pub find_levels-requires : goal.find_levels-requires
+find_levels-requires c =
+    let net = c.args.net.now in
+    let path = c.args.bid.now.path in
+    record {
+      path = c.requires;
+      from = subst (λ (xs : List ℕ). AreLeast net path.kind false path.origin 0 xs) (sym c.deref-3.ensures.value)
+          (subst (λ (p : Path). AreLeast net p.kind false p.origin 0 c.in_ok-from_origin.from_origin.items) c.path.view_is c.in_ok-from_origin.ensures);
+      on = subst (λ (xs : List ℕ). AreLeast net path.kind true path.destination 0 xs) (sym c.deref-4.ensures.value)
+          (subst (λ (p : Path). AreLeast net p.kind true p.destination 0 c.in_ok-to_destination.to_destination.items) c.path.view_is c.in_ok-to_destination.ensures);
+    }
 
 pub returns : goal.returns
 returns c =
@@ -34,6 +40,6 @@ returns c =
       on = subst (λ (p : Path). AreLeast net p.kind true p.destination 0 c.in_ok-to_destination.to_destination.items) c.path.view_is c.in_ok-to_destination.ensures;
       far = subst (λ (on : List ℕ). SkipsFar path c.in_ok-from_origin.from_origin.items on skips) c.deref-2.ensures.value
           (subst (λ (from : List ℕ). SkipsFar path from c.deref-2.result.now skips) c.deref.ensures.value c.in_ok-skips.ensures);
-      ahead = c.in_ok-ahead.ensures;
-      behind = c.in_ok-behind.ensures;
+      ahead = c.in_ok-ahead.ensures.ahead;
+      behind = c.in_ok-ahead.ensures.behind;
     }

@@ -2,7 +2,7 @@
 use Rattle.std.proofs.Common.{arith, subst, sym, Option, ℤ, ◌+◌}
 use Rattle.optra_checker.specs.Rests.{IsBestRest}
 use Rattle.optra_checker.specs.Ways.{IsHaltBelow, IsHaltBy}
-use Rattle.optra_checker.proofs.MoveLemmas.{halt_no_stop, halt_none, halt_start, halt_push, halt_end, halt_move}
+use Rattle.optra_checker.proofs.MoveLemmas.{stop_within, halt_no_stop, halt_none, halt_start, halt_push, halt_end, halt_move}
 use Rattle.optra_checker.proofs.rests.halts_rest.Goals as goal
 
 pub loop-dwell-init : goal.loop-dwell-init
@@ -59,3 +59,12 @@ returns-in_err-stop-clause-asks g c = c.requires.asks
 
 pub returns-then-not-may_halt-clause-asks : goal.returns-then-not-may_halt-clause-asks
 returns-then-not-may_halt-clause-asks g c = c.requires.asks
+
+pub overflow_add-dwell-end : goal.overflow_add-dwell-end
+overflow_add-dwell-end g c =
+    let stop = stop_within c.args.bid.now.path.stops c.args.way.from.done c.in_ok-stop.stop c.requires.ready.setting.stops (sym c.in_ok-stop.ensures) in
+    let most = stop.dwell_max in
+    omega (arith, most)
+
+pub loop-dwell-smaller : goal.loop-dwell-smaller
+loop-dwell-smaller g c = omega (arith, c.loop-dwell-test.true)

@@ -1,11 +1,11 @@
 -- One more place of the spot.
-use Rattle.std.proofs.Common.{arith, ◌≡◌, ℕ, ◌+◌, ◌-◌, ◌<◌, ◌≤◌, sym, ap, ◌∙◌, subst}
+use Rattle.std.proofs.Common.{arith, refl, ◌≡◌, ℕ, ◌+◌, ◌-◌, ◌<◌, ◌≤◌, sym, ap, ◌∙◌, subst}
 use Rattle.optra_checker.specs.declared.reach.Reach.{Reach}
 use Rattle.optra_checker.specs.declared.states.Layout.{Layout}
 use Rattle.optra_checker.specs.Places.{spot_at}
 use Rattle.optra_checker.specs.Reaches.{IsReached}
 use Rattle.optra_checker.specs.Tables.{IsFilled, end_of}
-use Rattle.optra_checker.proofs.FillLemmas.{filled_skip, same_spot, spot_placed, spot_place, spot_next}
+use Rattle.optra_checker.proofs.FillLemmas.{spot_more, filled_skip, same_spot, spot_placed, spot_place, spot_next}
 use Rattle.optra_checker.proofs.table.fill_spot.Goals as goal
 
 pub returns-then-not-has-clause-filled : goal.returns-then-not-has-clause-filled
@@ -89,3 +89,37 @@ returns-clause-asks g c = c.slots.invariant.asks
 
 pub returns-then-not-has-clause-asks : goal.returns-then-not-has-clause-asks
 returns-then-not-has-clause-asks g c = c.requires.asks
+
+pub has-requires-clause-from : goal.has-requires-clause-from
+has-requires-clause-from g c =
+    let station = ap (λ x. x.0) c.state_at-at.ensures.station in
+    omega (arith, station, c.requires.station, c.requires.filled.is_table.from)
+
+pub has-requires-clause-on : goal.has-requires-clause-on
+has-requires-clause-on g c =
+    let station = ap (λ x. x.0) c.state_at-at.ensures.station in
+    omega (arith, station, c.requires.station, c.requires.filled.is_table.on)
+
+pub overflow_sub-left : goal.overflow_sub-left
+overflow_sub-left g c = omega (arith, c.slots-test.true)
+
+pub slots-init : goal.slots-init
+slots-init g c =
+    let w = g.W.Weighing.weights c.args.weighing.now in
+    let table = c.args.table.now in
+    record {
+      filled = subst (λ (n : ℕ). IsFilled w c.args.net.now c.args.bid.now table n) (spot_more table.layout (c.args.minute - table.layout.first) c.args.station.0) c.requires.filled;
+      asks = c.requires.asks;
+      few = omega arith;
+      layout = refl;
+      reach = refl;
+    }
+
+pub slots-smaller : goal.slots-smaller
+slots-smaller g c = omega (arith, c.slots-test.true)
+
+pub returns-clause-layout : goal.returns-clause-layout
+returns-clause-layout g c = c.slots.invariant.layout
+
+pub returns-then-not-has-clause-layout : goal.returns-then-not-has-clause-layout
+returns-then-not-has-clause-layout g c = refl

@@ -1,12 +1,13 @@
 -- A start, and the rest that the table has for it.
-use Rattle.std.proofs.Common.{arith, ◌≡◌, ◌∙◌, Some, None, Option, subst, sym, ap, ℤ, to_z, of_z}
+use Rattle.std.proofs.Common.{◌≡◌, ◌∙◌, Some, None, Option, subst, sym, ap, ℤ, to_z, of_z}
 use Rattle.std.specs.Prelude.{◌+ℤ◌}
 use Rattle.std.specs.Int.{w128}
-use Rattle.std.proofs.lemmas.Int.{ints}
 use Rattle.optra_checker.specs.Rests.{IsBestRest, AnyLeg, start_state, start_value}
 use Rattle.optra_checker.specs.Shares.{IsStartValue}
+use Rattle.optra_checker.specs.Sizes.{IsWholeRest}
 use Rattle.optra_checker.specs.Starts.{IsBestStart, IsAt}
 use Rattle.optra_checker.specs.Tables.{rest_at}
+use Rattle.optra_checker.proofs.ProductLemmas.{whole_rest_same, whole_same}
 use Rattle.optra_checker.proofs.StartLemmas.{start_rest, start_best, start_no_rest, start_refused, rest_whole}
 use Rattle.optra_checker.proofs.table.start_walk.Goals as goal
 
@@ -32,9 +33,7 @@ whole-requires-clause-rest g c =
     subst (λ (o : Option ℤ). IsBestRest w c.args.net.now c.args.bid.now (start_state c.args.bid.now.path c.args.minute) AnyLeg o) e
     (start_rest w c.args.net.now c.args.bid.now c.args.table.now c.args.minute c.requires.filled c.requires.window) in
     let size = rest_whole c.args.minute c.in_ok-rest.rest best.size in
-    let low = size.0 in
-    let high = size.1 in
-    (omega (arith, ints), omega (arith, ints))
+    subst IsWholeRest (sym (whole_rest_same c.in_ok-rest.rest size)) size
 
 pub returns : goal.returns
 returns g c =
@@ -44,14 +43,9 @@ returns g c =
     subst (λ (o : Option ℤ). IsBestRest w c.args.net.now c.args.bid.now (start_state c.args.bid.now.path c.args.minute) AnyLeg o) e
     (start_rest w c.args.net.now c.args.bid.now c.args.table.now c.args.minute c.requires.filled c.requires.window) in
     let size = rest_whole c.args.minute c.in_ok-rest.rest best.size in
-    let low = size.0 in
-    let high = size.1 in
     let v = c.start_value.ensures.value in
-    let a = c.start_value.ensures.range.0 in
-    let b = c.start_value.ensures.range.1 in
-    let range : IsStartValue (start_value c.args.bid.now c.args.minute) = subst IsStartValue v (omega (arith, ints), omega (arith, ints)) in
-    let sum = c.whole.ensures in
-    let t : to_z w128 (of_z w128 c.whole.result) ≡ c.start_value.result +ℤ c.in_ok-rest.rest = omega (arith, ints) in
+    let range = subst IsStartValue v c.start_value.ensures.range in
+    let t = whole_same c.start_value.result c.in_ok-rest.rest c.whole.result c.start_value.ensures.range size c.whole.ensures in
     let n : to_z w128 (of_z w128 c.whole.result) ≡ start_value c.args.bid.now c.args.minute +ℤ c.in_ok-rest.rest = t ∙ ap (λ (z : ℤ). z +ℤ c.in_ok-rest.rest) v in
     start_best w c.args.net.now c.args.bid.now c.args.minute c.in_ok-rest.rest (to_z w128 (of_z w128 c.whole.result)) c.requires.filled.setting.proper (sym c.may_start.ensures ∙ c.if-not-may_start.false)
     c.requires.window range best n

@@ -1,5 +1,5 @@
 -- One more leg.
-use Rattle.std.proofs.Common.{refl, subst, sym, false}
+use Rattle.std.proofs.Common.{arith, refl, subst, sym, false}
 use Rattle.std.specs.Prelude.{All}
 use Rattle.std.proofs.lemmas.List.{take_more, take_all}
 use Rattle.std.proofs.lemmas.List.Elements.{All-push}
@@ -40,3 +40,9 @@ leg_stays_free-requires-clause-ascending g c = c.requires.ascending
 
 pub leg_stays_free-requires-clause-proper : goal.leg_stays_free-requires-clause-proper
 leg_stays_free-requires-clause-proper g c = c.requires.proper
+
+pub leg_stays_free-requires-clause-usable : goal.leg_stays_free-requires-clause-usable
+leg_stays_free-requires-clause-usable g c = c.requires.usable c.legs.leg-index any_leg c.legs-test.true
+
+pub legs-init : goal.legs-init
+legs-init g c k d l = absurd (omega (arith, l))

@@ -1,5 +1,6 @@
-use Rattle.std.proofs.Common.{◌∙◌, sym, arith}
+use Rattle.std.proofs.Common.{◌∙◌, sym, arith, true≢false}
 use Rattle.optra_walk.specs.Families.{total_of}
+use Rattle.optra_checker.proofs.LoadedLemmas.{no_more, used_is_row}
 use Rattle.optra_checker.proofs.WatchLemmas.{watched_all, seen_more}
 use Rattle.optra_checker.proofs.watches.watch_leg.Goals as goal
 
@@ -40,3 +41,27 @@ returns-then-cap-leg_use-clause-kept g c = c.loop-k.invariant.kept
 
 pub returns-clause-kept : goal.returns-clause-kept
 returns-clause-kept g c = c.loop-k.invariant.kept
+
+pub loop-k-init : goal.loop-k-init
+loop-k-init g c = record { kept = λ q has. has; seen = λ j l. absurd (omega (arith, l)) }
+
+pub cap-requires : goal.cap-requires
+cap-requires g c =
+    let rows = g.F.RowFamily.rows_of c.args.rows.now c.args.net.now in
+    let used = g.F.RowFamily.rows_used c.args.rows.now c.args.net.now c.args.kind c.args.leg in
+    let lists = g.met.F.RowFamily.lists_rows c.args.rows.now c.args.net.now c.args.kind c.args.leg c.requires in
+    used_is_row g.F.Row.Ord.cmp rows.is_row (rows.uses c.args.kind c.args.leg) used c.loop-k.k c.in-Some.row lists (sym c.touched.ensures ∙ c.in-Some.is)
+
+pub returns-in_default-clause-watched : goal.returns-in_default-clause-watched
+returns-in_default-clause-watched g c t =
+    let rows = g.F.RowFamily.rows_of c.args.rows.now c.args.net.now in
+    let used = g.F.RowFamily.rows_used c.args.rows.now c.args.net.now c.args.kind c.args.leg in
+    let lists = g.met.F.RowFamily.lists_rows c.args.rows.now c.args.net.now c.args.kind c.args.leg c.requires in
+    watched_all rows c.args.kind g.F.Row.Ord.cmp (total_of g.F.Row.Ord.cmp c.args.loads.now) c.loop-k.watched.items c.args.leg used c.loop-k.k lists
+    (no_more used c.loop-k.k (λ row at. let is = c.in_default.is in let e = c.touched.ensures in cc)) c.loop-k.invariant.seen
+
+pub returns-then-cap-leg_use-clause-watched : goal.returns-then-cap-leg_use-clause-watched
+returns-then-cap-leg_use-clause-watched g c t = absurd (true≢false (sym t))
+
+pub loop-k-smaller : goal.loop-k-smaller
+loop-k-smaller g c = omega (arith, c.loop-k-test.true)
