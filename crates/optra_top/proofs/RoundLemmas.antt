@@ -300,6 +300,33 @@ played-first family Keeps net certs specs rules actions playing h are told = rec
   gap_is = subst (HasGap []) (sym h.gap_is) (no-elements _);
 }
 
+-- an auction that was begun has its specifications, its rules and its actions, and is begun of them
+pub begun-specs : {net : Net} {specs : List Bid} {rules : Rules} {actions : List TimedAct} {playing : Playing} → IsBegun net specs rules actions playing → playing.auction.specs ≡ specs
+begun-specs h = ap (λ (s : State). s.specs) h.auction_is
+
+pub begun-rules : {net : Net} {specs : List Bid} {rules : Rules} {actions : List TimedAct} {playing : Playing} → IsBegun net specs rules actions playing → playing.auction.rules ≡ rules
+begun-rules h = ap (λ (s : State). s.rules) h.auction_is
+
+pub begun-own : {net : Net} {specs : List Bid} {rules : Rules} {actions : List TimedAct} {playing : Playing} → IsBegun net specs rules actions playing → IsBegun net playing.auction.specs playing.auction.rules playing.left.items playing
+begun-own h = record {
+  auction_is = h.auction_is ∙ (λ i. opened (sym (begun-specs h) i) (sym (begun-rules h) i));
+  network_is = h.network_is;
+  held_are = h.held_are;
+  left_is = refl;
+  text_is = h.text_is;
+  puts_are = h.puts_are;
+  gap_is = h.gap_is;
+}
+
+-- where it is played out of what it has, it is played out of what it was begun of
+pub begun-played : {R : Type 0} (family : FamilyOf R) (Keeps : List Entry → Type 0) {net : Net} (certs : Option (List ℕ)) {specs : List Bid} {rules : Rules} {actions : List TimedAct} {playing : Playing}
+    → IsBegun net specs rules actions playing → (status : ℕ) (text : List ℕ) (puts : List (List ℕ × List ℕ))
+    → IsPlayedOut family Keeps net certs playing.auction.specs playing.auction.rules playing.left.items status text puts → IsPlayedOut family Keeps net certs specs rules actions status text puts
+begun-played family Keeps {net} certs {specs} {rules} {actions} {playing} h status text puts out =
+    subst (λ s. IsPlayedOut family Keeps net certs s rules actions status text puts) (begun-specs h)
+    (subst (λ r. IsPlayedOut family Keeps net certs playing.auction.specs r actions status text puts) (begun-rules h)
+    (subst (λ a. IsPlayedOut family Keeps net certs playing.auction.specs playing.auction.rules a status text puts) h.left_is out))
+
 -- the actions that are left have amounts in range
 pub left-amounts : (s : State) (actions : List TimedAct) → All (λ (a : TimedAct). HasAmount a.act) actions → All (λ (a : TimedAct). HasAmount a.act) (acts_left s actions)
 left-amounts s actions all = by s.closed

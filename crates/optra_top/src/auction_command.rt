@@ -8,7 +8,7 @@ ghost use Rattle.optra_tables.specs.Networks.{HasHeadwaysAlone};
 ghost use Rattle.optra_tables.specs.Outcomes.{Gives};
 ghost use Rattle.optra_top.specs.declared.files.Role.TheVariants.{Table as table_role};
 ghost use Rattle.optra_top.specs.AuctionCommand.{AuctionReplies, auction_of, next_auction_file};
-ghost use Rattle.optra_top.specs.AuctionRead.{auction_seen};
+ghost use Rattle.optra_top.specs.AuctionRead.{GivesCourse, auction_seen};
 ghost use Rattle.optra_top.specs.Families.{OfVersion};
 ghost use Rattle.optra_top.specs.Faults.{EndsReply};
 ghost use Rattle.optra_top.specs.Files.{file_asked, files_got};
@@ -92,7 +92,9 @@ pub fn reply(alloc: Global, files: &[Got], certs: &Option<PathText>) -> Result<A
         rules,
         actions,
     } = tables;
-    let Ok(answer) = play_by(alloc, version, &net, specs, rules, actions, certs) else {
+    let answer = play_by(alloc, version, &net, specs, rules, actions, certs);
+    drop(net);
+    let Ok(answer) = answer else {
         return Err(Fault::NoMemory);
     };
     Ok(answer)
@@ -150,15 +152,30 @@ fn read_auction(alloc: Global, files: &[Got]) -> Result<AuctionTables, ReadError
         → HasHeadwaysAlone tables.net) }
 {
     let tables = read_tables(alloc, files)?;
+    match read_course(alloc, files) {
+        Ok((rules, actions)) => Ok(AuctionTables {
+            version: tables.version,
+            net: tables.net,
+            specs: tables.bids,
+            rules,
+            actions,
+        }),
+        Err(error) => {
+            drop(tables);
+            Err(error)
+        }
+    }
+}
+
+/// The rules and the actions that the files mean, where the tables of the network and its bids have no fault.
+fn read_course(alloc: Global, files: &[Got]) -> Result<(Rules, Vec<TimedAct>), ReadError>
+    ensures read { GivesCourse (files_got files.now) result }
+    ensures rules { IfOk result (λ course. AreRules course.0) }
+    ensures actions { IfOk result (λ course. AreActions course.1.items) }
+{
     let rules_text = table_content(files, Table::Rules);
     let rules = read_rules(alloc, rules_text)?;
     let actions_text = table_content(files, Table::Actions);
     let actions = read_actions(alloc, actions_text)?;
-    Ok(AuctionTables {
-        version: tables.version,
-        net: tables.net,
-        specs: tables.bids,
-        rules,
-        actions,
-    })
+    Ok((rules, actions))
 }

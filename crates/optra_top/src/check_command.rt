@@ -60,7 +60,9 @@ pub fn reply(alloc: Global, files: &[Got]) -> Result<Answer, Fault>
         reply) fault) }
 {
     let tables = read_tables(alloc, files)?;
-    let Ok(answer) = answer_to(alloc, &tables, content_of(files, Role::Certificate)) else {
+    let answer = answer_to(alloc, &tables, content_of(files, Role::Certificate));
+    drop(tables);
+    let Ok(answer) = answer else {
         return Err(Fault::NoMemory);
     };
     Ok(answer)

@@ -51,7 +51,9 @@ pub fn reply(alloc: Global, seed: u32, size: u8) -> Result<Answer, Fault>
         net: &tables.net,
         bids: &tables.bids,
     };
-    let Ok(answer) = answer(alloc, seed, size, inst) else {
+    let answer = answer(alloc, seed, size, inst);
+    drop(tables);
+    let Ok(answer) = answer else {
         return Err(Fault::NoMemory);
     };
     Ok(answer)
@@ -71,16 +73,18 @@ fn read_demo(alloc: Global, seed: u32, size: u8) -> Result<Tables, NoMemory>
         Err(ReadError::NoMemory) => return Err(AllocError),
         Err(ReadError::Fault(_)) => unreachable!(),
     };
-    let bids = match read_bids(alloc, &net, &made.bids, &made.stops) {
-        Ok(bids) => bids,
-        Err(ReadError::NoMemory) => return Err(AllocError),
+    match read_bids(alloc, &net, &made.bids, &made.stops) {
+        Ok(bids) => Ok(Tables {
+            version: Version::First,
+            net,
+            bids,
+        }),
+        Err(ReadError::NoMemory) => {
+            drop(net);
+            Err(AllocError)
+        }
         Err(ReadError::Fault(_)) => unreachable!(),
-    };
-    Ok(Tables {
-        version: Version::First,
-        net,
-        bids,
-    })
+    }
 }
 
 /// The network that its tables mean.

@@ -49,7 +49,9 @@ pub fn reply(
         reply) fault) }
 {
     let tables = read_tables(alloc, files)?;
-    let Ok(answer) = reply_to(alloc, &tables, limits, cert) else {
+    let answer = reply_to(alloc, &tables, limits, cert);
+    drop(tables);
+    let Ok(answer) = answer else {
         return Err(Fault::NoMemory);
     };
     Ok(answer)

@@ -286,8 +286,40 @@ pub fn play<F: RowText>(
 {
     let names = names_of(alloc, &specs)?;
     let mut playing = begin(alloc, net, specs, rules, actions)?;
+    let answer = play_out(alloc, net, rows, &names, certs, &mut playing);
+    drop(playing);
+    answer
+}
+
+/// Plays the rounds of an auction of which nothing was played, until it is closed.
+fn play_out<'n, F: RowText>(
+    alloc: Global,
+    net: &'n Network,
+    rows: &F,
+    names: &[Name],
+    certs: &Option<PathText>,
+    playing: &mut Playing<'n>,
+) -> Result<Answer, NoMemory>
+    requires rule { (bids : List Planned) → TellsConflicts net.now bids (F.KeepsRule rows.now
+        net.now) }
+    requires apart { AreApart (F.texts_of rows.now).kinds }
+    requires few { AreFew F.Row.cmp (F.rows_of rows.now net.now) }
+    requires names { names.now ≡ spec_names playing.old.auction.specs }
+    requires paths { All (λ spec. IsPathOn net.now spec.path) playing.old.auction.specs }
+    requires rules { AreRules playing.old.auction.rules }
+    requires actions { AreActions playing.old.left.items }
+    requires begun { IsBegun net.now playing.old.auction.specs playing.old.auction.rules
+        playing.old.left.items playing.old }
+    ensures { IfOk result
+        (λ answer. IsPlayedOut
+        (record
+        { cmp = F.Row.cmp; rows = F.rows_of rows.now net.now; texts = F.texts_of rows.now })
+        (F.KeepsRule rows.now net.now) net.now certs.now playing.old.auction.specs
+        playing.old.auction.rules playing.old.left.items answer.status answer.text.items
+        (texts_of answer.puts.items)) }
+{
     'rounds: while !playing.auction.closed() {
-        play_round(alloc, net, rows, &names, certs, &mut playing)?;
+        play_round(alloc, net, rows, names, certs, playing)?;
     }
     finish(alloc, playing)
 }
@@ -314,20 +346,16 @@ fn begin<'n>(
     })
 }
 
-/// What a closed auction prints and puts.
-fn finish(alloc: Global, playing: Playing<'_>) -> Result<Answer, NoMemory>
-    ensures { IfOk result (λ answer. IsFinished playing.entry answer) }
+/// What a closed auction prints and puts, which is taken from it.
+fn finish(alloc: Global, playing: &mut Playing<'_>) -> Result<Answer, NoMemory>
+    ensures { IfOk result (λ answer. IsFinished playing.old answer) }
 {
     let bids = playing.auction.standing_bids(alloc)?;
     let last = close_of(alloc, &playing.auction, &bids, &playing.left)?;
-    let Playing {
-        mut text,
-        puts,
-        has_gap,
-        ..
-    } = playing;
-    text.extend_from_slice(&last)?;
-    let status = status(has_gap);
+    playing.text.extend_from_slice(&last)?;
+    let text = mem::replace(&mut playing.text, Vec::new(alloc));
+    let puts = mem::replace(&mut playing.puts, Vec::new(alloc));
+    let status = status(playing.has_gap);
     Ok(Answer { status, text, puts })
 }
 

@@ -97,8 +97,13 @@ pub fn read_tables(alloc: Global, files: &[Got]) -> Result<Tables, ReadError>
     let net = read_net(alloc, version, files)?;
     let bids = table_content(files, Table::Bids);
     let stops = table_content(files, Table::Stops);
-    let bids = read_bids(alloc, &net, bids, stops)?;
-    Ok(Tables { version, net, bids })
+    match read_bids(alloc, &net, bids, stops) {
+        Ok(bids) => Ok(Tables { version, net, bids }),
+        Err(error) => {
+            drop(net);
+            Err(error)
+        }
+    }
 }
 
 /// The network that its tables mean.

@@ -15,7 +15,13 @@ unreachable-requires-in-Err-Fault-read_bids c =
     bids_no_fault c.args.seed c.args.size c.requires.least c.requires.most c.in_ok-made.made c.in_ok-made.ensures c.in-Ok.net c.in-Err-Fault-read_bids.field-0-0 c.in-Ok.ensures.gives
     (rw (c.in-Err-Fault-read_bids.field-0-is, c.deref.ensures.value, c.deref-2.ensures.value) at c.in-Err-Fault-read_bids.ensures.gives)
 
-pub returns-clause-read : goal.returns-clause-read
-returns-clause-read c =
+pub returns-in-Ok-read_bids-clause-read : goal.returns-in-Ok-read_bids-clause-read
+returns-in-Ok-read_bids-clause-read c =
     demo_read c.args.seed c.args.size c.requires.least c.requires.most c.in_ok-made.made c.in_ok-made.ensures c.in-Ok.net (map parts_of c.in-Ok-read_bids.bids.items) c.in-Ok.ensures.gives
     (rw (c.deref.ensures.value, c.deref-2.ensures.value) at c.in-Ok-read_bids.ensures.gives)
+
+pub returns-in-Ok-read_bids-clause-instance : goal.returns-in-Ok-read_bids-clause-instance
+returns-in-Ok-read_bids-clause-instance c = c.in-Ok-read_bids.ensures.instance
+
+pub returns-in-Ok-read_bids-clause-alone : goal.returns-in-Ok-read_bids-clause-alone
+returns-in-Ok-read_bids-clause-alone c = c.in-Ok.ensures.alone

@@ -1,42 +1,42 @@
--- Each round goes on from those before it, and fewer may come; the last one closes the auction.
+-- What was begun is played out.
 use Rattle.std.proofs.Common.{sym, ap, ◌∙◌, subst, All}
-use Rattle.optra_auction.specs.Machine.{HasAmount, spec_names}
+use Rattle.std.proofs.lemmas.Result.{IfOk-weaker}
+use Rattle.optra_auction.specs.Machine.{AreRules, spec_names}
+use Rattle.optra_auction.specs.declared.Rules.{Rules}
 use Rattle.optra_bid.specs.Specs.{IsPathOn}
 use Rattle.optra_bid.specs.declared.bids.Bid.{Bid}
-use Rattle.optra_tables.specs.declared.TimedAct.{TimedAct}
-use Rattle.optra_top.proofs.RoundLemmas.{left-amounts, played-first, played-fewer, played-next}
+use Rattle.optra_tables.specs.Actions.{AreActions}
+use Rattle.optra_top.specs.Puts.{texts_of}
+use Rattle.optra_top.proofs.RoundLemmas.{begun-own, begun-played, begun-rules, begun-specs}
 use Rattle.optra_top.proofs.playing.play.Goals as goal
 
-pub rounds-init : goal.rounds-init
-rounds-init g c =
-    played-first (record { cmp = g.F.Row.Ord.cmp; rows = g.F.RowFamily.rows_of c.args.rows.now c.args.net.now; texts = g.F.RowText.texts_of c.args.rows.now })
-    (g.F.RowFamily.KeepsRule c.args.rows.now c.args.net.now) c.args.net.now c.args.certs.now c.args.specs.items c.args.rules c.args.actions.items c.in_ok-playing.playing
-    c.in_ok-playing.ensures c.requires.rules c.requires.actions
+pub play_out-answer-requires-clause-rule : goal.play_out-answer-requires-clause-rule
+play_out-answer-requires-clause-rule g c = c.requires.rule
 
-pub play_round-requires-clause-names : goal.play_round-requires-clause-names
-play_round-requires-clause-names g c = c.deref-in-rounds.ensures.value ∙ c.in_ok-names.ensures ∙ ap spec_names (c.deref.ensures.value ∙ sym c.rounds.invariant.specs_are)
+pub play_out-answer-requires-clause-apart : goal.play_out-answer-requires-clause-apart
+play_out-answer-requires-clause-apart g c = c.requires.apart
 
-pub play_round-requires-clause-paths : goal.play_round-requires-clause-paths
-play_round-requires-clause-paths g c = subst (All (λ (spec : Bid). IsPathOn c.args.net.now spec.path)) (sym c.rounds.invariant.specs_are) c.requires.paths
+pub play_out-answer-requires-clause-few : goal.play_out-answer-requires-clause-few
+play_out-answer-requires-clause-few g c = c.requires.few
 
-pub play_round-requires-clause-network : goal.play_round-requires-clause-network
-play_round-requires-clause-network g c = c.rounds.invariant.network_is
+pub play_out-answer-requires-clause-names : goal.play_out-answer-requires-clause-names
+play_out-answer-requires-clause-names g c = c.deref-2.ensures.value ∙ c.in_ok-names.ensures ∙ ap spec_names (c.deref.ensures.value ∙ sym (begun-specs c.in_ok-playing.ensures))
 
-pub play_round-requires-clause-amounts : goal.play_round-requires-clause-amounts
-play_round-requires-clause-amounts g c =
-    subst (All (λ (a : TimedAct). HasAmount a.act)) (sym c.rounds.invariant.left_is)
-    (left-amounts c.rounds.playing.auction c.args.actions.items c.requires.actions.amounts)
+pub play_out-answer-requires-clause-paths : goal.play_out-answer-requires-clause-paths
+play_out-answer-requires-clause-paths g c = subst (All (λ (spec : Bid). IsPathOn c.args.net.now spec.path)) (sym (begun-specs c.in_ok-playing.ensures)) c.requires.paths
 
-pub rounds-smaller : goal.rounds-smaller
-rounds-smaller g c =
-    played-fewer (record { cmp = g.F.Row.Ord.cmp; rows = g.F.RowFamily.rows_of c.args.rows.now c.args.net.now; texts = g.F.RowText.texts_of c.args.rows.now })
-    (g.F.RowFamily.KeepsRule c.args.rows.now c.args.net.now) c.args.net.now c.args.certs.now c.args.specs.items c.args.rules c.args.actions.items
-    c.rounds.playing c.play_round.new.playing (sym c.closed.ensures ∙ c.rounds-test.true) c.rounds.invariant
-    (rw (c.deref-in-rounds.ensures.value, c.in_ok-names.ensures, c.deref.ensures.value) at c.in_ok-play_round.ensures)
+pub play_out-answer-requires-clause-rules : goal.play_out-answer-requires-clause-rules
+play_out-answer-requires-clause-rules g c = subst AreRules (sym (begun-rules c.in_ok-playing.ensures)) c.requires.rules
 
-pub rounds-preserved : goal.rounds-preserved
-rounds-preserved g c =
-    played-next (record { cmp = g.F.Row.Ord.cmp; rows = g.F.RowFamily.rows_of c.args.rows.now c.args.net.now; texts = g.F.RowText.texts_of c.args.rows.now })
-    (g.F.RowFamily.KeepsRule c.args.rows.now c.args.net.now) c.args.net.now c.args.certs.now c.args.specs.items c.args.rules c.args.actions.items
-    c.rounds.playing c.play_round.new.playing (sym c.closed.ensures ∙ c.rounds-test.true) c.rounds.invariant
-    (rw (c.deref-in-rounds.ensures.value, c.in_ok-names.ensures, c.deref.ensures.value) at c.in_ok-play_round.ensures)
+pub play_out-answer-requires-clause-actions : goal.play_out-answer-requires-clause-actions
+play_out-answer-requires-clause-actions g c = subst AreActions (sym c.in_ok-playing.ensures.left_is) c.requires.actions
+
+pub play_out-answer-requires-clause-begun : goal.play_out-answer-requires-clause-begun
+play_out-answer-requires-clause-begun g c = begun-own c.in_ok-playing.ensures
+
+pub returns : goal.returns
+returns g c =
+    IfOk-weaker c.play_out-answer.result _ _
+    (λ answer out. begun-played (record { cmp = g.F.Row.Ord.cmp; rows = g.F.RowFamily.rows_of c.args.rows.now c.args.net.now; texts = g.F.RowText.texts_of c.args.rows.now })
+    (g.F.RowFamily.KeepsRule c.args.rows.now c.args.net.now) c.args.certs.now c.in_ok-playing.ensures answer.status answer.text.items (texts_of answer.puts.items) out)
+    c.play_out-answer.ensures

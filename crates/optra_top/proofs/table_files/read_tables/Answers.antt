@@ -13,15 +13,14 @@ returns-in_err-net-clause-read c =
     let contents = files_got c.args.files.now in
     Gives-kept tables_seen c.from_residual-in_err-net.result c.in_err-net.field-0.0 (meaning_of contents) c.from_residual-in_err-net.ensures.1 (Fails-net contents c.in_err-net.field-0.0 c.in_err-net.ensures.gives)
 
-pub returns-in_err-bids-clause-read : goal.returns-in_err-bids-clause-read
-returns-in_err-bids-clause-read c =
-    let contents = files_got c.args.files.now in
-    let fails = rw (c.table_content-bids.ensures, c.table_content-stops.ensures) at c.in_err-bids.ensures.gives in
-    Gives-kept tables_seen c.from_residual-in_err-bids.result c.in_err-bids.field-0.0 (meaning_of contents) c.from_residual-in_err-bids.ensures.1 (Fails-bids contents c.in_ok-net.net c.in_err-bids.field-0.0 c.in_ok-net.ensures.gives fails)
+pub returns-in-Err-clause-read : goal.returns-in-Err-clause-read
+returns-in-Err-clause-read c =
+    let fails = rw (c.table_content-bids.ensures, c.table_content-stops.ensures) at c.in-Err.ensures.gives in
+    Fails-bids (files_got c.args.files.now) c.in_ok-net.net c.in-Err.error c.in_ok-net.ensures.gives fails
 
-pub returns-clause-read : goal.returns-clause-read
-returns-clause-read c =
-    let read = rw (c.table_content-bids.ensures, c.table_content-stops.ensures) at c.in_ok-bids.ensures.gives in
-    let tables : Version → Tables = λ version. record { version = version; net = c.in_ok-net.net; bids = map parts_of c.in_ok-bids.bids.items } in
+pub returns-in-Ok-clause-read : goal.returns-in-Ok-clause-read
+returns-in-Ok-clause-read c =
+    let read = rw (c.table_content-bids.ensures, c.table_content-stops.ensures) at c.in-Ok.ensures.gives in
+    let tables : Version → Tables = λ version. record { version = version; net = c.in_ok-net.net; bids = map parts_of c.in-Ok.bids.items } in
     meaning-read (files_got c.args.files.now) c.in_ok-net.net _ c.in_ok-net.ensures.gives read
     ∙ ap (λ (version : Version). Ok (tables version)) (sym c.in_ok-version.ensures)
