@@ -9,6 +9,7 @@ use Rattle.optra_dag.specs.Paths.{no_arc}
 use Rattle.optra_network.specs.Net.{Net, out_tracks_of}
 use Rattle.optra_network.specs.declared.StationId.{StationId}
 use Rattle.optra_bid.specs.Specs.{Path}
+use Rattle.optra_walk.specs.Legs.{dwell_of}
 use Rattle.optra_walk.specs.declared.Leg.{Leg}
 use Rattle.optra_graph.specs.declared.states.Layout.{Layout}
 use Rattle.optra_graph.specs.declared.stepping.Step.{Step}
@@ -20,10 +21,12 @@ use Rattle.optra_graph.specs.Settings.{IsSetting}
 use Rattle.optra_graph.specs.Steps.{AreSteps}
 use Rattle.optra_graph.proofs.BlockLemmas.{emits_before}
 use Rattle.optra_graph.proofs.BoundLemmas.{few_column, few_next, few_room}
+use Rattle.optra_graph.proofs.ColumnLemmas.{columns_back}
 use Rattle.optra_graph.proofs.FlagLemmas.{default_same}
 use Rattle.optra_graph.proofs.NodeLemmas.{kept_less, kept_up}
-use Rattle.optra_graph.proofs.PlaceLemmas.{column_of}
+use Rattle.optra_graph.proofs.PlaceLemmas.{column_of, placed_at}
 use Rattle.optra_graph.proofs.ReachLemmas.{forward_at}
+use Rattle.optra_graph.proofs.StepLemmas.{dwell_small}
 
 module _ (net : Net) (path : Path) (layout : Layout) (setting : IsSetting net path layout) (flags : List Bool) (place : ℕ) (within : place < places_of layout) where
   -- its steps lead to later nodes, which are at most the end
@@ -36,6 +39,10 @@ module _ (net : Net) (path : Path) (layout : Layout) (setting : IsSetting net pa
   steps_nodes steps nodes e all k d l =
       let f = forward_at net path layout setting place (get_or steps k d) within (all.sound k d l) in
       let u = kept_up flags (get_or steps k d).to (places_of layout) f.1 in omega arith
+
+  -- their dwells are below 256
+  pub steps_short : (steps : List Step) → AreSteps net path layout (state_of layout place) steps → All (λ step. dwell_of step.leg.action < 256) steps
+  steps_short steps all k d l = dwell_small net path layout setting (state_of layout place) (placed_at layout (columns_back net path layout setting) place within) (get_or steps k d) (all.sound k d l)
 
   -- the arcs so far leave earlier nodes
   pub arcs_sorted : (first arcs : List Arc) (legs : List Leg) → All (λ arc. arc.from ≡ 0) first → Emits net path layout flags place first arcs legs → All (λ before. before.from ≤ node_of flags place) arcs

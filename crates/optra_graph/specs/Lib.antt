@@ -16,3 +16,4 @@ pub mod Served
 pub mod Keys
 pub mod GraphMaps
 pub mod FreshParts
+pub mod PackedLegs

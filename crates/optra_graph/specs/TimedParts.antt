@@ -3,4 +3,4 @@ use Rattle.optra_graph.specs.Timed.{Timed}
 use Rattle.optra_graph.specs.declared.timegraphs.TimeGraph.TheInside.{Inside}
 
 abbrev pub timed_of : Inside → Timed
-timed_of a = record { dag = a.dag; minutes = a.minutes.items; legs = a.legs.items }
+timed_of a = record { dag = a.dag; minutes = a.minutes.items; legs = a.legs }

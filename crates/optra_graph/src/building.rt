@@ -10,6 +10,7 @@ ghost use Rattle.optra_graph.specs.Timed.{IsGraphOf};
 use crate::columns::Columns;
 use crate::emitting::{add_legs, add_starts};
 use crate::kept::Kept;
+use crate::legs::Legs;
 use crate::numbering::number;
 use crate::reaching::{reach, trim};
 use crate::states::{Layout, make_layout};
@@ -116,7 +117,7 @@ fn emit(
     let mut minutes = Vec::new(alloc);
     add_starts(net, bid, layout, kept, &mut dag, &mut minutes)?;
     dag.reserve(arcs)?;
-    let mut legs = Vec::with_capacity(alloc, arcs)?;
+    let mut legs = Legs::with_room(alloc, arcs)?;
     add_legs(net, bid, layout, kept, &mut dag, &mut legs, table)?;
     let _arcs = dag.arcs();
     Ok(TimeGraph { dag, minutes, legs })

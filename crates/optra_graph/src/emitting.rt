@@ -1,5 +1,6 @@
 //! The arcs of a graph: first those of the starts, then those of the kept places, place by place.
 ghost use Rattle.std.specs.Prelude.{◌≡◌, ℕ, ◌+◌, ◌-◌, ◌<◌, ◌≤◌, ◌^◌, [], ◌++◌, All, length, map, filter, OnOk};
+ghost use Rattle.optra_walk.specs.Legs.{dwell_of};
 ghost use Rattle.optra_graph.specs.Arcs.{arc_of, is_kept, leg_of_step, Starts, Emits};
 ghost use Rattle.optra_graph.specs.Nodes.{node_of};
 ghost use Rattle.optra_graph.specs.Places.{places_of};
@@ -7,6 +8,7 @@ ghost use Rattle.optra_graph.specs.Settings.{IsSetting};
 ghost use Rattle.optra_graph.specs.StepTables.{AreStepsTo};
 
 use crate::kept::Kept;
+use crate::legs::Legs;
 use crate::reaching::{make_start, starts_end};
 use crate::states::Layout;
 use crate::step_table::StepTable;
@@ -14,7 +16,6 @@ use crate::stepping::Step;
 use optra_bid::Bid;
 use optra_dag::Dag;
 use optra_network::{Minute, Network, NoMemory};
-use optra_walk::Leg;
 
 /// Adds a start arc for each minute at which a walk begins.
 pub fn add_starts(
@@ -52,7 +53,7 @@ pub fn add_legs(
     layout: Layout<'_>,
     kept: Kept<'_>,
     dag: &mut Dag,
-    legs: &mut Vec<Leg>,
+    legs: &mut Legs,
     table: &StepTable,
 ) -> Result<(), NoMemory>
     requires setting { IsSetting net.now bid.now.path layout }
@@ -62,9 +63,9 @@ pub fn add_legs(
     requires starts { All (λ arc. arc.from ≡ 0) dag.old.arcs }
     requires few { length dag.old.arcs ≤ 2880 }
     requires ends { length dag.old.ends ≡ node_of kept.flags.now (places_of layout) + 1 }
-    requires legs { legs.old.items ≡ [] }
+    requires legs { legs.old ≡ [] }
     ensures arcs { OnOk result (Emits net.now bid.now.path layout.entry kept.entry.flags.now
-        (places_of layout.entry) dag.old.arcs dag.new.arcs legs.new.items) }
+        (places_of layout.entry) dag.old.arcs dag.new.arcs legs.new) }
     ensures ends { OnOk result (dag.new.ends ≡ dag.old.ends) }
 {
     for row in 0..table.rows() {
@@ -80,19 +81,20 @@ pub fn add_legs(
 /// Adds an arc from the node for each of the steps that lead to a place that is kept.
 fn add_arcs(
     dag: &mut Dag,
-    legs: &mut Vec<Leg>,
+    legs: &mut Legs,
     from: u32,
     steps: &[Step],
     kept: Kept<'_>,
 ) -> Result<(), NoMemory>
     requires within { All (λ step. step.to < length kept.flags.now) steps.now }
+    requires dwells { All (λ step. dwell_of step.leg.action < 256) steps.now }
     requires forward { All (λ step. from < node_of kept.flags.now step.to) steps.now }
     requires nodes { All (λ step. node_of kept.flags.now step.to < length dag.old.ends) steps.now }
     requires sorted { All (λ before. before.from ≤ from) dag.old.arcs }
     requires room { length dag.old.arcs + length steps.now ≤ 2 ^ 32 - 1 }
     ensures arcs { OnOk result (dag.new.arcs ≡ dag.old.arcs ++ map
         (arc_of kept.entry.flags.now from) (filter (is_kept kept.entry.flags.now) steps.now)) }
-    ensures legs { OnOk result (legs.new.items ≡ legs.old.items
+    ensures legs { OnOk result (legs.new ≡ legs.old
         ++ map leg_of_step (filter (is_kept kept.entry.flags.now) steps.now)) }
     ensures ends { OnOk result (dag.new.ends ≡ dag.old.ends) }
 {

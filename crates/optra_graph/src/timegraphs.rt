@@ -1,6 +1,7 @@
 //! Time-expanded graphs.
 ghost use Rattle.std.specs.Prelude.{◌≡◌, ◌<◌, length, IfOk};
 
+use crate::legs::Legs;
 use optra_dag::Dag;
 use optra_network::{Minute, NoMemory};
 use optra_walk::{Leg, Walk};
@@ -12,7 +13,7 @@ use std::marker::Model;
 pub struct TimeGraph {
     pub(crate) dag: Dag,
     pub(crate) minutes: Vec<Minute>,
-    pub(crate) legs: Vec<Leg>,
+    pub(crate) legs: Legs,
 }
 
 impl Model for TimeGraph {
@@ -47,7 +48,7 @@ impl TimeGraph {
         if arc < self.minutes.len() {
             None
         } else {
-            Some(self.legs[arc - self.minutes.len()])
+            Some(self.legs.at(arc - self.minutes.len()))
         }
     }
 
@@ -72,7 +73,7 @@ impl TimeGraph {
             if arc < starts {
                 continue;
             }
-            legs.push(self.legs[arc - starts])?;
+            legs.push(self.legs.at(arc - starts))?;
         }
         Ok(Walk { legs })
     }

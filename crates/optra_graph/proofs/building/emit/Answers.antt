@@ -29,18 +29,18 @@ add_legs-requires-clause-few c =
     rw c.reserve.ensures (omega (arith, f, m))
 
 -- the whole graph
-is_graph : (c : goal.After-arcs-arcs) → IsGraphOf c.args.net.now c.args.bid.now.path (record { dag = c.add_legs.new.dag; minutes = c.add_starts.new.minutes.items; legs = c.add_legs.new.legs.items })
+is_graph : (c : goal.After-arcs-arcs) → IsGraphOf c.args.net.now c.args.bid.now.path (record { dag = c.add_legs.new.dag; minutes = c.add_starts.new.minutes.items; legs = c.add_legs.new.legs })
 is_graph c =
     let v = c.places.ensures.value in
     let k = c.requires.kept.len in
     let n : get_or c.args.kept.numbers.now c.places.result 0 ≡ node_of c.args.kept.flags.now (places_of c.args.layout) = c.args.kept.numbered.each c.places.result (omega (arith, v, k)) ∙ ap (node_of c.args.kept.flags.now) v in
-    let made = subst (λ (g : Graph). Emits c.args.net.now c.args.bid.now.path c.args.layout c.args.kept.flags.now (places_of c.args.layout) g.arcs c.add_legs.new.dag.arcs c.add_legs.new.legs.items) c.reserve.ensures c.in_ok-add_legs.ensures.arcs in
+    let made = subst (λ (g : Graph). Emits c.args.net.now c.args.bid.now.path c.args.layout c.args.kept.flags.now (places_of c.args.layout) g.arcs c.add_legs.new.dag.arcs c.add_legs.new.legs) c.reserve.ensures c.in_ok-add_legs.ensures.arcs in
     let ends : c.add_legs.new.dag.ends ≡ set (replicate (node_of c.args.kept.flags.now (places_of c.args.layout) + 1) false) (node_of c.args.kept.flags.now (places_of c.args.layout)) true =
     c.in_ok-add_legs.ensures.ends ∙ ap (λ (g : Graph). g.ends) c.reserve.ensures ∙ c.in_ok-add_starts.ensures.ends ∙ c.set_end.ensures.ends
     ∙ ap (λ (es : List Bool). set es (get_or c.args.kept.numbers.now c.places.result 0) true) c.in_ok-dag.ensures.1
     ∙ ap (λ (e : ℕ). set (replicate (e + 1) false) e true) n in
     graph_of_timed c.args.net.now c.args.bid.now.path _ (states_of c.args.layout (places_of c.args.layout) c.args.kept.flags.now)
-    (timed_is c.args.net.now c.args.bid.now.path c.args.layout c.requires.setting c.args.kept.flags.now c.requires.kept c.add_starts.new.dag.arcs c.add_legs.new.dag.arcs c.add_starts.new.minutes.items c.add_legs.new.legs.items (c.args.layout.first + c.args.layout.minutes) refl
+    (timed_is c.args.net.now c.args.bid.now.path c.args.layout c.requires.setting c.args.kept.flags.now c.requires.kept c.add_starts.new.dag.arcs c.add_legs.new.dag.arcs c.add_starts.new.minutes.items c.add_legs.new.legs (c.args.layout.first + c.args.layout.minutes) refl
     c.in_ok-add_starts.ensures.starts made c.add_legs.new.dag.ends ends c.arcs-arcs.ensures.forward)
 
 pub invariant_of-result : goal.invariant_of-result
