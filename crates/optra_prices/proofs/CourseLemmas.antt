@@ -12,7 +12,7 @@ use Rattle.optra_node.proofs.LeastLemmas.{at_contains}
 use Rattle.optra_prices.specs.Columns.{IsColumns}
 use Rattle.optra_prices.specs.Courses.{prices_at, zero_valuation, HaveCapacities, AreSetUp, IsCourse, IsPriced}
 use Rattle.optra_prices.specs.Levels.{IsLevels}
-use Rattle.optra_prices.specs.Uses.{AreCounted, paths_in}
+use Rattle.optra_prices.specs.Uses.{AreCounted, lists_in}
 use Rattle.optra_prices.specs.Listings.{capacity_sum, capacity_below}
 use Rattle.optra_prices.specs.Replies.{IsValuation}
 use Rattle.optra_prices.specs.Standings.{Agrees, AreTables, AllStand, value_of}
@@ -103,7 +103,7 @@ module _ {R : Type 0} (cmp : R → R → Ordering) (s : Setting R) (c : ArcTable
   tables_same = subst (λ groups. AreTables s (length s.bids) c.numbering.rows.items groups c.tables.items) (sym is_columns.groups_are)
 
   -- after prices of rows have moved on and other paths were counted, what is set up stays so
-  pub counted_on : (levels : Levels) (counted : Vec (Vec ℕ Global) Global) → AreSetUp cmp s c → IsLevels levels → AreCounted c.columns.groups c.tables.items (paths_in counted.items) levels.loads.uses → length levels.prices.items ≡ length c.levels.prices.items → levels.loads.capacities ≡ c.levels.loads.capacities → columns.grouped ≡ c.columns.grouped
+  pub counted_on : (levels : Levels) (counted : Vec (Vec ℕ Global) Global) → AreSetUp cmp s c → IsLevels levels → AreCounted c.columns.groups (length c.tables.items) (lists_in counted.items) levels.loads.uses → length levels.prices.items ≡ length c.levels.prices.items → levels.loads.capacities ≡ c.levels.loads.capacities → columns.grouped ≡ c.columns.grouped
       → AreSetUp cmp s (record c { levels = levels; columns = columns; counted = counted })
   counted_on levels counted is is_levels counts count capacities grouped = record {
     numbering = is.numbering;
@@ -111,7 +111,7 @@ module _ {R : Type 0} (cmp : R → R → Ordering) (s : Setting R) (c : ArcTable
     capacities = subst (λ (cs : List ℕ). HaveCapacities s.rows c.numbering.rows.items cs) (sym capacities) is.capacities;
     price_count = count ∙ is.price_count;
     levels = is_levels;
-    counted = subst (λ groups. AreCounted groups c.tables.items (paths_in counted.items) levels.loads.uses) (sym is_columns.groups_are) counts;
+    counted = subst (λ groups. AreCounted groups (length c.tables.items) (lists_in counted.items) levels.loads.uses) (sym is_columns.groups_are) counts;
     columns = own_columns c.columns.groups columns is_columns;
     tables = tables_same is.tables;
     stand = subst (λ prices. AllStand c.tables.items prices.items c.standings.items) (sym grouped) is.stand;
@@ -123,4 +123,4 @@ module _ {R : Type 0} (cmp : R → R → Ordering) (s : Setting R) (c : ArcTable
   -- so does it where uses stay
   pub set_up_on : (levels : Levels) → AreSetUp cmp s c → IsLevels levels → levels.loads.uses ≡ c.levels.loads.uses → length levels.prices.items ≡ length c.levels.prices.items → levels.loads.capacities ≡ c.levels.loads.capacities → columns.grouped ≡ c.columns.grouped
       → AreSetUp cmp s (record c { levels = levels; columns = columns })
-  set_up_on levels is is_levels uses = counted_on levels c.counted is is_levels (subst (λ (us : List ℕ). AreCounted c.columns.groups c.tables.items (paths_in c.counted.items) us) (sym uses) is.counted)
+  set_up_on levels is is_levels uses = counted_on levels c.counted is is_levels (subst (λ (us : List ℕ). AreCounted c.columns.groups (length c.tables.items) (lists_in c.counted.items) us) (sym uses) is.counted)

@@ -19,7 +19,8 @@ use Rattle.optra_prices.specs.Listings.{AddsZeros}
 use Rattle.optra_prices.specs.Replies.{IsValuation}
 use Rattle.optra_prices.specs.Tables.{group_at, group_price, AreGroupPrices, allows_by, weight_by}
 use Rattle.optra_prices.specs.Terms.{Setting}
-use Rattle.optra_prices.specs.Standings.{Stands, AreTables, AllStand, valuation_of}
+use Rattle.optra_prices.specs.Standings.{Stands, AreTables, AllStand, groups_on, valuation_of}
+use Rattle.optra_prices.specs.ArcTerms.{ArcTerm}
 use Rattle.optra_prices.specs.declared.numbering.BidTable.{BidTable}
 use Rattle.optra_prices.specs.declared.numbering.Groups.{Groups}
 use Rattle.optra_prices.specs.declared.numbering.Standing.{Standing}
@@ -32,10 +33,12 @@ use Rattle.optra_prices.proofs.SettledLemmas.{stuck_at, settled_valuation}
 
 -- where nothing has changed, what was known stands
 pub brought_stands : (c : Bool) (before after : BidTable) (grouped : List ℤ) (standing : Standing) → c ≡ false → IsBrought c before after → Stands before grouped standing → Stands after grouped standing
-brought_stands c before after grouped standing same is stands =
-    subst (λ (forced : Bool). IsFound after.graph.now.dag (allows_by after.arcs) (weight_by after.arcs grouped) forced standing.path.items standing.term standing.stuck) (sym (is.forced same))
-    (found_moves before.graph.now.dag after.graph.now.dag before.arcs after.arcs grouped grouped before.forced standing.path.items standing.term standing.term standing.stuck
-    (ap (λ (t : Timed). t.dag) (sym is.graph)) (sym (is.arcs same)) refl refl stands)
+brought_stands c before after grouped standing same is stands = record {
+  found = subst (λ (forced : Bool). IsFound after.graph.now.dag (allows_by after.arcs) (weight_by after.arcs grouped) forced standing.path.items standing.term standing.stuck) (sym (is.forced same))
+      (found_moves before.graph.now.dag after.graph.now.dag before.arcs after.arcs grouped grouped before.forced standing.path.items standing.term standing.term standing.stuck
+      (ap (λ (t : Timed). t.dag) (sym is.graph)) (sym (is.arcs same)) refl refl stands.found);
+  groups_are = stands.groups_are ∙ ap (λ (arcs : List ArcTerm). groups_on arcs standing.path.items) (sym (is.arcs same));
+}
 
 -- without prices a group costs nothing
 no_price : (touches : List Touch) → group_price [] touches ≡ pos 0

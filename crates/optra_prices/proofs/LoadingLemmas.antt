@@ -18,19 +18,20 @@ use Rattle.optra_walk.specs.Families.{Rows, Entry, IsUsable, ListsRows, TellsApa
 use Rattle.optra_graph.specs.Timed.{Timed, IsRoute, IsLegArc, leg_of, leg_at, start_of}
 use Rattle.optra_node.proofs.LoadLemmas.{contains_cases}
 use Rattle.optra_node.proofs.RowLemmas.{equal_is}
+use Rattle.optra_node.proofs.SumLemmas.{sum_by-map}
 use Rattle.optra_prices.specs.Arcs.{path_reply}
 use Rattle.optra_prices.specs.Holdings.{entries_one, part_of}
 use Rattle.optra_prices.specs.Tables.{AreTouches, no_arc}
 use Rattle.optra_prices.specs.Terms.{Setting, AreBidArcs}
 use Rattle.optra_prices.specs.Standings.{AreTables, AllStand, IsSound, replies_of}
-use Rattle.optra_prices.specs.Uses.{touch_use, touch_uses, arc_touches, path_uses, all_uses, paths_of, HasGroups}
+use Rattle.optra_prices.specs.Uses.{touch_use, touch_uses, arc_touches, touches_at, path_uses, list_uses, all_uses, lists_of}
 use Rattle.optra_prices.specs.declared.numbering.BidTable.{BidTable}
 use Rattle.optra_prices.specs.declared.numbering.Groups.{Groups}
 use Rattle.optra_prices.specs.declared.numbering.Standing.{Standing}
 use Rattle.optra_prices.specs.declared.touch.Touch.{Touch}
 use Rattle.optra_prices.proofs.ArcLemmas.{leg_there}
 use Rattle.optra_prices.proofs.HoldLemmas.{part_all}
-use Rattle.optra_prices.proofs.ListLemmas.{all_at, some_at}
+use Rattle.optra_prices.proofs.ListLemmas.{all_at}
 use Rattle.optra_prices.proofs.TermLemmas.{arc_usable}
 use Rattle.optra_prices.proofs.UseLemmas.{path_within}
 use Rattle.optra_prices.proofs.ValueOfLemmas.{path_route}
@@ -95,6 +96,25 @@ first_load : {R : Type 0} (rows : Rows R) (row : R) (bid : Bid) (walk : Option (
     → load_of rows row (entries_of (bid ∷ bids) (walk ∷ walks)) ≡ load_of rows row (entries_one bid walk) + load_of rows row (entries_of bids walks)
 first_load rows row bid None bids walks = omega arith
 first_load rows row bid (Some legs) bids walks = sum_by-append (λ (e : Entry). rows.uses e.0 e.1 row) (map (λ leg. (bid.path.kind, leg)) legs) (entries_of bids walks)
+
+-- how much the paths of the replies use of the row with number n
+abbrev paths_use : Groups → List BidTable → List Standing → ℕ → ℕ
+paths_use groups [] standings n = 0
+paths_use groups (table ∷ tables) [] n = 0
+paths_use groups (table ∷ tables) (standing ∷ standings) n = path_uses groups table standing.path.items n + paths_use groups tables standings n
+
+-- as much as their groups
+lists_use : (groups : Groups) (n : ℕ) (tables : List BidTable) (prices : List ℤ) (standings : List Standing) → AllStand tables prices standings → all_uses groups (lists_of standings) n ≡ paths_use groups tables standings n
+lists_use groups n [] prices [] stand = refl
+lists_use groups n [] prices (standing ∷ standings) stand = absurd (let c = stand.count_is in omega arith)
+lists_use groups n (table ∷ tables) prices [] stand = refl
+lists_use groups n (table ∷ tables) prices (standing ∷ standings) stand =
+    let is = (stand.each 0 table standing refl refl).groups_are in
+    let here : list_uses groups standing.groups.items n ≡ path_uses groups table standing.path.items n =
+    ap (λ (gs : List ℕ). list_uses groups gs n) is ∙ sum_by-map (λ (g : ℕ). touch_uses (touches_at groups g) n) (λ (k : ℕ). (get_or table.arcs k no_arc).group) standing.path.items
+    in
+    let rest = lists_use groups n tables prices standings (record { count_is = let c = stand.count_is in omega arith; each = λ number t x t_at x_at. stand.each (suc number) t x t_at x_at }) in
+    omega arith
 
 module _ {R : Type 0} (cmp : R → R → Ordering) (total : IsTotalOrder cmp) (apart : TellsApart cmp) (s : Setting R) (proper : IsProper s.net)
     (lists : (kind : TypeId) (leg : Leg) → IsUsable s.net kind leg → ListsRows cmp s.rows.is_row (s.rows.uses kind leg) (s.used kind leg)) (numbered : List R) (groups : Groups) where
@@ -167,20 +187,11 @@ module _ {R : Type 0} (cmp : R → R → Ordering) (total : IsTotalOrder cmp) (a
   module _ (tables : List BidTable) (prices : List ℤ) (standings : List Standing) (are : AreTables s (length s.bids) numbered groups tables) (sound : All IsSound tables) (stand : AllStand tables prices standings) where
     -- the uses by number of a row are what the replies use of it
     pub uses_load : (once : (i j : ℕ) (row : R) → slice_get numbered i ≡ Some row → slice_get numbered j ≡ Some row → i ≡ j) (n : ℕ) (row : R) → slice_get numbered n ≡ Some row
-        → all_uses groups tables (paths_of standings) n ≡ load_of s.rows row (entries_of s.bids (replies_of tables standings))
-    uses_load once n row at = by_bids row (λ table path. path_uses groups table path n) (λ ts ss. all_uses groups ts (paths_of ss) n) (λ ss. refl) (λ t ts x ss. refl) s.bids tables standings are.count_is stand.count_is
+        → all_uses groups (lists_of standings) n ≡ load_of s.rows row (entries_of s.bids (replies_of tables standings))
+    uses_load once n row at = lists_use groups n tables prices standings stand ∙ by_bids row (λ table path. path_uses groups table path n) (λ ts ss. paths_use groups ts ss n) (λ ss. refl) (λ t ts x ss. refl) s.bids tables standings are.count_is stand.count_is
         (λ number bid table standing b_at t_at x_at. numbered_load number bid table (are.each number bid table b_at t_at).arcs_are standing.path.items (path_within table prices standing (all_at IsSound tables number table sound t_at) (stand.each number table standing t_at x_at)) (path_route table prices standing (stand.each number table standing t_at x_at)) once n row at)
 
     -- a row without a number is not used by the replies
     pub no_load : (row : R) → ((n : ℕ) → slice_get numbered n ≡ Some row → ⊥) → load_of s.rows row (entries_of s.bids (replies_of tables standings)) ≡ 0
     no_load row none = sym (by_bids row (λ table path. 0) (λ ts ss. 0) (λ ss. refl) (λ t ts x ss. omega arith) s.bids tables standings are.count_is stand.count_is
         (λ number bid table standing b_at t_at x_at. sym (unnumbered_load number bid table (are.each number bid table b_at t_at).arcs_are standing.path.items (path_within table prices standing (all_at IsSound tables number table sound t_at) (stand.each number table standing t_at x_at)) (path_route table prices standing (stand.each number table standing t_at x_at)) row none)))
-
-    -- each arc has a group
-    pub tables_grouped : All (HasGroups groups) tables
-    tables_grouped k d l =
-        let c = are.count_is in
-        let b = some_at s.bids k (omega arith) in
-        let at : slice_get tables k ≡ Some (get_or tables k d) = slice_get-get_or tables k d l in
-        let arcs = (are.each k b.0 (get_or tables k d) b.1 at).arcs_are in
-        record { are = arcs.groups; within = arcs.terms.within }

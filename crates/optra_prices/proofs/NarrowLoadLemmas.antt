@@ -1,4 +1,4 @@
--- Uses and capacities of rows below 2^16, which are held side by side.
+-- Uses and capacities of rows below 2^8, which are held side by side.
 use Rattle.std.proofs.Common.{◌≡◌, ℕ, zero, suc, ◌+◌, ◌≤◌, ◌<◌, List, [], ◌∷◌, ◌++◌, length, take, set, get_or, refl, sym, ap, ◌∙◌, arith}
 use Rattle.std.proofs.lemmas.List.{length-set, length-take}
 use Rattle.optra_prices.specs.Loads.{used_in, narrow_capacities_in, no_narrow_load}

@@ -1,6 +1,6 @@
 -- Prices of groups that move along with a price of a row.
-use Rattle.std.proofs.Common.{◌≡◌, ℕ, zero, suc, ◌+◌, ◌-◌, ◌*◌, ◌≤◌, ◌<◌, Bool, true, false, cond, List, [], ◌∷◌, length, set, get_or, refl, sym, ap, ◌∙◌, subst, arith, inl, inr}
-use Rattle.std.specs.Prelude.{All, ℤ, pos, negsuc, ◌+ℤ◌, ◌-ℤ◌, ◌*ℤ◌, ◌≤ℤ◌, slice_index, slice_index_or}
+use Rattle.std.proofs.Common.{◌≡◌, ℕ, zero, suc, ◌+◌, ◌-◌, ◌*◌, ◌≤◌, ◌<◌, Bool, cond, List, [], ◌∷◌, length, set, refl, sym, ap, ◌∙◌, subst, arith, inl, inr}
+use Rattle.std.specs.Prelude.{All, ℤ, pos, ◌+ℤ◌, ◌-ℤ◌, ◌*ℤ◌, ◌≤ℤ◌, slice_index, slice_index_or}
 use Rattle.std.proofs.lemmas.Bool.{cases_lt, cases_eq, eq-eqb, ne_eqb}
 use Rattle.std.proofs.lemmas.Bool.Decides.{eqb_tells}
 use Rattle.std.proofs.lemmas.Int.{ints}
@@ -10,7 +10,7 @@ use Rattle.std.proofs.Math.IntN.{*ℤ_comm, *ℤ-zero, suc_ℤ-*ℤ}
 use Rattle.optra_bid.specs.Specs.{IsBetween}
 use Rattle.optra_node.proofs.SumLemmas.{sum_of-cons}
 use Rattle.optra_prices.specs.Columns.{IsColumns, AreRunning, AreStill, IsPriceMove, IsGroupMove, IsMovedPrice, MovesRunning, PricesAllButDue, price_at}
-use Rattle.optra_prices.specs.Shares.{amount_at, share_to, share_of}
+use Rattle.optra_prices.specs.Shares.{amount_at, share_to}
 use Rattle.optra_prices.specs.Tables.{AreGroupPrices, IsRowPrice, IsGroupPrice, group_at, group_price, uses_in_all}
 use Rattle.optra_prices.specs.Uses.{touch_use, touch_uses}
 use Rattle.optra_prices.specs.declared.columns.Columns.{Columns}

@@ -79,17 +79,17 @@ module _ {R : Type 0} (cmp : R → R → Ordering) (s : Setting R) (proper : IsP
     pub reply_is : IsReply s.net s.rows s.bids s.node listed number bid (path_reply table.graph.now standing.path.items)
     reply_is =
         found_reply s.net proper s.rows s.bids law s.node listed number bid table.graph.now are.graph (allows_by table.arcs) (weight_by table.arcs grouped) by_table
-        table.forced standing.stuck standing.path.items standing.term are.forced_is stands
+        table.forced standing.stuck standing.path.items standing.term are.forced_is stands.found
 
     pub term_is : IsTerm s.net s.rows s.bids s.node listed number bid standing.term
     term_is =
         found_term s.net proper s.rows s.bids law s.node listed number bid table.graph.now are.graph (allows_by table.arcs) (weight_by table.arcs grouped) by_table
-        table.forced standing.stuck standing.path.items standing.term are.forced_is stands
+        table.forced standing.stuck standing.path.items standing.term are.forced_is stands.found
 
     pub stuck_is : (standing.stuck ≡ true) ↔ IsStuck s.net s.rows s.bids s.node number bid
     stuck_is =
         found_stuck s.net proper s.rows s.bids law s.node listed number bid table.graph.now are.graph (allows_by table.arcs) (weight_by table.arcs grouped) by_table
-        (weight_by table.arcs grouped) table.forced standing.stuck standing.path.items standing.term are.forced_is stands
+        (weight_by table.arcs grouped) table.forced standing.stuck standing.path.items standing.term are.forced_is stands.found
 
 -- a place of the lists of replies and of terms
 replies_at : (tables : List BidTable) (standings : List Standing) (k : ℕ) (reply : Option (List Leg)) → slice_get (replies_of tables standings) k ≡ Some reply

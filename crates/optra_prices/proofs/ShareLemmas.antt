@@ -1,14 +1,13 @@
 -- How much groups use of rows, by amounts beside the index of the groups that touch each row.
-use Rattle.std.proofs.Common.{◌≡◌, ◌≢◌, ◌⊎◌, ℕ, zero, suc, ◌+◌, ◌-◌, ◌≤◌, ◌<◌, Bool, true, false, cond, List, [], ◌∷◌, length, map, take, drop, get_or, refl, sym, ap, ◌∙◌, subst, arith, inl, inr}
+use Rattle.std.proofs.Common.{◌≡◌, ℕ, zero, suc, ◌+◌, ◌-◌, ◌≤◌, ◌<◌, Bool, true, false, cond, List, length, take, drop, get_or, refl, sym, ap, ◌∙◌, subst, arith, inl, inr}
 use Rattle.std.specs.Prelude.{nat_eq, sum_by, slice_index}
-use Rattle.std.specs.List.{slice_range}
 use Rattle.std.proofs.lemmas.Bool.{cases_lt, eq-eqb, ne_eqb}
 use Rattle.std.proofs.lemmas.Bool.Decides.{eqb_tells}
 use Rattle.std.proofs.lemmas.List.{get_or_past, get_or-map, get_or-drop, length-map, length-drop, take_all}
 use Rattle.std.proofs.lemmas.List.Sums.{sum_by_more}
 use Rattle.optra_prices.specs.NarrowTouches.{no_touch}
 use Rattle.optra_prices.specs.Indexes.{AreCursors, IsPlaced, count_of, count_below, put_place}
-use Rattle.optra_prices.specs.Shares.{sum_to, amount_at, share_to, share_of, AreShares, ArePutUses, uses_touched}
+use Rattle.optra_prices.specs.Shares.{sum_to, amount_at, share_to, share_of, AreShares, ArePutUses}
 use Rattle.optra_prices.specs.Tables.{AreGroups, group_at}
 use Rattle.optra_prices.specs.Users.{rows_touched}
 use Rattle.optra_prices.specs.Uses.{touch_use, touch_uses}

@@ -53,7 +53,7 @@ weight_in arcs grouped values prices k l =
 
 -- a term is less than 2^92 in size
 pub term_size : (table : BidTable) (grouped : List ℤ) (standing : Standing) → IsSound table → All IsGroupPrice grouped → Stands table grouped standing → IsTermSize standing.term
-term_size table grouped standing sound range stands = by stands
+term_size table grouped standing sound range stands = by stands.found
   where
     by : IsFound table.graph.now.dag (allows_by table.arcs) (weight_by table.arcs grouped) table.forced standing.path.items standing.term standing.stuck → IsTermSize standing.term
     by (inl none) = let z = none.term_is in (omega (arith, ints), omega (arith, ints))

@@ -2,12 +2,12 @@
 use Rattle.std.proofs.Common.{◌≡◌, ℕ, ◌<◌, Bool, List, [], ◌∷◌, zero, suc, length, get_or, refl, ◌∙◌, sym, subst, arith, ℤ, ◌+ℤ◌, ◌≤ℤ◌, inl, inr}
 use Rattle.std.specs.Prelude.{All}
 use Rattle.std.proofs.lemmas.Int.{ints}
-use Rattle.std.proofs.lemmas.List.Elements.{All-head, All-tail}
+use Rattle.std.proofs.lemmas.List.Elements.{All-nil, All-cons, All-head, All-tail}
 use Rattle.optra_dag.specs.Paths.{Graph, IsFirstBest, LeadsToEnd, to_of, weight_of}
 use Rattle.optra_prices.specs.Arcs.{IsFound}
 use Rattle.optra_prices.specs.Columns.{MarksTell, HasNotFallen, HasNotRisen}
 use Rattle.optra_prices.specs.Holders.{HaveNotFallen, groups_of}
-use Rattle.optra_prices.specs.Standings.{Stands, IsSound}
+use Rattle.optra_prices.specs.Standings.{Stands, IsSound, groups_on}
 use Rattle.optra_prices.specs.Tables.{allows_by, weight_by, no_arc}
 use Rattle.optra_prices.specs.declared.columns.Mark.{Mark}
 use Rattle.optra_prices.specs.ArcTerms.{ArcTerm}
@@ -87,7 +87,13 @@ module _ (table : BidTable) (old new : List ℤ) (marks : List Mark) (sound : Is
   kept_same path term stuck unrisen (inr (inr found)) = path_same 0 path found.best.path.leads unrisen
 
   -- where no group of the bid fell and none of its reply rose, what is known of it stands
-  pub stands_still : (standing : Standing) → All (λ k. HasNotRisen marks (arc_at k).group) standing.path.items → Stands table old standing → Stands table new standing
-  stands_still standing unrisen stands =
-      found_stays table.graph.now.dag (allows_by table.arcs) (weight_by table.arcs old) (weight_by table.arcs new) arc_fell table.forced standing.path.items standing.term standing.stuck
-      (kept_same standing.path.items standing.term standing.stuck unrisen stands) stands
+  pub stands_still : (standing : Standing) → All (HasNotRisen marks) standing.groups.items → Stands table old standing → Stands table new standing
+  stands_still standing unrisen stands = record {
+    found = found_stays table.graph.now.dag (allows_by table.arcs) (weight_by table.arcs old) (weight_by table.arcs new) arc_fell table.forced standing.path.items standing.term standing.stuck
+        (kept_same standing.path.items standing.term standing.stuck (on_path standing.path.items (subst (All (HasNotRisen marks)) stands.groups_are unrisen)) stands.found) stands.found;
+    groups_are = stands.groups_are;
+  }
+    where
+      on_path : (path : List ℕ) → All (HasNotRisen marks) (groups_on table.arcs path) → All (λ k. HasNotRisen marks (arc_at k).group) path
+      on_path [] all = All-nil (λ k. HasNotRisen marks (arc_at k).group)
+      on_path (k ∷ path) all = All-cons (λ j. HasNotRisen marks (arc_at j).group) k path (All-head (HasNotRisen marks) (arc_at k).group (groups_on table.arcs path) all) (on_path path (All-tail (HasNotRisen marks) (arc_at k).group (groups_on table.arcs path) all))

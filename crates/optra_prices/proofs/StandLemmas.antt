@@ -7,7 +7,7 @@ use Rattle.std.proofs.lemmas.Bool.{cases_eq}
 use Rattle.std.proofs.lemmas.Option.{same_Some, slice_get_within, get_or_from_slice_get}
 use Rattle.optra_prices.specs.Arcs.{IsFound}
 use Rattle.optra_prices.specs.Tables.{allows_by, weight_by, no_arc, IsGroupPrice}
-use Rattle.optra_prices.specs.Standings.{Stands, IsCopy, IsSound, AllStand, AreCopies, IsTermSize}
+use Rattle.optra_prices.specs.Standings.{Stands, IsCopy, IsSound, AllStand, AreCopies, IsTermSize, groups_on}
 use Rattle.optra_prices.specs.declared.numbering.BidTable.{BidTable}
 use Rattle.optra_prices.specs.declared.numbering.Standing.{Standing}
 use Rattle.optra_prices.proofs.ListLemmas.{some_at, all_at}
@@ -97,9 +97,12 @@ terms_small tables grouped standings sound range stand k d l =
 pub copy_stands : (table : BidTable) (grouped : List ℤ) (standing copy : Standing) → IsCopy standing copy → Stands table grouped standing → Stands table grouped copy
 copy_stands table grouped standing copy same is =
     let found = λ (path : List ℕ) (term : ℤ) (stuck : Bool). IsFound table.graph.now.dag (allows_by table.arcs) (weight_by table.arcs grouped) table.forced path term stuck in
-    subst (λ (b : Bool). found copy.path.items copy.term b) (sym same.stuck)
-    (subst (λ (z : ℤ). found copy.path.items z standing.stuck) (sym same.term)
-    (subst (λ (xs : List ℕ). found xs standing.term standing.stuck) (sym same.path) is))
+    record {
+      found = subst (λ (b : Bool). found copy.path.items copy.term b) (sym same.stuck)
+          (subst (λ (z : ℤ). found copy.path.items z standing.stuck) (sym same.term)
+          (subst (λ (xs : List ℕ). found xs standing.term standing.stuck) (sym same.path) is.found));
+      groups_are = same.groups ∙ is.groups_are ∙ ap (groups_on table.arcs) (sym same.path);
+    }
 
 pub copies_stand : (tables : List BidTable) (grouped : List ℤ) (standings copies : List Standing) → AreCopies standings copies → AllStand tables grouped standings → AllStand tables grouped copies
 copies_stand tables grouped standings copies same stand = record {
@@ -134,6 +137,10 @@ stand_free tables grouped standings free stand = record {
   count_is = stand.count_is;
   each = λ number table standing t s.
       let same = λ (k : ℕ). ap (λ (z : ℤ). (slice_index_or table.arcs k no_arc).value -ℤ z) (free (slice_index_or table.arcs k no_arc).group) in
-      found_stays table.graph.now.dag (allows_by table.arcs) (weight_by table.arcs []) (weight_by table.arcs grouped) (λ k l. let e = same k in omega (arith, ints)) table.forced standing.path.items standing.term standing.stuck
-      (λ k d l. same (get_or standing.path.items k d)) (stand.each number table standing t s);
+      let is = stand.each number table standing t s in
+      record {
+        found = found_stays table.graph.now.dag (allows_by table.arcs) (weight_by table.arcs []) (weight_by table.arcs grouped) (λ k l. let e = same k in omega (arith, ints)) table.forced standing.path.items standing.term standing.stuck
+            (λ k d l. same (get_or standing.path.items k d)) is.found;
+        groups_are = is.groups_are;
+      };
 }

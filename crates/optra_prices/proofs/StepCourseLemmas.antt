@@ -18,14 +18,14 @@ use Rattle.optra_prices.specs.Steps.{IsStep, step_length, next_price, reply_load
 use Rattle.optra_prices.specs.Standings.{IsSound}
 use Rattle.optra_prices.specs.Tables.{IsRowPrice, AreUp, number_in}
 use Rattle.optra_prices.specs.Terms.{Setting}
-use Rattle.optra_prices.specs.Uses.{AreUses, HasGroups, paths_of}
+use Rattle.optra_prices.specs.Uses.{AreUses, lists_of}
 use Rattle.optra_prices.specs.declared.arc_tables.ArcTables.{ArcTables}
 use Rattle.optra_prices.specs.declared.levels.Levels.{Levels}
 use Rattle.optra_prices.proofs.CourseLemmas.{numbered_once}
 use Rattle.optra_prices.proofs.HoldLemmas.{next_none}
 use Rattle.optra_prices.proofs.ListLemmas.{all_at}
 use Rattle.optra_prices.proofs.ListingLemmas.{listed_proper, price_numbered, price_unnumbered}
-use Rattle.optra_prices.proofs.LoadingLemmas.{uses_load, no_load, tables_grouped}
+use Rattle.optra_prices.proofs.LoadingLemmas.{uses_load, no_load}
 use Rattle.optra_prices.proofs.TableLemmas.{tables_sound}
 
 module _ {R : Type 0} (cmp : R → R → Ordering) (total : IsTotalOrder cmp) (apart : TellsApart cmp) (s : Setting R) (proper : IsProper s.net)
@@ -33,16 +33,13 @@ module _ {R : Type 0} (cmp : R → R → Ordering) (total : IsTotalOrder cmp) (a
   sound : All IsSound c.tables.items
   sound = tables_sound s c.numbering.rows.items c.columns.groups c.tables.items is.tables
 
-  pub course_grouped : All (HasGroups c.columns.groups) c.tables.items
-  course_grouped = tables_grouped cmp total apart s proper lists c.numbering.rows.items c.columns.groups c.tables.items c.columns.grouped.items c.standings.items is.tables sound is.stand
-
   -- a row without a number is not used by the replies
   no_uses : (row : R) → number_in cmp c.numbering.order.items row ≡ None → reply_load s.rows s.bids (replies_at c) row ≡ 0
   no_uses row e =
       no_load cmp total apart s proper lists c.numbering.rows.items c.columns.groups c.tables.items c.columns.grouped.items c.standings.items is.tables sound is.stand row (λ n at. none-some n (sym e ∙ is.numbering.known n row at))
 
   module _ (l : Levels) (same_prices : l.prices ≡ c.levels.prices) (same_capacities : l.loads.capacities ≡ c.levels.loads.capacities) (use_count : length l.loads.uses ≡ length l.prices.items)
-      (uses : AreUses c.columns.groups c.tables.items (paths_of c.standings.items) l.loads.uses) (n : ℕ) (row : R) (at : slice_get c.numbering.rows.items n ≡ Some row) where
+      (uses : AreUses c.columns.groups (lists_of c.standings.items) l.loads.uses) (n : ℕ) (row : R) (at : slice_get c.numbering.rows.items n ≡ Some row) where
     -- so much is used of a row with a number as the replies use
     used_at : use_of l n ≡ reply_load s.rows s.bids (replies_at c) row
     used_at =
@@ -58,7 +55,7 @@ module _ {R : Type 0} (cmp : R → R → Ordering) (total : IsTotalOrder cmp) (a
     room_at = ap (λ (cs : List ℕ). slice_index cs n) same_capacities ∙ get_or_from_slice_get c.levels.loads.capacities n (s.rows.capacity row) 0 (is.capacities n row at)
 
   -- the rows of which more is used than their capacity are those that the replies overfill
-  pub overfilled : (l : Levels) → l.prices ≡ c.levels.prices → l.loads.capacities ≡ c.levels.loads.capacities → length l.loads.uses ≡ length l.prices.items → AreUses c.columns.groups c.tables.items (paths_of c.standings.items) l.loads.uses
+  pub overfilled : (l : Levels) → l.prices ≡ c.levels.prices → l.loads.capacities ≡ c.levels.loads.capacities → length l.loads.uses ≡ length l.prices.items → AreUses c.columns.groups (lists_of c.standings.items) l.loads.uses
       → (listed : List R) → ListsAbove c.numbering.rows.items l listed → AreOverfilled s.rows s.bids (replies_at c) listed
   overfilled l same_prices same_capacities use_count uses listed are = record {
     sound = All-weaker (IsRowAbove c.numbering.rows.items l) (λ row. (s.rows.is_row row ≡ true) × (s.rows.capacity row < reply_load s.rows s.bids (replies_at c) row))
@@ -79,7 +76,7 @@ module _ {R : Type 0} (cmp : R → R → Ordering) (total : IsTotalOrder cmp) (a
 
   -- prices that are moved by the uses of the replies are those of the step
   pub step_made : AreUp cmp c.numbering.order.items → (k : ℕ) (by : ℤ) → by ≡ step_length s.bids k → pos 1 ≤ℤ by → (l moved : Levels) → l.prices ≡ c.levels.prices → l.loads.capacities ≡ c.levels.loads.capacities
-      → length l.loads.uses ≡ length l.prices.items → AreUses c.columns.groups c.tables.items (paths_of c.standings.items) l.loads.uses → All IsRowPrice moved.prices.items → MovesTo (next_at by l) l moved
+      → length l.loads.uses ≡ length l.prices.items → AreUses c.columns.groups (lists_of c.standings.items) l.loads.uses → All IsRowPrice moved.prices.items → MovesTo (next_at by l) l moved
       → IsStep cmp s.rows s.bids (replies_at c) k (prices_at c) (listed c.numbering.order.items moved.prices.items)
   step_made ordered k by by_is low l moved same_prices same_capacities use_count uses range moves =
       record {

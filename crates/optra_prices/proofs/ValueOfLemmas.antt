@@ -17,8 +17,8 @@ use Rattle.optra_node.specs.Duals.{PriceList, price_of, sum_of}
 use Rattle.optra_node.specs.Certificates.{AreAscending}
 use Rattle.optra_node.proofs.RowLemmas.{equal_is}
 use Rattle.optra_node.proofs.SumLemmas.{sum_of-cons, sum_of-append}
-use Rattle.optra_prices.specs.Arcs.{path_reply}
-use Rattle.optra_prices.specs.Tables.{allows_by}
+use Rattle.optra_prices.specs.Arcs.{IsFound, path_reply}
+use Rattle.optra_prices.specs.Tables.{allows_by, weight_by}
 use Rattle.optra_prices.specs.Standings.{Stands, Agrees, SetsPrice, IsTermSize, replies_of}
 use Rattle.optra_prices.specs.declared.numbering.BidTable.{BidTable}
 use Rattle.optra_prices.specs.declared.numbering.Standing.{Standing}
@@ -57,10 +57,12 @@ replies_push (x ∷ tables) (y ∷ standings) (suc n) table standing t s = ap (�
 
 -- the path of a reply is one from the start to an end
 pub path_route : (table : BidTable) (prices : List ℤ) (standing : Standing) → Stands table prices standing → (standing.path.items ≡ [] → ⊥) → IsRoute table.graph.now standing.path.items
-path_route table prices standing (inl none) some = absurd (some none.path_is)
-path_route table prices standing (inr (inl nothing)) some = absurd (some nothing.path_is)
-path_route table prices standing (inr (inr found)) some =
-    record { some = found.best.path.some; leads = (leads_on table.graph.now.dag (allows_by table.arcs) 0 standing.path.items found.best.path.leads).0 }
+path_route table prices standing stands some = by stands.found
+  where
+    by : IsFound table.graph.now.dag (allows_by table.arcs) (weight_by table.arcs prices) table.forced standing.path.items standing.term standing.stuck → IsRoute table.graph.now standing.path.items
+    by (inl none) = absurd (some none.path_is)
+    by (inr (inl nothing)) = absurd (some nothing.path_is)
+    by (inr (inr found)) = record { some = found.best.path.some; leads = (leads_on table.graph.now.dag (allows_by table.arcs) 0 standing.path.items found.best.path.leads).0 }
 
 -- a place of a list after one was set
 pub set_at : (xs : List ℤ) (k j : ℕ) (x : ℤ) → k < length xs → j ≡ k → slice_index_or (set xs k x) j (pos 0) ≡ x

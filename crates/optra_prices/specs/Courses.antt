@@ -15,7 +15,7 @@ use Rattle.optra_prices.specs.Steps.{AreProper}
 use Rattle.optra_prices.specs.Tables.{IsNumbering, AreGroupPrices}
 use Rattle.optra_prices.specs.Terms.{Setting}
 use Rattle.optra_prices.specs.Standings.{AreTables, AllStand, replies_of, valuation_of}
-use Rattle.optra_prices.specs.Uses.{AreCounted, paths_in}
+use Rattle.optra_prices.specs.Uses.{AreCounted, lists_in}
 use Rattle.optra_prices.specs.declared.Priced.{Priced}
 use Rattle.optra_prices.specs.declared.arc_tables.ArcTables.{ArcTables}
 
@@ -67,7 +67,7 @@ pub record AreSetUp {R : Type 0} (cmp : R → R → Ordering) (s : Setting R) (c
   pub capacities : HaveCapacities s.rows c.numbering.rows.items c.levels.loads.capacities
   pub price_count : length c.levels.prices.items ≡ length c.numbering.rows.items
   pub levels : IsLevels c.levels
-  pub counted : AreCounted c.columns.groups c.tables.items (paths_in c.counted.items) c.levels.loads.uses
+  pub counted : AreCounted c.columns.groups (length c.tables.items) (lists_in c.counted.items) c.levels.loads.uses
   pub columns : IsColumns c.columns.groups c.columns
   pub tables : AreTables s (length s.bids) c.numbering.rows.items c.columns.groups c.tables.items
   pub stand : AllStand c.tables.items c.columns.grouped.items c.standings.items

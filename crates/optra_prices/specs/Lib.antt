@@ -17,6 +17,7 @@ pub mod Makings
 pub mod Numberings
 pub mod Rankings
 pub mod NumberLists
+pub mod RowPrices
 pub mod Indexes
 pub mod Users
 pub mod Columns

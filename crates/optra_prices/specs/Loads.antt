@@ -20,11 +20,11 @@ lows_in rows = map (λ row. row.low) rows
 abbrev pub capacities_in : List Load → List ℕ
 capacities_in rows = map (λ row. row.capacity) rows
 
--- past the last row, of those below 2^16
+-- past the last row, of those below 2^8
 abbrev pub no_narrow_load : NarrowLoad
 no_narrow_load = record { used = 0; capacity = 0 }
 
--- what is used of rows, where all is below 2^16
+-- what is used of rows, where all is below 2^8
 abbrev pub used_in : List NarrowLoad → List ℕ
 used_in rows = map (λ row. row.used) rows
 

@@ -1,6 +1,6 @@
 -- How much groups use of rows, beside the index of the groups that touch each row.
-use Rattle.std.specs.Prelude.{◌≡◌, ℕ, zero, suc, ◌+◌, ◌-◌, ◌<◌, ◌≤◌, cond, nat_eq, List, length, map, slice_index}
-use Rattle.optra_prices.specs.Indexes.{AreCursors, put_place}
+use Rattle.std.specs.Prelude.{◌≡◌, ℕ, zero, suc, ◌+◌, ◌-◌, ◌<◌, cond, nat_eq, List, length, map, slice_index}
+use Rattle.optra_prices.specs.Indexes.{put_place}
 use Rattle.optra_prices.specs.Tables.{group_at}
 use Rattle.optra_prices.specs.Users.{rows_touched}
 use Rattle.optra_prices.specs.Uses.{touch_uses}

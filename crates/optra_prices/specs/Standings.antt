@@ -15,7 +15,7 @@ use Rattle.optra_dag.specs.Paths.{IsForward}
 use Rattle.optra_node.specs.Duals.{PriceList, price_of, sum_of}
 use Rattle.optra_prices.specs.Replies.{Valuation}
 use Rattle.optra_prices.specs.Arcs.{IsFound, IsArcValue, path_reply}
-use Rattle.optra_prices.specs.Tables.{IsNumbering, AreGroups, allows_by, weight_by}
+use Rattle.optra_prices.specs.Tables.{IsNumbering, AreGroups, allows_by, no_arc, weight_by}
 use Rattle.optra_prices.specs.Terms.{Setting, AreArcs, AreBidArcs}
 use Rattle.optra_prices.specs.ArcTerms.{ArcTerm}
 use Rattle.optra_prices.specs.declared.numbering.BidTable.{BidTable}
@@ -23,14 +23,19 @@ use Rattle.optra_prices.specs.declared.numbering.Groups.{Groups}
 use Rattle.optra_prices.specs.declared.numbering.Standing.{Standing}
 use Rattle.optra_prices.specs.declared.sessions.Made.{Made}
 
--- the search at these prices of groups found what stands
-abbrev pub Stands : BidTable → List ℤ → Standing → Type 0
-Stands table grouped standing =
-    IsFound table.graph.now.dag (allows_by table.arcs) (weight_by table.arcs grouped) table.forced standing.path.items standing.term standing.stuck
+-- the groups of the arcs of a path
+abbrev pub groups_on : List ArcTerm → List ℕ → List ℕ
+groups_on arcs path = map (λ k. (slice_index_or arcs k no_arc).group) path
+
+-- the search at these prices of groups found what stands, and the arcs of its path have these groups
+pub record Stands (table : BidTable) (grouped : List ℤ) (standing : Standing) : Type 0 where
+  pub found : IsFound table.graph.now.dag (allows_by table.arcs) (weight_by table.arcs grouped) table.forced standing.path.items standing.term standing.stuck
+  pub groups_are : standing.groups.items ≡ groups_on table.arcs standing.path.items
 
 -- all that is known of a bid is the same
 pub record IsCopy (standing copy : Standing) : Type 0 where
   pub path : copy.path.items ≡ standing.path.items
+  pub groups : copy.groups.items ≡ standing.groups.items
   pub term : copy.term ≡ standing.term
   pub stuck : copy.stuck ≡ standing.stuck
 

@@ -23,32 +23,39 @@ arc_touches groups table k = group_at groups.starts.items groups.touches (slice_
 abbrev pub path_uses : Groups → BidTable → List ℕ → ℕ → ℕ
 path_uses groups table path n = sum_by (λ k. touch_uses (arc_touches groups table k) n) path
 
--- how much the paths of all bids use of the row with number n
-abbrev pub all_uses : Groups → List BidTable → List (List ℕ) → ℕ → ℕ
-all_uses groups [] paths n = 0
-all_uses groups (table ∷ tables) [] n = 0
-all_uses groups (table ∷ tables) (path ∷ paths) n = path_uses groups table path n + all_uses groups tables paths n
+-- what a group touches
+abbrev pub touches_at : Groups → ℕ → List Touch
+touches_at groups g = group_at groups.starts.items groups.touches g
 
--- the paths of the replies
-abbrev pub paths_of : List Standing → List (List ℕ)
-paths_of standings = map (λ standing. standing.path.items) standings
+-- how much the groups of a path use of the row with number n
+abbrev pub list_uses : Groups → List ℕ → ℕ → ℕ
+list_uses groups list n = sum_by (λ g. touch_uses (touches_at groups g) n) list
 
--- the paths that are counted
-abbrev pub paths_in : List (Vec ℕ Global) → List (List ℕ)
-paths_in counted = map (λ path. path.items) counted
+-- how much the groups of all paths use of the row with number n
+abbrev pub all_uses : Groups → List (List ℕ) → ℕ → ℕ
+all_uses groups [] n = 0
+all_uses groups (list ∷ lists) n = list_uses groups list n + all_uses groups lists n
 
--- no path has an arc
+-- the groups of the paths of the replies
+abbrev pub lists_of : List Standing → List (List ℕ)
+lists_of standings = map (λ standing. standing.groups.items) standings
+
+-- the groups of the paths that are counted
+abbrev pub lists_in : List (Vec ℕ Global) → List (List ℕ)
+lists_in counted = map (λ list. list.items) counted
+
+-- no path has a group
 abbrev pub AreEmpty : List (List ℕ) → Type 0
-AreEmpty paths = (n : ℕ) → slice_index_or paths n [] ≡ []
+AreEmpty lists = (n : ℕ) → slice_index_or lists n [] ≡ []
 
--- so much is used of each row as the paths of all bids use
-abbrev pub AreUses : Groups → List BidTable → List (List ℕ) → List ℕ → Type 0
-AreUses groups tables paths uses = (n : ℕ) → n < length uses → slice_index uses n ≡ all_uses groups tables paths n
+-- so much is used of each row as the groups of all paths use
+abbrev pub AreUses : Groups → List (List ℕ) → List ℕ → Type 0
+AreUses groups lists uses = (n : ℕ) → n < length uses → slice_index uses n ≡ all_uses groups lists n
 
--- a path of each bid, and so much is used of each row as they use
-pub record AreCounted (groups : Groups) (tables : List BidTable) (paths : List (List ℕ)) (uses : List ℕ) : Type 0 where
-  pub count : length paths ≡ length tables
-  pub uses_are : AreUses groups tables paths uses
+-- the groups of so many paths, and so much is used of each row as they use
+pub record AreCounted (groups : Groups) (count : ℕ) (lists : List (List ℕ)) (uses : List ℕ) : Type 0 where
+  pub count_is : length lists ≡ count
+  pub uses_are : AreUses groups lists uses
 
 -- so much more of each row is used
 pub record AddsUses (extra : ℕ → ℕ) (old new : List ℕ) : Type 0 where
@@ -60,11 +67,11 @@ pub record TakesUses (extra : ℕ → ℕ) (old new : List ℕ) : Type 0 where
   pub count : length new ≡ length old
   pub each : (n : ℕ) → n < length old → slice_index new n ≡ slice_index old n - extra n
 
--- what a path uses is counted in place of what another one uses that was counted
-pub record CountsPath (groups : Groups) (table : BidTable) (before path : List ℕ) (old new : List ℕ) : Type 0 where
+-- what the groups of a path use is counted in place of what those of another one use that were counted
+pub record CountsList (groups : Groups) (before list : List ℕ) (old new : List ℕ) : Type 0 where
   pub count : length new ≡ length old
-  pub each : (n : ℕ) → n < length old → path_uses groups table before n ≤ slice_index old n
-      → slice_index new n + path_uses groups table before n ≡ slice_index old n + path_uses groups table path n
+  pub each : (n : ℕ) → n < length old → list_uses groups before n ≤ slice_index old n
+      → slice_index new n + list_uses groups before n ≡ slice_index old n + list_uses groups list n
 
 -- each arc of the table has a group
 pub record HasGroups (groups : Groups) (table : BidTable) : Type 0 where

@@ -27,8 +27,8 @@ pub struct ArcTables<'g, R: Copy + Ord> {
     pub(crate) zero: Vec<Standing>,
     /// What is known of each bid at the prices.
     pub(crate) standings: Vec<Standing>,
-    /// The path of each bid whose uses of rows are counted.
-    pub(crate) counted: Vec<Vec<u32>>,
+    /// The groups of the path of each bid whose uses of rows are counted.
+    pub(crate) counted: Vec<Vec<usize>>,
     /// The dual value at the prices.
     pub(crate) value: i128,
     pub(crate) buffers: Buffers,

@@ -12,6 +12,7 @@ ghost use Rattle.optra_prices.specs.Tables.{AreGroups, AreGroupPrices, IsRowPric
 use crate::amounts::Amounts;
 use crate::index::{Index, end_of, start_of};
 use crate::numbering::Groups;
+use crate::row_prices::RowPrices;
 use crate::shares::find_amounts;
 use crate::users::find_users;
 use optra_network::NoMemory;
@@ -165,13 +166,13 @@ fn move_group(running: &mut Vec<i64>, g: usize, by: i64, uses: usize)
 /// groups due.
 pub(crate) fn move_row_groups(
     columns: &mut Columns,
-    prices: &[i64],
+    prices: &RowPrices,
     row: usize,
     by: i64,
 ) -> Result<(), NoMemory>
     requires columns { IsColumns columns.old.groups columns.old }
-    requires prices { All IsRowPrice prices.now }
-    requires running { AreRunning prices.now columns.old }
+    requires prices { All IsRowPrice prices.now.items }
+    requires running { AreRunning prices.now.items columns.old }
     requires by { IsPriceMove by }
     ensures columns { OnOk result (IsColumns columns.old.groups columns.new) }
     ensures marks { OnOk result (MarksMovedRow row columns.old columns.new) }
@@ -207,12 +208,12 @@ fn mark_of(old: i64, new: i64) -> Mark
 }
 
 /// Prices a group anew where it is due.
-fn reprice_group(columns: &mut Columns, prices: &[i64], g: usize)
+fn reprice_group(columns: &mut Columns, prices: &RowPrices, g: usize)
     requires columns { IsColumns columns.old.groups columns.old }
-    requires prices { All IsRowPrice prices.now }
-    requires running { AreRunning prices.now columns.old }
+    requires prices { All IsRowPrice prices.now.items }
+    requires running { AreRunning prices.now.items columns.old }
     ensures columns { IsColumns columns.old.groups columns.new }
-    ensures repriced { Reprices prices.now g columns.old columns.new }
+    ensures repriced { Reprices prices.now.items g columns.old columns.new }
 {
     if g >= columns.grouped.len() || columns.marks[g] != Mark::Due {
         return;
@@ -225,16 +226,16 @@ fn reprice_group(columns: &mut Columns, prices: &[i64], g: usize)
 }
 
 /// Prices anew all groups that are due. Their marks then tell how they have moved.
-pub(crate) fn reprice(columns: &mut Columns, prices: &[i64])
+pub(crate) fn reprice(columns: &mut Columns, prices: &RowPrices)
     requires columns { IsColumns columns.old.groups columns.old }
-    requires prices { All IsRowPrice prices.now }
-    requires due { PricesAllButDue prices.now columns.old }
+    requires prices { All IsRowPrice prices.now.items }
+    requires due { PricesAllButDue prices.now.items columns.old }
     ensures columns { IsColumns columns.old.groups columns.new }
-    ensures prices { AreGroupPrices prices.now columns.new.groups.starts.items
+    ensures prices { AreGroupPrices prices.now.items columns.new.groups.starts.items
         columns.new.groups.touches columns.new.grouped.items }
     ensures marks { MarksTell columns.old.grouped.items columns.new.grouped.items
         columns.new.marks.items }
-    ensures running { AreRunning prices.now columns.new }
+    ensures running { AreRunning prices.now.items columns.new }
 {
     for k in 0..columns.due.len() {
         let g = columns.due[k];

@@ -162,7 +162,6 @@ fn step_prices<F: RowFamily>(
     count_uses(
         &mut kept.levels,
         &kept.columns.groups,
-        &kept.tables,
         &mut kept.counted,
         &kept.standings,
     )?;

@@ -12,6 +12,7 @@ ghost use Rattle.optra_prices.specs.Uses.{AddsUses, TakesUses, touch_use};
 use crate::columns::{Columns, move_row_groups};
 use crate::loads::Loads;
 use crate::next_prices::next_price;
+use crate::row_prices::RowPrices;
 use crate::touch::Touch;
 use optra_network::NoMemory;
 use std::alloc::Global;
@@ -19,7 +20,7 @@ use std::alloc::Global;
 /// The prices, uses and capacities of rows, by number.
 #[derive(Drop)]
 pub(crate) struct Levels {
-    pub(crate) prices: Vec<i64>,
+    pub(crate) prices: RowPrices,
     /// How much of rows the paths use that were counted last, beside the capacities of rows.
     pub(crate) loads: Loads,
     /// The rows with a price or with more uses than capacity, and maybe others; none twice.
@@ -68,7 +69,7 @@ pub(crate) fn no_levels(alloc: Global) -> Levels
     ensures none { (result.prices.items ≡ []) × (result.loads.capacities ≡ []) }
 {
     Levels {
-        prices: Vec::new(alloc),
+        prices: RowPrices::new(alloc),
         loads: Loads::new(alloc),
         active: Vec::new(alloc),
         listed: Vec::new(alloc),
@@ -102,7 +103,7 @@ pub(crate) fn push_level(levels: &mut Levels, capacity: u32) -> Result<(), NoMem
     ensures capacities { OnOk result (levels.new.loads.capacities ≡ levels.old.loads.capacities
         ++ capacity ∷ []) }
 {
-    levels.prices.push(0)?;
+    levels.prices.push_zero()?;
     levels.loads.push(capacity)?;
     levels.listed.push(false)?;
     Ok(())
@@ -159,14 +160,14 @@ pub(crate) fn set_price(
     ensures active { OnOk result (is_listed levels.old number ≡ true → levels.new.active
         ≡ levels.old.active) }
 {
-    let old = levels.prices[number];
+    let old = levels.prices.at(number);
     if old == price {
         return Ok(());
     }
     wake(levels, number)?;
     move_row_groups(columns, &levels.prices, number, price_move(old, price))?;
     levels.capacity = capacity_after(levels.capacity, old, price, levels.loads.capacity(number));
-    levels.prices[number] = price;
+    levels.prices.set(number, price)?;
     Ok(())
 }
 
@@ -179,7 +180,7 @@ fn rest_row(levels: &mut Levels, k: usize) -> usize
     ensures rests { Rests k result levels.old levels.new }
 {
     let place = levels.active[k];
-    if levels.prices[place] != 0 || !levels.loads.is_within(place) {
+    if levels.prices.at(place) != 0 || !levels.loads.is_within(place) {
         return k + 1;
     }
     levels.listed[place] = false;
@@ -221,7 +222,7 @@ fn next_price_at(levels: &Levels, number: usize, by: i64) -> i64
 {
     next_price(
         by,
-        levels.prices[number],
+        levels.prices.at(number),
         levels.loads.used(number),
         levels.loads.capacity(number),
     )
@@ -279,7 +280,7 @@ pub(crate) fn copy_prices(moves: &mut Vec<(usize, i64)>, levels: &Levels) -> Res
     moves.clear();
     for k in 0..levels.active.len() {
         let number = levels.active[k];
-        moves.push((number, levels.prices[number]))?;
+        moves.push((number, levels.prices.at(number)))?;
     }
     Ok(())
 }

@@ -81,7 +81,7 @@ fn active_prices<R: Copy>(
     let mut entries = Vec::new(alloc);
     for k in 0..levels.active.len() {
         let number = levels.active[k];
-        push_price(&mut entries, numbered[number], levels.prices[number])?;
+        push_price(&mut entries, numbered[number], levels.prices.at(number))?;
     }
     Ok(entries)
 }

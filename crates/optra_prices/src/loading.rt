@@ -3,22 +3,26 @@
 //! What the paths use that were counted last stays from step to step; only a path that is another one now is counted anew.
 ghost use Rattle.std.specs.Prelude.{◌≡◌, ◌≤◌, [], All, IfOk, OnOk, length, replicate, take};
 ghost use Rattle.optra_prices.specs.Levels.{IsLevels, AreUnused, KeepsPrices};
-ghost use Rattle.optra_prices.specs.Uses.{touch_uses, arc_touches, path_uses, AreCounted, AddsUses, TakesUses, CountsPath, AreEmpty, HasGroups, paths_of, paths_in};
+ghost use Rattle.optra_prices.specs.Tables.{AreGroups};
+ghost use Rattle.optra_prices.specs.Uses.{touch_uses, touches_at, list_uses, AreCounted, AddsUses, TakesUses, CountsList, AreEmpty, lists_of, lists_in};
 
 use crate::grouping::group;
 use crate::levels::{Levels, add_touch, forget_uses, take_touch};
-use crate::numbering::{BidTable, Groups, Standing};
-use crate::settling::group_of;
+use crate::numbering::{Groups, Standing};
 use crate::touch_slice::TouchSlice;
 use optra_network::NoMemory;
 use std::alloc::Global;
 
-/// What an arc touches.
-pub(crate) fn arc_touches<'a>(groups: &'a Groups, table: &BidTable<'_>, k: u32) -> TouchSlice<'a>
-    requires { HasGroups groups.now table.now }
-    ensures { result ≡ arc_touches groups.now table.now k }
+/// What a group touches, which is nothing past the last one.
+fn touches_at(groups: &Groups, g: usize) -> TouchSlice<'_>
+    requires { AreGroups groups.now.starts.items groups.now.touches }
+    ensures { result ≡ touches_at groups.now g }
 {
-    group(groups, group_of(&table.arcs, k))
+    if g < groups.starts.len().saturating_sub(1) {
+        group(groups, g)
+    } else {
+        groups.touches.range(0, 0)
+    }
 }
 
 /// Adds what a group uses.
@@ -47,42 +51,37 @@ fn take_group(levels: &mut Levels, touches: &TouchSlice<'_>)
     }
 }
 
-/// Adds what the arcs of a path use.
-fn add_path(
-    levels: &mut Levels,
-    groups: &Groups,
-    table: &BidTable<'_>,
-    path: &[u32],
-) -> Result<(), NoMemory>
+/// Adds what the groups of a path use.
+fn add_list(levels: &mut Levels, groups: &Groups, list: &[usize]) -> Result<(), NoMemory>
     requires levels { IsLevels levels.old }
-    requires groups { HasGroups groups.now table.now }
+    requires groups { AreGroups groups.now.starts.items groups.now.touches }
     ensures levels { OnOk result (IsLevels levels.new) }
-    ensures uses { OnOk result (AddsUses (path_uses groups.now table.now path.now)
-        levels.old.loads.uses levels.new.loads.uses) }
+    ensures uses { OnOk result (AddsUses (list_uses groups.now list.now) levels.old.loads.uses
+        levels.new.loads.uses) }
     ensures prices { OnOk result (KeepsPrices levels.old levels.new) }
 {
-    for k in path {
-        add_group(levels, &arc_touches(groups, table, *k))?;
+    for g in list {
+        add_group(levels, &touches_at(groups, *g))?;
     }
     Ok(())
 }
 
-/// Takes away what the arcs of a path use.
-fn take_path(levels: &mut Levels, groups: &Groups, table: &BidTable<'_>, path: &[u32])
+/// Takes away what the groups of a path use.
+fn take_list(levels: &mut Levels, groups: &Groups, list: &[usize])
     requires levels { IsLevels levels.old }
-    requires groups { HasGroups groups.now table.now }
+    requires groups { AreGroups groups.now.starts.items groups.now.touches }
     ensures levels { IsLevels levels.new }
-    ensures uses { TakesUses (path_uses groups.now table.now path.now) levels.old.loads.uses
+    ensures uses { TakesUses (list_uses groups.now list.now) levels.old.loads.uses
         levels.new.loads.uses }
     ensures prices { KeepsPrices levels.old levels.new }
 {
-    for k in path {
-        take_group(levels, &arc_touches(groups, table, *k));
+    for g in list {
+        take_group(levels, &touches_at(groups, *g));
     }
 }
 
-/// How many arcs two paths share from their start on.
-fn same_start(a: &[u32], b: &[u32]) -> usize
+/// How many groups two paths share from their start on.
+fn same_start(a: &[usize], b: &[usize]) -> usize
     ensures within { (result ≤ length a.now) × (result ≤ length b.now) }
     ensures same { take result a.now ≡ take result b.now }
 {
@@ -95,27 +94,26 @@ fn same_start(a: &[u32], b: &[u32]) -> usize
     most
 }
 
-/// Counts a bid's path in place of the one that was counted, from the first arc on in which they differ.
-fn count_path(
+/// Counts the groups of a bid's path in place of those that were counted, from the first one on in which they differ.
+fn count_list(
     levels: &mut Levels,
     groups: &Groups,
-    table: &BidTable<'_>,
-    counted: &mut Vec<u32>,
-    path: &[u32],
+    counted: &mut Vec<usize>,
+    list: &[usize],
 ) -> Result<(), NoMemory>
     requires levels { IsLevels levels.old }
-    requires groups { HasGroups groups.now table.now }
+    requires groups { AreGroups groups.now.starts.items groups.now.touches }
     ensures levels { OnOk result (IsLevels levels.new) }
-    ensures path { OnOk result (counted.new.items ≡ path.now) }
-    ensures uses { OnOk result (CountsPath groups.now table.now counted.old.items path.now
+    ensures list { OnOk result (counted.new.items ≡ list.now) }
+    ensures uses { OnOk result (CountsList groups.now counted.old.items list.now
         levels.old.loads.uses levels.new.loads.uses) }
     ensures prices { OnOk result (KeepsPrices levels.old levels.new) }
 {
-    let same = same_start(counted, path);
-    take_path(levels, groups, table, &counted[same..]);
-    add_path(levels, groups, table, &path[same..])?;
+    let same = same_start(counted, list);
+    take_list(levels, groups, &counted[same..]);
+    add_list(levels, groups, &list[same..])?;
     counted.truncate(same);
-    counted.extend_from_slice(&path[same..])?;
+    counted.extend_from_slice(&list[same..])?;
     Ok(())
 }
 
@@ -123,36 +121,34 @@ fn count_path(
 pub(crate) fn count_uses(
     levels: &mut Levels,
     groups: &Groups,
-    tables: &[BidTable<'_>],
-    counted: &mut Vec<Vec<u32>>,
+    counted: &mut Vec<Vec<usize>>,
     standings: &[Standing],
 ) -> Result<(), NoMemory>
     requires levels { IsLevels levels.old }
-    requires groups { All (HasGroups groups.now) tables.now }
-    requires counted { AreCounted groups.now tables.now (paths_in counted.old.items)
+    requires groups { AreGroups groups.now.starts.items groups.now.touches }
+    requires counted { AreCounted groups.now (length standings.now) (lists_in counted.old.items)
         levels.old.loads.uses }
-    requires standings { length standings.now ≡ length tables.now }
     ensures levels { OnOk result (IsLevels levels.new) }
-    ensures counted { OnOk result (AreCounted groups.now tables.now (paths_in counted.new.items)
-        levels.new.loads.uses) }
-    ensures paths { OnOk result (paths_in counted.new.items ≡ paths_of standings.now) }
+    ensures counted { OnOk result (AreCounted groups.now (length standings.now)
+        (lists_in counted.new.items) levels.new.loads.uses) }
+    ensures lists { OnOk result (lists_in counted.new.items ≡ lists_of standings.now) }
     ensures prices { OnOk result (KeepsPrices levels.old levels.new) }
 {
-    for number in 0..tables.len() {
-        let path = &standings[number].path;
-        count_path(levels, groups, &tables[number], &mut counted[number], path)?;
+    for number in 0..standings.len() {
+        let list = &standings[number].groups;
+        count_list(levels, groups, &mut counted[number], list)?;
     }
     Ok(())
 }
 
 /// Forgets each path that is counted, and what they use.
-pub(crate) fn forget_paths(levels: &mut Levels, counted: &mut Vec<Vec<u32>>)
+pub(crate) fn forget_paths(levels: &mut Levels, counted: &mut Vec<Vec<usize>>)
     requires { IsLevels levels.old }
     ensures levels { IsLevels levels.new }
     ensures unused { AreUnused levels.new }
     ensures prices { KeepsPrices levels.old levels.new }
-    ensures count { length (paths_in counted.new.items) ≡ length (paths_in counted.old.items) }
-    ensures empty { AreEmpty (paths_in counted.new.items) }
+    ensures count { length (lists_in counted.new.items) ≡ length (lists_in counted.old.items) }
+    ensures empty { AreEmpty (lists_in counted.new.items) }
 {
     for number in 0..counted.len() {
         counted[number].clear();
@@ -160,9 +156,9 @@ pub(crate) fn forget_paths(levels: &mut Levels, counted: &mut Vec<Vec<u32>>)
     forget_uses(levels);
 }
 
-/// For each of so many bids a path without an arc.
-pub(crate) fn no_paths(alloc: Global, count: usize) -> Result<Vec<Vec<u32>>, NoMemory>
-    ensures { IfOk result (λ counted. paths_in counted.items ≡ replicate count []) }
+/// For each of so many bids a path without a group.
+pub(crate) fn no_paths(alloc: Global, count: usize) -> Result<Vec<Vec<usize>>, NoMemory>
+    ensures { IfOk result (λ counted. lists_in counted.items ≡ replicate count []) }
 {
     let mut counted = Vec::with_capacity(alloc, count)?;
     for _number in 0..count {

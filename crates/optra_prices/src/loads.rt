@@ -8,7 +8,7 @@ use optra_network::NoMemory;
 use std::alloc::Global;
 use std::marker::Model;
 
-/// Uses and capacities of rows: in `narrow` while all are below 2^16, and in `wide` from the first one on that isn't.
+/// Uses and capacities of rows: in `narrow` while all are below 2^8, and in `wide` from the first one on that isn't.
 #[derive(Drop)]
 pub(crate) struct Loads {
     is_narrow: bool,
@@ -42,19 +42,19 @@ fn widen(narrow: &NarrowLoads, wide: &mut WideLoads) -> Result<(), NoMemory>
     Ok(())
 }
 
-/// A sum, where it fits into 16 bits.
-fn narrow_sum(used: u16, more: u32) -> Option<u16>
+/// A sum, where it fits into 8 bits.
+fn narrow_sum(used: u8, more: u32) -> Option<u8>
     ensures { IfSome result (λ sum. sum ≡ used + more) }
 {
     let sum = u32::from(used).checked_add(more)?;
-    u16::try_from(sum).ok()
+    u8::try_from(sum).ok()
 }
 
 /// What is left of a number, down to 0.
-fn narrow_rest(used: u16, less: u32) -> u16
+fn narrow_rest(used: u8, less: u32) -> u8
     ensures { result ≡ used - less }
 {
-    match u16::try_from(less) {
+    match u8::try_from(less) {
         Ok(less) => used.saturating_sub(less),
         Err(_) => 0,
     }
@@ -125,7 +125,7 @@ impl Loads {
             self.wide.push(capacity)?;
             return Ok(());
         }
-        if let Ok(capacity) = u16::try_from(capacity) {
+        if let Ok(capacity) = u8::try_from(capacity) {
             self.narrow.push(capacity)?;
             return Ok(());
         }

@@ -1,4 +1,4 @@
-//! How much is used of rows by number, beside how much there is of them, in four bytes a row.
+//! How much is used of rows by number, beside how much there is of them, in two bytes a row.
 ghost use Rattle.std.specs.Prelude.{◌≡◌, ◌++◌, ◌∷◌, [], IfOk, OnOk, length, replicate, slice_index, slice_index_or, slice_set};
 ghost use Rattle.optra_prices.specs.Loads.{IsUnused, SetsUses, used_in, narrow_capacities_in, no_narrow_load};
 
@@ -9,11 +9,11 @@ use std::marker::Model;
 /// What is used of a row, and how much there is of it.
 #[derive(Clone, Copy)]
 pub(crate) struct NarrowLoad {
-    pub(crate) used: u16,
-    pub(crate) capacity: u16,
+    pub(crate) used: u8,
+    pub(crate) capacity: u8,
 }
 
-/// Uses and capacities of rows, side by side, each below 2^16.
+/// Uses and capacities of rows, side by side, each below 2^8.
 #[derive(Drop)]
 pub(crate) struct NarrowLoads {
     rows: Vec<NarrowLoad>,
@@ -41,7 +41,7 @@ fn load_at(rows: &[NarrowLoad], number: usize) -> NarrowLoad
 }
 
 /// Sets what is used of a row, where there is one.
-fn set_used(rows: &mut Vec<NarrowLoad>, number: usize, used: u16)
+fn set_used(rows: &mut Vec<NarrowLoad>, number: usize, used: u8)
     ensures used { used_in rows.new.items ≡ slice_set (used_in rows.old.items) number used }
     ensures capacities { narrow_capacities_in rows.new.items ≡ narrow_capacities_in rows.old.items }
 {
@@ -98,7 +98,7 @@ impl NarrowLoads {
     }
 
     /// Adds a row, of which nothing is used.
-    pub(crate) fn push(&mut self, capacity: u16) -> Result<(), NoMemory>
+    pub(crate) fn push(&mut self, capacity: u8) -> Result<(), NoMemory>
         ensures uses { OnOk result (self.new.uses ≡ self.old.uses ++ 0 ∷ []) }
         ensures capacities { OnOk result (self.new.capacities ≡ self.old.capacities
             ++ capacity ∷ []) }
@@ -115,21 +115,21 @@ impl NarrowLoads {
     }
 
     /// Sets what is used of a row. Where there is none, nothing changes.
-    pub(crate) fn set(&mut self, number: usize, used: u16)
+    pub(crate) fn set(&mut self, number: usize, used: u8)
         ensures { SetsUses number used self.old self.new }
     {
         set_used(&mut self.rows, number, used);
     }
 
     /// How much is used of a row, and 0 where there is none.
-    pub(crate) fn used(&self, number: usize) -> u16
+    pub(crate) fn used(&self, number: usize) -> u8
         ensures { result ≡ slice_index self.now.uses number }
     {
         load_at(&self.rows, number).used
     }
 
     /// How much there is of a row, and 0 where there is none.
-    pub(crate) fn capacity(&self, number: usize) -> u16
+    pub(crate) fn capacity(&self, number: usize) -> u8
         ensures { result ≡ slice_index self.now.capacities number }
     {
         load_at(&self.rows, number).capacity

@@ -21,11 +21,12 @@ pub(crate) struct BidTable<'g> {
     pub(crate) forced: bool,
 }
 
-/// What is known of a bid at prices: the path of its reply, which is empty where it has none, its term, and whether it
-/// has a yes leg and no allowed walk.
+/// What is known of a bid at prices: the path of its reply, which is empty where it has none, the groups of that path's
+/// arcs, its term, and whether it has a yes leg and no allowed walk.
 #[derive(Drop)]
 pub(crate) struct Standing {
     pub(crate) path: Vec<u32>,
+    pub(crate) groups: Vec<usize>,
     pub(crate) term: i128,
     pub(crate) stuck: bool,
 }

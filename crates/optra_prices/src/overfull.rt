@@ -66,7 +66,6 @@ pub fn overfull_rows<F: RowFamily>(
     count_uses(
         &mut kept.levels,
         &kept.columns.groups,
-        &kept.tables,
         &mut kept.counted,
         &kept.standings,
     )?;

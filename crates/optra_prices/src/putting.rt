@@ -5,10 +5,20 @@ ghost use Rattle.std.specs.Prelude.{◌≡◌, ◌<◌, ◌↔◌, IsTrue, All, 
 ghost use Rattle.optra_prices.specs.Rooms.{HasRoomForAll, IsNumberWithin};
 ghost use Rattle.optra_prices.specs.Uses.{arc_touches, path_uses, AddsUses, TakesUses, HasGroups};
 
-use crate::loading::arc_touches;
+use crate::grouping::group;
 use crate::numbering::{BidTable, Groups};
 use crate::rooms::{Room, add_touches, are_touches_within, has_room, take_touches};
+use crate::settling::group_of;
+use crate::touch_slice::TouchSlice;
 use optra_network::NoMemory;
+
+/// What an arc touches.
+fn arc_touches<'a>(groups: &'a Groups, table: &BidTable<'_>, k: u32) -> TouchSlice<'a>
+    requires { HasGroups groups.now table.now }
+    ensures { result ≡ arc_touches groups.now table.now k }
+{
+    group(groups, group_of(&table.arcs, k))
+}
 
 /// Adds what the arcs of a path use.
 pub(crate) fn add_arcs(

@@ -4,7 +4,7 @@ ghost use Rattle.optra_prices.specs.Columns.{MarksTell, HasNotRisen};
 ghost use Rattle.optra_prices.specs.Holders.{HaveNotFallen};
 ghost use Rattle.optra_prices.specs.Keepings.{KeepsStanding};
 ghost use Rattle.optra_prices.specs.Tables.{AreUpTo, no_arc};
-ghost use Rattle.optra_prices.specs.Standings.{Stands, IsCopy, IsSound};
+ghost use Rattle.optra_prices.specs.Standings.{Stands, IsCopy, IsSound, groups_on};
 
 use crate::arcs::Arcs;
 use crate::columns::{Mark, mark_at};
@@ -26,21 +26,14 @@ pub(crate) fn first_standing(
     requires sound { IsSound table.now }
     ensures { IfOk result (Stands table.now grouped.entry.prices.now) }
 {
-    let mut path = Vec::new(alloc);
-    let outcome = search_bid(
-        buffers,
-        table.graph.dag(),
-        &table.arcs,
-        table.most,
-        grouped,
-        table.forced,
-        &mut path,
-    )?;
-    Ok(Standing {
-        path,
-        term: outcome.term,
-        stuck: outcome.stuck,
-    })
+    let mut standing = Standing {
+        path: Vec::new(alloc),
+        groups: Vec::new(alloc),
+        term: 0,
+        stuck: false,
+    };
+    renew(buffers, table, grouped, &mut standing)?;
+    Ok(standing)
 }
 
 /// A copy of what is known of a bid.
@@ -49,11 +42,25 @@ pub(crate) fn copy_standing(alloc: Global, standing: &Standing) -> Result<Standi
 {
     let mut path = Vec::with_capacity(alloc, standing.path.len())?;
     path.extend_from_slice(&standing.path)?;
+    let mut groups = Vec::with_capacity(alloc, standing.groups.len())?;
+    groups.extend_from_slice(&standing.groups)?;
     Ok(Standing {
         path,
+        groups,
         term: standing.term,
         stuck: standing.stuck,
     })
+}
+
+/// Puts the groups of a path's arcs into the list, in place of what it had.
+fn list_groups(groups: &mut Vec<usize>, arcs: &Arcs, path: &[u32]) -> Result<(), NoMemory>
+    ensures { OnOk result (groups.new.items ≡ groups_on arcs.now path.now) }
+{
+    groups.clear();
+    for k in path {
+        groups.push(group_of(arcs, *k))?;
+    }
+    Ok(())
 }
 
 /// Searches the bid's graph again.
@@ -76,6 +83,7 @@ fn renew(
         table.forced,
         &mut standing.path,
     )?;
+    list_groups(&mut standing.groups, &table.arcs, &standing.path)?;
     standing.term = outcome.term;
     standing.stuck = outcome.stuck;
     Ok(())
@@ -112,13 +120,11 @@ pub(crate) fn group_of(arcs: &Arcs, k: u32) -> usize
     }
 }
 
-/// Whether the price of an arc of the path rose.
-fn has_risen(marks: &[Mark], arcs: &Arcs, path: &[u32]) -> bool
-    ensures { result ≡ false
-        → All (λ k. HasNotRisen marks.now (slice_index_or arcs.now k no_arc).group) path.now }
+/// Whether the price of one of the groups rose.
+fn has_risen(marks: &[Mark], groups: &[usize]) -> bool
+    ensures { result ≡ false → All (HasNotRisen marks.now) groups.now }
 {
-    path.iter()
-        .any(|k| mark_at(marks, group_of(arcs, *k)) == Mark::Rose)
+    groups.iter().any(|g| mark_at(marks, *g) == Mark::Rose)
 }
 
 /// Searches the bid's graph again where a price of one of its groups fell, or one of an arc of its reply rose; else what
@@ -138,7 +144,7 @@ pub(crate) fn update(
     requires told { fell ≡ false → HaveNotFallen marks.now table.now.arcs }
     ensures { OnOk result (Stands table.now grouped.entry.prices.now standing.new) }
 {
-    if !fell && !has_risen(marks, &table.arcs, &standing.path) {
+    if !fell && !has_risen(marks, &standing.groups) {
         return Ok(());
     }
     renew(buffers, table, grouped, standing)

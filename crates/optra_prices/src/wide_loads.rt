@@ -1,4 +1,4 @@
-//! How much is used of rows by number, beside how much there is of them, for rows that 16 bits don't serve; exact, without a
+//! How much is used of rows by number, beside how much there is of them, for rows that 8 bits don't serve; exact, without a
 //! limit but memory.
 ghost use Rattle.std.specs.Prelude.{◌≡◌, ◌↔◌, ◌+◌, ◌-◌, ◌^◌, ◌≤◌, ◌<◌, ◌++◌, ◌∷◌, [], ℕ, true, false, cond, nat_eq, min, IsTrue, IfOk, OnOk, length, replicate, slice_index, slice_index_or, slice_set};
 ghost use Rattle.optra_prices.specs.Counts.{times};

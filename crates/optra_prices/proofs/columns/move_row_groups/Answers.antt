@@ -38,7 +38,7 @@ move_group-requires-clause-range c =
     let fits : FitsSigned w64 c.args.by = search rules in
     let by = to_z w64 (of_z w64 c.args.by) in
     let move : IsPriceMove by = subst IsPriceMove (sym (to_z-of_z w64 c.args.by fits)) c.requires.by in
-    range_next c.args.prices.now old row by (place - start) c.at-g.result c.loop-place.columns.running.items c.requires.columns c.requires.prices c.requires.running move (omega arith) inv.moved
+    range_next c.args.prices.now.items old row by (place - start) c.at-g.result c.loop-place.columns.running.items c.requires.columns c.requires.prices c.requires.running move (omega arith) inv.moved
 
 pub loop-place-preserved : goal.loop-place-preserved
 loop-place-preserved c =

@@ -8,5 +8,5 @@ invariant-loop-k l = record {
   columns : IsColumns l.fn.columns.groups l.columns;
   running : l.columns.running ≡ l.fn.columns.running;
   due : l.columns.due ≡ l.fn.columns.due;
-  each : (g : ℕ) → IsTold l.prices l.fn.columns l.k l.columns g;
+  each : (g : ℕ) → IsTold l.prices.items l.fn.columns l.k l.columns g;
 }

@@ -28,8 +28,8 @@ returns-then-g-len-clause-repriced c =
     let g = c.args.g in
     let count = c.requires.columns.mark_count in
     elim c.then-g-len.branch [
-      | then-g-len-via-then-g-len w ↦ not_due c.args.prices.now g columns (past_due columns g (grind (arith, c.len.ensures, w.if-g-len.true)))
-      | then-g-len-via-else-g-len+then-ne w ↦ not_due c.args.prices.now g columns (λ due.
+      | then-g-len-via-then-g-len w ↦ not_due c.args.prices.now.items g columns (past_due columns g (grind (arith, c.len.ensures, w.if-g-len.true)))
+      | then-g-len-via-else-g-len+then-ne w ↦ not_due c.args.prices.now.items g columns (λ due.
           let within : g < length marks = grind (arith, c.len.ensures, w.if-g-len.false) in
           let here = get_or_read marks g w.index.result.now within w.index.ensures Still ∙ due in
           let test : true ≡ false = w.if-ne.ensures ∙ ap (λ (mark : Mark). not (sameb the_type mark Due)) here in
@@ -52,7 +52,7 @@ returns-clause-columns c =
     let price_is = to_z-of_z w64 c.index-price.result.now f1 ∙ get_or_read columns.running.items g c.index-price.result.now placed c.index-price.ensures (pos 0) in
     let known = c.requires.running g (let a = is.count in let more = is.running_count in omega arith) in
     let few = is.are.few g (let a = is.count in let more = is.running_count in omega arith) in
-    let range : IsGroupPrice price = subst IsGroupPrice (sym (price_is ∙ known)) (group_range c.args.prices.now (group_at columns.groups.starts.items columns.groups.touches g) c.requires.prices few) in
+    let range : IsGroupPrice price = subst IsGroupPrice (sym (price_is ∙ known)) (group_range c.args.prices.now.items (group_at columns.groups.starts.items columns.groups.touches g) c.requires.prices few) in
     let f2 : FitsSigned w64 c.max-columns.result = search rules in
     let f3 : FitsSigned w64 columns.highest = search rules in
     let highest = to_z-of_z w64 c.max-columns.result f2 ∙ c.max-columns.ensures.value ∙ ap (λ (z : ℤ). int_max z price) (to_z-of_z w64 columns.highest f3) in

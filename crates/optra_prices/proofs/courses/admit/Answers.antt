@@ -7,7 +7,7 @@ use Rattle.optra_prices.specs.Listings.{AddsZeros}
 use Rattle.optra_prices.specs.Rooms.{IsDecided}
 use Rattle.optra_prices.specs.Terms.{Setting, setting}
 use Rattle.optra_prices.specs.Tables.{group_at}
-use Rattle.optra_prices.specs.Uses.{paths_in}
+use Rattle.optra_prices.specs.Uses.{lists_in}
 use Rattle.optra_prices.proofs.AdmitLemmas.{extends_longer, capacities_before, prices_read}
 use Rattle.optra_prices.proofs.AllowLemmas.{tables_kept}
 use Rattle.optra_prices.proofs.UseLemmas.{none_counted}
@@ -52,7 +52,7 @@ returns-clause-course g c =
         capacities = subst (λ (rs : List g.row.F-Row.Denot). HaveCapacities rows rs c.widen.new.levels.loads.capacities) c.rows.ensures wide.capacities;
         price_count = wide.count ∙ ap length c.rows.ensures;
         levels = wide.levels;
-        counted = none_counted kept.columns.groups kept.tables.items (paths_in c.forget_paths.new.counted.items) c.widen.new.levels.loads.uses (c.forget_paths.ensures.count ∙ is.counted.count) c.forget_paths.ensures.empty wide.unused;
+        counted = none_counted kept.columns.groups (length kept.tables.items) (lists_in c.forget_paths.new.counted.items) c.widen.new.levels.loads.uses (c.forget_paths.ensures.count ∙ is.counted.count_is) c.forget_paths.ensures.empty wide.unused;
         columns = is.columns;
         tables = tables_kept s (length s.bids) kept.numbering.rows.items numbering.rows.items kept.columns.groups kept.tables.items more.extends is.tables;
         stand = is.stand;

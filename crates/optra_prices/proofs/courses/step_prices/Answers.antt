@@ -1,33 +1,20 @@
 use Rattle.std.proofs.Common.{◌≡◌, ℕ, List, length, sym, ap, ◌∙◌, subst, arith, rules, to_z, of_z}
-use Rattle.std.specs.Prelude.{All, pos, ◌≤ℤ◌, FitsSigned}
+use Rattle.std.specs.Prelude.{pos, ◌≤ℤ◌, FitsSigned}
 use Rattle.std.specs.Int.{w64}
 use Rattle.std.proofs.lemmas.Int.{ints, to_z-of_z}
 use Rattle.optra_prices.specs.Steps.{step_length}
 use Rattle.optra_prices.specs.Terms.{Setting, setting}
-use Rattle.optra_prices.specs.Uses.{AreCounted, AreUses, HasGroups, paths_of, paths_in}
-use Rattle.optra_prices.specs.declared.numbering.BidTable.{BidTable}
+use Rattle.optra_prices.specs.Uses.{AreCounted, AreUses, lists_of, lists_in}
 use Rattle.optra_prices.proofs.CourseLemmas.{counted_on}
 use Rattle.optra_prices.specs.Columns.{PricesAllButDue}
 use Rattle.optra_prices.proofs.RunningLemmas.{none_due}
-use Rattle.optra_prices.proofs.StepCourseLemmas.{course_grouped, step_made}
+use Rattle.optra_prices.proofs.StepCourseLemmas.{step_made}
 use Rattle.optra_prices.proofs.courses.step_prices.Goals as goal
-
-pub count_uses-requires-clause-groups : goal.count_uses-requires-clause-groups
-count_uses-requires-clause-groups g c =
-    let net = c.args.inst.net.now in
-    let f = c.args.rows.now in
-    let proper = c.args.inst.proper in
-    let s : Setting g.row.F-Row.Denot = setting net (g.F.RowFamily.rows_of f net) (g.F.RowFamily.rows_used f net) c.args.inst.bids.now c.args.node.now in
-    subst (All (HasGroups c.args.kept.now.columns.groups)) (sym c.deref.ensures.value)
-    (course_grouped g.F.Row.Ord.cmp g.met.F.Row.Ord.total g.met.F.RowFamily.tells_apart s proper (λ kind leg usable. g.met.F.RowFamily.lists_rows f net kind leg usable) c.args.kept.now c.requires.course.is)
 
 pub count_uses-requires-clause-counted : goal.count_uses-requires-clause-counted
 count_uses-requires-clause-counted g c =
     let kept = c.args.kept.now in
-    subst (λ (tables : List BidTable). AreCounted kept.columns.groups tables (paths_in kept.counted.items) kept.levels.loads.uses) (sym c.deref.ensures.value) c.requires.course.is.counted
-
-pub count_uses-requires-clause-standings : goal.count_uses-requires-clause-standings
-count_uses-requires-clause-standings g c = ap length c.deref-2.ensures.value ∙ c.requires.course.is.stand.count_is ∙ ap length (sym c.deref.ensures.value)
+    subst (λ (count : ℕ). AreCounted kept.columns.groups count (lists_in kept.counted.items) kept.levels.loads.uses) (sym c.requires.course.is.stand.count_is ∙ ap length (sym c.deref.ensures.value)) c.requires.course.is.counted
 
 pub returns-clause-moved : goal.returns-clause-moved
 returns-clause-moved g c =
@@ -40,9 +27,9 @@ returns-clause-moved g c =
     let counted = c.count_uses.new.counted in
     let counts = c.in_ok-count_uses.ensures in
     let moves = c.in_ok-move_prices.ensures in
-    let counted_is = subst (λ (tables : List BidTable). AreCounted kept.columns.groups tables (paths_in counted.items) used.loads.uses) c.deref.ensures.value counts.counted in
+    let counted_is = subst (λ (count : ℕ). AreCounted kept.columns.groups count (lists_in counted.items) used.loads.uses) (ap length c.deref.ensures.value ∙ c.requires.course.is.stand.count_is) counts.counted in
     record {
-      is = counted_on g.F.Row.Ord.cmp s kept c.move_prices.new.columns moves.columns c.move_prices.new.levels counted is moves.levels (subst (λ (us : List ℕ). AreCounted kept.columns.groups kept.tables.items (paths_in counted.items) us) (sym moves.rest.uses) counted_is)
+      is = counted_on g.F.Row.Ord.cmp s kept c.move_prices.new.columns moves.columns c.move_prices.new.levels counted is moves.levels (subst (λ (us : List ℕ). AreCounted kept.columns.groups (length kept.tables.items) (lists_in counted.items) us) (sym moves.rest.uses) counted_is)
           (moves.prices.count ∙ ap (λ v. length v.items) counts.prices.prices) (moves.rest.capacities ∙ counts.prices.capacities) moves.grouped;
       due = moves.due;
     }
@@ -58,10 +45,7 @@ returns-clause-step g c =
     let used = c.count_uses.new.levels in
     let counts = c.in_ok-count_uses.ensures in
     let moves = c.in_ok-move_prices.ensures in
-    let paths = counts.paths ∙ ap paths_of c.deref-2.ensures.value in
-    let uses : AreUses kept.columns.groups kept.tables.items (paths_of kept.standings.items) used.loads.uses = subst (λ (ps : List (List ℕ)). AreUses kept.columns.groups kept.tables.items ps used.loads.uses) paths
-    (subst (λ (tables : List BidTable). AreUses kept.columns.groups tables (paths_in c.count_uses.new.counted.items) used.loads.uses) c.deref.ensures.value counts.counted.uses_are)
-    in
+    let uses : AreUses kept.columns.groups (lists_of kept.standings.items) used.loads.uses = subst (λ (lists : List (List ℕ)). AreUses kept.columns.groups lists used.loads.uses) (counts.lists ∙ ap lists_of c.deref.ensures.value) counts.counted.uses_are in
     let fits : FitsSigned w64 c.step_length-by.result = search rules in
     let by = to_z w64 (of_z w64 c.step_length-by.result) in
     let is : by ≡ step_length c.args.inst.bids.now c.args.k = to_z-of_z w64 c.step_length-by.result fits ∙ c.step_length-by.ensures.value in

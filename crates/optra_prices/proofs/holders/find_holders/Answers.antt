@@ -1,11 +1,11 @@
 -- One more bid is listed.
-use Rattle.std.proofs.Common.{◌≡◌, ◌+◌, ◌<◌, ◌++◌, ◌∷◌, [], ℕ, List, length, get_or, Some, slice_get, refl, sym, ap, ◌∙◌, subst, arith}
+use Rattle.std.proofs.Common.{◌≡◌, ◌+◌, ◌<◌, ◌++◌, ◌∷◌, [], ℕ, List, length, get_or, Some, slice_get, refl, ap, ◌∙◌, subst, arith}
 use Rattle.std.proofs.lemmas.Option.{slice_get-get_or}
 use Rattle.std.specs.Prelude.{IfOk}
 use Rattle.std.specs.declared.result.Result.{Result}
 use Rattle.std.specs.declared.result.Result.TheVariants.{Ok, Err}
 use Rattle.optra_prices.specs.Holders.{AreHolders, HoldsArcs}
-use Rattle.optra_prices.specs.Indexes.{AreSpans, IsIndex, Inverts}
+use Rattle.optra_prices.specs.Indexes.{IsIndex, Inverts}
 use Rattle.optra_prices.specs.ArcTerms.{ArcTerm}
 use Rattle.optra_prices.proofs.HolderLemmas.{listed_none, listed_more, holders_all}
 use Rattle.optra_prices.proofs.holders.find_holders.Goals as goal

@@ -1,4 +1,4 @@
-use Rattle.std.proofs.Common.{List, [], length, take, drop, refl, sym, ap, ◌∙◌, subst, rules, ℤ, arith}
+use Rattle.std.proofs.Common.{ℕ, List, [], length, take, drop, refl, sym, ap, ◌∙◌, subst, rules, ℤ, arith}
 use Rattle.std.specs.Prelude.{All, FitsSigned}
 use Rattle.std.specs.Int.{w64}
 use Rattle.std.proofs.lemmas.Int.{to_z-of_z}
@@ -16,7 +16,7 @@ use Rattle.optra_prices.specs.Rooms.{IsDecided}
 use Rattle.optra_prices.specs.Standings.{IsSound, AllStand, AreTables}
 use Rattle.optra_prices.specs.Tables.{AreUpTo}
 use Rattle.optra_prices.specs.Terms.{Setting, setting}
-use Rattle.optra_prices.specs.Uses.{paths_in}
+use Rattle.optra_prices.specs.Uses.{AreCounted, lists_in}
 use Rattle.optra_prices.specs.declared.numbering.BidTable.{BidTable}
 use Rattle.optra_prices.proofs.DecidedLemmas.{own_course}
 use Rattle.optra_prices.proofs.HolderLemmas.{holders_brought}
@@ -24,7 +24,6 @@ use Rattle.optra_prices.proofs.NarrowLemmas.{columns_up, free_up}
 use Rattle.optra_prices.proofs.StayLemmas.{others_stay}
 use Rattle.optra_prices.proofs.TableLemmas.{tables_sound, tables_hold}
 use Rattle.optra_prices.proofs.TellingLemmas.{rest_is}
-use Rattle.optra_prices.proofs.UseLemmas.{counted_brought}
 use Rattle.optra_prices.proofs.keeping.bring_to.Goals as goal
 
 pub claims_of-requires-clause-decisions : goal.claims_of-requires-clause-decisions
@@ -182,7 +181,7 @@ returns g c =
         capacities = is.capacities;
         price_count = is.price_count;
         levels = is.levels;
-        counted = counted_brought kept.columns.groups c.allow_told.new.told.items kept.tables.items tables (paths_in kept.counted.items) kept.levels.loads.uses told.brought is.counted;
+        counted = subst (λ (count : ℕ). AreCounted kept.columns.groups count (lists_in kept.counted.items) kept.levels.loads.uses) (sym told.brought.count_is) is.counted;
         columns = is.columns;
         tables = subst (λ (ds : List Decision). AreTables (setting net rows used bids ds) (length bids) numbered kept.columns.groups tables) node_is told.tables;
         stand = subst (λ (ts : List BidTable). AllStand ts prices standings) c.deref-5.ensures.value (subst (λ (ps : List ℤ). AllStand c.deref-5.result.now ps standings) c.deref-6.ensures.value stands);

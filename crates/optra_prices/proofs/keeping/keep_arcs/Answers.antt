@@ -6,7 +6,7 @@ use Rattle.optra_prices.specs.Holders.{AreHolders}
 use Rattle.optra_prices.specs.Standings.{IsSound, AllStand, AreCopies, AreTables}
 use Rattle.optra_prices.specs.Tables.{AreGroupPrices}
 use Rattle.optra_prices.specs.Terms.{Setting, setting}
-use Rattle.optra_prices.specs.Uses.{AreEmpty, paths_in}
+use Rattle.optra_prices.specs.Uses.{AreEmpty, lists_in}
 use Rattle.optra_prices.specs.declared.numbering.BidTable.{BidTable}
 use Rattle.optra_prices.specs.declared.numbering.Standing.{Standing}
 use Rattle.optra_prices.proofs.CourseLemmas.{own_columns}
@@ -81,7 +81,7 @@ returns g c =
     let counted = c.in_ok-counted.counted in
     let none = c.in_ok-counted.ensures in
     let bids : c.len.result ≡ length tables = omega (arith, c.len.ensures, c.allow_told.new.tables.ok.0) in
-    let counted_count : length (paths_in counted.items) ≡ length tables = ap length none ∙ length-replicate c.len.result [] ∙ bids in
+    let counted_count : length (lists_in counted.items) ≡ length tables = ap length none ∙ length-replicate c.len.result [] ∙ bids in
     let counted_empty = subst AreEmpty (sym none) (empty_all _) in
     let known : AreGroupPrices [] columns.groups.starts.items columns.groups.touches columns.running.items = subst (λ gs. AreGroupPrices [] gs.starts.items gs.touches columns.running.items) (sym groups) made.running in
     let free : AreGroupPrices [] columns.groups.starts.items columns.groups.touches columns.grouped.items = subst (λ gs. AreGroupPrices [] gs.starts.items gs.touches columns.grouped.items) (sym groups) made.zero in (
@@ -93,7 +93,7 @@ returns g c =
           capacities = subst (λ (rs : List g.row.F-Row.Denot). HaveCapacities rows rs levels.loads.capacities) c.rows.ensures wide.capacities;
           price_count = wide.count ∙ ap length c.rows.ensures;
           levels = wide.levels;
-          counted = none_counted columns.groups tables (paths_in counted.items) levels.loads.uses counted_count counted_empty wide.unused;
+          counted = none_counted columns.groups (length tables) (lists_in counted.items) levels.loads.uses counted_count counted_empty wide.unused;
           columns = own_columns making.groups columns made.columns;
           tables = subst (λ gs. AreTables s (length s.bids) numbered gs tables) (sym groups) tables_at;
           stand = stand_free tables columns.grouped.items copies (free_groups columns.groups.starts.items columns.groups.touches columns.grouped.items made.columns.count free) (copies_stand tables [] zero copies same stand);

@@ -17,9 +17,9 @@ returns-clause-levels c =
     let number = c.index-place.result.now in
     let read : slice_index active k ≡ number = sym (get_or_read active k number l c.index-place.ensures 0) in
     let within : number < length old.prices.items = subst (λ (n : ℕ). n < length old.prices.items) read (is.within k 0 l) in
-    let price = c.index.result.now in
+    let price = c.at.result in
     let fits : FitsSigned w64 price = search rules in
-    let price_is : price_of old number ≡ pos 0 = sym (get_or_read old.prices.items number price within c.index.ensures (pos 0)) ∙ sym (to_z-of_z w64 price fits) ∙ ap (to_z w64) c.if-index-ne0.false in
+    let price_is : price_of old number ≡ pos 0 = sym c.at.ensures ∙ sym (to_z-of_z w64 price fits) ∙ ap (to_z w64) c.if-at-ne0.false in
     let few : use_of old number ≤ capacity_of old number = c.is_within.ensures.0 c.if-not-is_within.false in
     rested_levels old is k _ c.swap_remove.new.self _ l (subst (IsIdle old) (sym read) (price_is, few)) c.swap_remove.ensures.items (ap (λ (n : ℕ). set old.listed.items n false) (sym read))
 

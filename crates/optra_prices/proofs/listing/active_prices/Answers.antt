@@ -27,13 +27,13 @@ loop-k-preserved g c =
     let count = c.requires.count in
     let within : number < length prices = subst (λ (n : ℕ). n < length prices) (sym is) least in
     let at : slice_get numbered number ≡ Some row = slice_get_read numbered (length numbered) number row refl (omega arith) c.index-numbered-number.is in
-    let whole : FitsSigned w64 c.index.result.now = search rules in
-    let price : to_z w64 (of_z w64 c.index.result.now) ≡ slice_index_or prices number (pos 0) = to_z-of_z w64 c.index.result.now whole ∙ c.index.ensures ∙ get_or_default prices number c.index.result.now (pos 0) within in
+    let whole : FitsSigned w64 c.at.result = search rules in
+    let price : to_z w64 (of_z w64 c.at.result) ≡ slice_index_or prices number (pos 0) = to_z-of_z w64 c.at.result whole ∙ c.at.ensures in
     let one : k + 1 ≡ suc k = omega arith in
     let taken : take (k + 1) active ≡ take k active ++ number ∷ [] = ap (λ (j : ℕ). take j active) one ∙ take_push active k number number_at in
     let last : ℤ → PriceList g.row.R.Denot = λ z. cond (is_positive z) ((row, z) ∷ []) [] in
     c.in_ok-push_price.ensures
-    ∙ ap (λ (es : PriceList g.row.R.Denot). es ++ last (to_z w64 (of_z w64 c.index.result.now))) c.loop-k.invariant
+    ∙ ap (λ (es : PriceList g.row.R.Denot). es ++ last (to_z w64 (of_z w64 c.at.result))) c.loop-k.invariant
     ∙ ap (λ (z : ℤ). listed (rows_at numbered (take k active)) prices ++ last z) price
     ∙ sym (listed_push prices (rows_at numbered (take k active)) (row, number))
     ∙ ap (λ (es : List (g.row.R.Denot × ℕ)). listed es prices) (sym (rows_at_push numbered (take k active) number row at))

@@ -14,7 +14,7 @@ loop-n-init g c =
     let old = c.args.levels.now in
     let now = c.reserve_levels.new.levels in
     let is = c.in_ok-reserve_levels.ensures in
-    let count : length now.prices.items ≡ c.len-n.result = omega (arith, c.len-n.ensures, now.prices.ok.0) in
+    let count : length now.prices.items ≡ c.len-n.result = sym c.len-n.ensures in
     let was : length old.prices.items ≡ c.len-n.result = ap length (sym is.prices) ∙ count in
     record {
       levels = is.levels;

@@ -1,4 +1,4 @@
-use Rattle.std.proofs.Common.{◌≡◌, ◌<◌, ◌≤◌, ◌∙◌, length, take, sym, arith}
+use Rattle.std.proofs.Common.{◌∙◌, arith}
 use Rattle.std.proofs.lemmas.List.{take_all}
 use Rattle.optra_prices.proofs.NarrowLoadLemmas.{put_next, push_next}
 use Rattle.optra_prices.proofs.loads.widen.Goals as goal

@@ -1,4 +1,4 @@
-use Rattle.std.proofs.Common.{◌≡◌, ◌≤◌, length, take}
+use Rattle.std.proofs.Common.{◌≡◌, take}
 use Rattle.optra_prices.proofs.loads.widen.Given as goal
 
 abbrev pub invariant-loop-number : goal.invariant-loop-number

@@ -1,4 +1,4 @@
-use Rattle.std.proofs.Common.{◌≡◌, ◌<◌, ◌≤◌, length, ap, arith}
+use Rattle.std.proofs.Common.{◌<◌, ◌≤◌, length, ap, arith}
 use Rattle.std.proofs.lemmas.List.{get_or_read}
 use Rattle.optra_prices.specs.Loads.{used_in, no_narrow_load}
 use Rattle.optra_prices.specs.declared.narrow_loads.NarrowLoad.{NarrowLoad}

@@ -1,34 +1,20 @@
 use Rattle.std.proofs.Common.{ℕ, List, length, refl, sym, ap, ◌∙◌, subst}
-use Rattle.std.specs.Prelude.{All}
 use Rattle.std.proofs.lemmas.Result.{IfOk-weaker}
 use Rattle.optra_prices.specs.Columns.{AreRunning}
 use Rattle.optra_prices.specs.Courses.{replies_at}
 use Rattle.optra_prices.specs.Overfull.{AreOverfilled, ListsAbove}
 use Rattle.optra_prices.specs.Tables.{AreGroupPrices}
 use Rattle.optra_prices.specs.Terms.{Setting, setting}
-use Rattle.optra_prices.specs.Uses.{AreCounted, AreUses, HasGroups, paths_of, paths_in}
-use Rattle.optra_prices.specs.declared.numbering.BidTable.{BidTable}
+use Rattle.optra_prices.specs.Uses.{AreCounted, AreUses, lists_of, lists_in}
 use Rattle.optra_prices.proofs.CourseLemmas.{counted_on}
 use Rattle.optra_prices.proofs.PathLemmas.{ok_anyway}
-use Rattle.optra_prices.proofs.StepCourseLemmas.{course_grouped, overfilled}
+use Rattle.optra_prices.proofs.StepCourseLemmas.{overfilled}
 use Rattle.optra_prices.proofs.overfull.overfull_rows.Goals as goal
-
-pub count_uses-requires-clause-groups : goal.count_uses-requires-clause-groups
-count_uses-requires-clause-groups g c =
-    let net = c.args.inst.net.now in
-    let f = c.args.rows.now in
-    let proper = c.args.inst.proper in
-    let s : Setting g.row.F-Row.Denot = setting net (g.F.RowFamily.rows_of f net) (g.F.RowFamily.rows_used f net) c.args.inst.bids.now c.args.node.now in
-    subst (All (HasGroups c.args.kept.now.columns.groups)) (sym c.deref.ensures.value)
-    (course_grouped g.F.Row.Ord.cmp g.met.F.Row.Ord.total g.met.F.RowFamily.tells_apart s proper (λ kind leg usable. g.met.F.RowFamily.lists_rows f net kind leg usable) c.args.kept.now c.requires.is)
 
 pub count_uses-requires-clause-counted : goal.count_uses-requires-clause-counted
 count_uses-requires-clause-counted g c =
     let kept = c.args.kept.now in
-    subst (λ (tables : List BidTable). AreCounted kept.columns.groups tables (paths_in kept.counted.items) kept.levels.loads.uses) (sym c.deref.ensures.value) c.requires.is.counted
-
-pub count_uses-requires-clause-standings : goal.count_uses-requires-clause-standings
-count_uses-requires-clause-standings g c = ap length c.deref-2.ensures.value ∙ c.requires.is.stand.count_is ∙ ap length (sym c.deref.ensures.value)
+    subst (λ (count : ℕ). AreCounted kept.columns.groups count (lists_in kept.counted.items) kept.levels.loads.uses) (sym c.requires.is.stand.count_is ∙ ap length (sym c.deref.ensures.value)) c.requires.is.counted
 
 pub returns-clause-kept : goal.returns-clause-kept
 returns-clause-kept g c =
@@ -40,7 +26,7 @@ returns-clause-kept g c =
     let used = c.count_uses.new.levels in
     let counted = c.count_uses.new.counted in
     let counts = c.in_ok-count_uses.ensures in
-    let counted_is = subst (λ (tables : List BidTable). AreCounted kept.columns.groups tables (paths_in counted.items) used.loads.uses) c.deref.ensures.value counts.counted in
+    let counted_is = subst (λ (count : ℕ). AreCounted kept.columns.groups count (lists_in counted.items) used.loads.uses) (ap length c.deref.ensures.value ∙ c.requires.is.stand.count_is) counts.counted in
     ok_anyway c.rows_above.result (record {
       is = counted_on g.F.Row.Ord.cmp s kept kept.columns is.columns used counted is counts.levels counted_is (ap (λ v. length v.items) counts.prices.prices) counts.prices.capacities refl;
       still = c.requires.still;
@@ -58,10 +44,7 @@ returns-clause-rows g c =
     let kept = c.args.kept.now in
     let used = c.count_uses.new.levels in
     let counts = c.in_ok-count_uses.ensures in
-    let paths = counts.paths ∙ ap paths_of c.deref-2.ensures.value in
-    let uses : AreUses kept.columns.groups kept.tables.items (paths_of kept.standings.items) used.loads.uses = subst (λ (ps : List (List ℕ)). AreUses kept.columns.groups kept.tables.items ps used.loads.uses) paths
-    (subst (λ (tables : List BidTable). AreUses kept.columns.groups tables (paths_in c.count_uses.new.counted.items) used.loads.uses) c.deref.ensures.value counts.counted.uses_are)
-    in
+    let uses : AreUses kept.columns.groups (lists_of kept.standings.items) used.loads.uses = subst (λ (lists : List (List ℕ)). AreUses kept.columns.groups lists used.loads.uses) (counts.lists ∙ ap lists_of c.deref.ensures.value) counts.counted.uses_are in
     IfOk-weaker c.rows_above.result (λ listed. ListsAbove c.rows.result.now used listed.items) (λ listed. AreOverfilled rows c.args.inst.bids.now (replies_at kept) listed.items)
     (λ listed above. overfilled g.F.Row.Ord.cmp g.met.F.Row.Ord.total g.met.F.RowFamily.tells_apart s proper (λ kind leg usable. g.met.F.RowFamily.lists_rows f net kind leg usable) kept c.requires.is used
     counts.prices.prices counts.prices.capacities counts.levels.use_count uses listed.items (subst (λ (numbered : List g.row.F-Row.Denot). ListsAbove numbered used listed.items) c.rows.ensures above))

@@ -1,7 +1,6 @@
-use Rattle.std.proofs.Common.{refl, List, ℕ, subst}
-use Rattle.std.specs.Prelude.{All, slice_index_or}
+use Rattle.std.proofs.Common.{refl, subst}
+use Rattle.std.specs.Prelude.{All}
 use Rattle.optra_prices.specs.Columns.{HasNotRisen}
-use Rattle.optra_prices.specs.Tables.{no_arc}
 use Rattle.optra_prices.proofs.SkipLemmas.{stands_still}
 use Rattle.optra_prices.proofs.settling.update.Goals as goal
 
@@ -10,6 +9,5 @@ returns-then-not-has_risen c =
     let before = c.requires.before in
     let marks = c.args.marks.now in
     let unfallen = c.requires.told c.if-not-fell.true in
-    let arcs = c.args.table.now.arcs in
-    let unrisen = subst (λ (path : List ℕ). All (λ k. HasNotRisen marks (slice_index_or arcs k no_arc).group) path) c.deref.ensures.value (c.if-not-has_risen.ensures refl) in
+    let unrisen = subst (All (HasNotRisen marks)) c.deref.ensures.value (c.if-not-has_risen.ensures refl) in
     stands_still c.args.table.now before.0 c.args.grouped.prices.now marks c.requires.sound before.2 unfallen c.args.standing.now unrisen before.1

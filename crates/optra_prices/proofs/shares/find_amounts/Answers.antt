@@ -1,4 +1,4 @@
-use Rattle.std.proofs.Common.{◌≡◌, ◌∙◌, List, length, ap, sym, subst}
+use Rattle.std.proofs.Common.{◌≡◌, ◌∙◌, length, ap, subst}
 use Rattle.std.specs.Prelude.{All}
 use Rattle.optra_prices.specs.declared.touch.Touch.{Touch}
 use Rattle.optra_prices.proofs.AmountLemmas.{ones_put}

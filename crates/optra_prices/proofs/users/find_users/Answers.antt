@@ -1,7 +1,7 @@
-use Rattle.std.proofs.Common.{◌≡◌, ◌<◌, List, ℕ, length, arith, sym, ◌∙◌, ap, subst}
+use Rattle.std.proofs.Common.{◌≡◌, ◌<◌, List, ℕ, length, arith, ◌∙◌, ap, subst}
 use Rattle.std.specs.Prelude.{slice_index}
 use Rattle.std.proofs.lemmas.Result.{IfOk-weaker}
-use Rattle.optra_prices.specs.Indexes.{AreSpans, Inverts, IsPlaced}
+use Rattle.optra_prices.specs.Indexes.{Inverts, IsPlaced}
 use Rattle.optra_prices.specs.Users.{FindsUsers, rows_touched}
 use Rattle.optra_prices.proofs.UserLemmas.{row_spans, users_found}
 use Rattle.optra_prices.proofs.users.find_users.Goals as goal

@@ -1,6 +1,6 @@
 use Rattle.std.proofs.Common.{ℕ, ◌+◌, ◌<◌, length, sym, subst}
 use Rattle.optra_prices.proofs.UseLemmas.{arc_grouped}
-use Rattle.optra_prices.proofs.loading.arc_touches.Goals as goal
+use Rattle.optra_prices.proofs.putting.arc_touches.Goals as goal
 
 pub group-requires-clause-within : goal.group-requires-clause-within
 group-requires-clause-within c =
