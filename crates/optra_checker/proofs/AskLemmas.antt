@@ -1,7 +1,7 @@
 -- What a leg by a way costs may be asked of.
-use Rattle.std.proofs.Common.{◌≡◌, ◌∙◌, ℕ, ℤ, ◌≤◌, ◌<◌, length, List, get_or, set, Option, None, Some, sym, ap, subst, arith}
+use Rattle.std.proofs.Common.{◌≡◌, ◌∙◌, ℕ, ℤ, ◌≤◌, ◌<◌, length, List, get_or, set, replicate, Option, None, Some, sym, ap, subst, arith}
 use Rattle.std.specs.Prelude.{IfSome}
-use Rattle.std.proofs.lemmas.List.{length-set}
+use Rattle.std.proofs.lemmas.List.{length-set, length-replicate, get_or-replicate}
 use Rattle.std.proofs.lemmas.List.Elements.{All-set}
 use Rattle.std.proofs.lemmas.Option.{slice_get_within}
 use Rattle.optra_network.specs.Net.{Net}
@@ -24,6 +24,15 @@ use Rattle.optra_checker.proofs.ReachLemmas.{track_there}
 -- the leg that is kept of a track
 pub last_asked : (w : Weights) (asks : List (Option Ask)) (place : ℕ) (last : Ask) → AreAsked w asks → get_or asks place None ≡ Some last → place < length asks → IsAsked w last
 last_asked w asks place last are at within = subst (λ (o : Option Ask). IfSome o (IsAsked w)) at (are.each place None within)
+
+-- at first no leg was asked of
+pub asked_none : (w : Weights) (net : Net) (n : ℕ) (asks : List (Option Ask)) → w.net ≡ net → n ≡ length net.tracks → asks ≡ replicate n None → AreAsked w asks
+asked_none w net n asks of count is = let none : Option Ask = None in record {
+  len = ap length is ∙ length-replicate n None ∙ count ∙ sym (ap (λ (x : Net). length x.tracks) of);
+  each = λ k d l.
+      let within : k < n = omega (arith, ap length is, length-replicate n none, l) in
+      subst (λ (o : Option Ask). IfSome o (IsAsked w)) (sym (ap (λ (xs : List (Option Ask)). get_or xs k d) is ∙ get_or-replicate n k None d within)) tt;
+}
 
 -- what is told of a leg is so of one that is alike
 pub alike_told : (w : Weights) (first second : Leg) (cost : Option ℤ) → AreAlike w first second → TellsCost w first cost → TellsCost w second cost

@@ -24,7 +24,8 @@ use Rattle.optra_checker.specs.Reaches.{IsReach, IsReached, WasTime, IsInTime, I
 use Rattle.optra_checker.specs.Tables.{IsTable, IsFilled, IsReadyFor, HasBest, entry_at, rest_at, rest_in, rests_of, end_of, is_early}
 use Rattle.optra_checker.proofs.HorizonLemmas.{after_later, rest_before}
 use Rattle.optra_checker.proofs.BehindLemmas.{time_after}
-use Rattle.optra_checker.proofs.ReachLemmas.{reached_after, rest_in_time, rest_ahead, late_leg}
+use Rattle.optra_checker.proofs.AheadLemmas.{rest_ahead}
+use Rattle.optra_checker.proofs.ReachLemmas.{reached_after, rest_in_time, late_leg}
 use Rattle.optra_checker.proofs.PlaceLemmas.{place_below, place_later, one_place, of_spot}
 
 pub early_before : (table : RestTable) (s : State) → is_early table s ≡ true → s.minute < end_of table

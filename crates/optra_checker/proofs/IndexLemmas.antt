@@ -1,9 +1,9 @@
 -- Decisions in lists by a number, with the last one put behind and taken off again; and what is read from the lists.
-use Rattle.std.proofs.Common.{◌≡◌, ℕ, zero, suc, ◌-◌, ◌<◌, ◌≤◌, ◌↔◌, Bool, true, false, cond, List, [], ◌∷◌, ◌++◌, length, get_or, set, take, replicate, Some, slice_get, refl, sym, ap, ◌∙◌, subst, arith}
+use Rattle.std.proofs.Common.{◌≡◌, ℕ, zero, suc, ◌-◌, ◌<◌, ◌≤◌, ◌↔◌, Bool, true, false, cond, List, [], ◌∷◌, ◌++◌, length, get_or, set, take, replicate, Some, slice_get, Vec, Global, vec_len, refl, sym, ap, ◌∙◌, subst, arith}
 use Rattle.std.specs.Prelude.{All, filter, nat_eq, not, ◌&&◌, ◌||◌}
 use Rattle.std.proofs.lemmas.Bool.{false≢true}
 use Rattle.std.proofs.lemmas.Bool.Decides.{nat_tests}
-use Rattle.std.proofs.lemmas.List.{append-nil, length-append, length-set, length-replicate, get_or-replicate}
+use Rattle.std.proofs.lemmas.List.{append-nil, length-append, length-map, length-set, length-replicate, get_or-replicate}
 use Rattle.std.proofs.Math.Seq.{take-append_seam}
 use Rattle.std.proofs.lemmas.List.Elements.{All-filter, All-head, All-tail, filter-append}
 use Rattle.std.proofs.lemmas.List.Sums.{sum_by-cons}
@@ -18,6 +18,8 @@ use Rattle.optra_node.specs.Nodes.{IsBlocked, IsUndecided, has_yes, is_yes_for, 
 use Rattle.optra_node.specs.Spans.{IsLetBy, IsStartOk, Lets}
 use Rattle.optra_node.specs.Summaries.{decisions_for, is_for}
 use Rattle.optra_checker.specs.Keyed.{AreKeyed, bucket_of, bucket_in, yes_part}
+use Rattle.optra_checker.specs.declared.decision_index.DecisionIndex.{DecisionIndex}
+use Rattle.optra_checker.specs.Opens.{IsIndexOf}
 use Rattle.optra_checker.proofs.OwnLemmas.{read_written, read_other, is_for_same}
 
 -- ---- lists by a number
@@ -83,6 +85,21 @@ pub keyed_at : (key : Decision → ℕ) (count : ℕ) (node : List Decision) (li
 keyed_at key count node lists k are l =
     let c = are.count_is in
     get_or_from_slice_get lists k (filter (λ d. nat_eq (key d) k) node) [] (are.each k (omega (arith, c, l)))
+
+-- ---- places of the index
+
+pub vec_length : {X : Type 0} (v : Vec X Global) → vec_len v ≡ length v.items
+vec_length v = grind arith
+
+module _ (bids : ℕ) (node : List Decision) (index : DecisionIndex) (are : IsIndexOf bids node index) where
+  pub own_within : (bid : ℕ) → bid < bids → bid < vec_len index.own
+  own_within bid l = let v = vec_length index.own in let m = length-map index.own.items (λ (list : Vec Decision Global). list.items) in let c = are.own.count_is in omega (arith, v, m, c, l)
+
+  pub yes_within : (bid : ℕ) → bid < bids → bid < vec_len index.yes
+  yes_within bid l = let v = vec_length index.yes in let m = length-map index.yes.items (λ (list : Vec Decision Global). list.items) in let c = are.yes.count_is in omega (arith, v, m, c, l)
+
+  pub buckets_count : vec_len index.buckets ≡ 4096
+  buckets_count = let v = vec_length index.buckets in let m = length-map index.buckets.items (λ (list : Vec Decision Global). list.items) in let c = are.buckets.count_is in omega (arith, v, m, c)
 
 -- ---- the yes decisions
 

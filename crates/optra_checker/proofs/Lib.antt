@@ -29,6 +29,7 @@ pub mod UsedLemmas
 pub mod LeafLemmas
 pub mod BoundLemmas
 pub mod ReachLemmas
+pub mod AheadLemmas
 pub mod VerdictLemmas
 pub mod FreeLemmas
 pub mod ProductLemmas

@@ -1,12 +1,18 @@
 -- Totals that are lowered row by row.
-use Rattle.std.proofs.Common.{◌≡◌, ℕ, ◌+◌, ◌<◌, ◌≤◌, ◌↔◌, inl, inr, true, cond, Some, List, length, slice_get, Contains, sym, ap, ◌∙◌, subst, arith}
+use Rattle.std.proofs.Common.{◌≡◌, ℕ, ◌+◌, ◌<◌, ◌≤◌, ◌↔◌, inl, inr, Bool, true, false, not, cond, Option, Some, List, length, slice_get, Contains, refl, sym, ap, ◌∙◌, subst, arith}
 use Rattle.std.proofs.lemmas.Bool.{cases_lt, cases_eq, false_from_ne_true}
 use Rattle.std.proofs.lemmas.Option.{slice_get-get_or}
 use Rattle.std.specs.Cmp.{IsTotalOrder}
 use Rattle.std.specs.Ordering.{is_eq}
 use Rattle.std.specs.declared.cmp.Ordering.{Ordering}
 use Rattle.std.specs.declared.cmp.Ordering.TheVariants.{Equal}
-use Rattle.optra_walk.specs.Families.{Ascends, TellsApart}
+use Rattle.std.specs.Option.{option_map_or}
+use Rattle.optra_network.specs.declared.TypeId.{TypeId}
+use Rattle.optra_bid.specs.declared.bids.Bid.{Bid}
+use Rattle.optra_walk.specs.Families.{Ascends, Rows, TellsApart}
+use Rattle.optra_node.specs.declared.Decision.{Decision}
+use Rattle.optra_node.specs.Nodes.{kind_at, uses_at, yes_uses}
+use Rattle.optra_node.proofs.ChildLemmas.{some_at}
 use Rattle.optra_node.proofs.LeastLemmas.{at_contains}
 use Rattle.optra_node.proofs.RaiseLemmas.{itself, is_eq_from, ascends_at}
 
@@ -61,3 +67,23 @@ module _ {Row : Type 0} (cmp : Row → Row → Ordering) (total : IsTotalOrder c
 
   pub lowered_none : (now : Row → ℕ) → ((q : Row) → now q ≡ before q) → IsLowered cmp rows use_count before now 0
   lowered_none now same = record { done = λ j row l e. absurd (omega arith); rest = λ q _. same q }
+
+yes_not : (b : Bool) → not b ≡ false → b ≡ true
+yes_not true e = refl
+yes_not false e = sym e
+
+no_not : (b : Bool) → not b ≡ true → b ≡ false
+no_not true e = sym e
+no_not false e = refl
+
+-- what a decision's leg uses, by the type of its bid
+module _ {R : Type 0} (rows : Rows R) (bids : List Bid) (row : R) (d : Decision) where
+  pub no_uses : not d.yes ≡ true → yes_uses rows bids row d ≡ 0
+  no_uses e = ap (λ y. cond y (uses_at rows bids row d.bid d.leg) 0) (no_not d.yes e)
+
+  pub uses_by_kind : not d.yes ≡ false → d.bid < length bids → yes_uses rows bids row d ≡ rows.uses (kind_at bids d.bid) d.leg row
+  uses_by_kind e l =
+      let there = some_at bids d.bid (length bids) refl l in
+      let kind = ap (λ (o : Option Bid). option_map_or (λ (b : Bid). b.path.kind) o (record { 0 = 0 })) there.1 in
+      ap (λ y. cond y (uses_at rows bids row d.bid d.leg) 0) (yes_not d.yes e) ∙ ap (λ (o : Option Bid). option_map_or (λ (b : Bid). rows.uses b.path.kind d.leg row) o 0) there.1
+      ∙ sym (ap (λ (k : TypeId). rows.uses k d.leg row) kind)

@@ -1,8 +1,8 @@
 -- An open node, with one decision more and one less.
-use Rattle.std.proofs.Common.{◌≡◌, ℕ, zero, suc, ◌+◌, ◌*◌, ◌<◌, ◌≤◌, Bool, true, false, cond, List, [], ◌∷◌, ◌++◌, length, get_or, Option, Some, None, slice_get, refl, sym, ap, ◌∙◌, subst, arith}
+use Rattle.std.proofs.Common.{◌≡◌, ℕ, zero, suc, ◌+◌, ◌*◌, ◌<◌, ◌≤◌, Bool, true, false, cond, List, [], ◌∷◌, ◌++◌, length, get_or, Option, Some, None, slice_get, refl, sym, ap, ◌∙◌, subst, arith, rules}
 use Rattle.std.specs.Prelude.{All, IsSome}
 use Rattle.std.specs.declared.cmp.Ordering.{Ordering}
-use Rattle.std.specs.BTreeMap.{BTreeMap}
+use Rattle.std.specs.BTreeMap.{BTreeMap, IsEmpty}
 use Rattle.std.proofs.lemmas.Bool.{false≢true}
 use Rattle.std.proofs.lemmas.List.{length-append}
 use Rattle.std.proofs.lemmas.List.Elements.{All-head, All-tail}
@@ -16,7 +16,7 @@ use Rattle.optra_walk.specs.declared.Leg.{Leg}
 use Rattle.optra_walk.specs.Families.{Rows, IsUsable, ListsRows, total_of}
 use Rattle.optra_node.specs.declared.Decision.{Decision}
 use Rattle.optra_node.specs.Nodes.{IsNode, IsFormedLeg, IsFormedDecision, IsUndecided, DecideApart, uses_at, yes_uses, yes_load}
-use Rattle.optra_node.specs.Summaries.{AreLoads, AreByBid}
+use Rattle.optra_node.specs.Summaries.{AreLoads}
 use Rattle.optra_node.proofs.NodeLemmas.{child_is_node}
 use Rattle.optra_node.proofs.RowLemmas.{uses_few}
 use Rattle.optra_checker.specs.declared.decision_index.DecisionIndex.{DecisionIndex}
@@ -94,28 +94,40 @@ module _ {R : Type 0} (cmp : R → R → Ordering) (net : Net) (proper : IsPrope
   pub totals_few : (node : List Decision) → All (IsFormedDecision net (length bids)) node → (row : R) → yes_load rows bids node row ≤ 8192 * length node
   totals_few node formed row = load_few rows bids node row (λ k e l. decision_few row (get_or node k e) (formed k e l))
 
+-- totals that are kept of no row
+pub total_none : {R : Type 0} (cmp : R → R → Ordering) (totals : BTreeMap R ℕ) (row : R) → IsEmpty totals → total_of cmp totals row ≡ 0
+total_none cmp totals row none = search rules
+
+-- the root has nothing
+pub open_root : {R : Type 0} (cmp : R → R → Ordering) (net : Net) (rows : Rows R) (bids : List Bid) (totals : BTreeMap R ℕ) (index : DecisionIndex) → ((row : R) → total_of cmp totals row ≡ 0)
+    → IsIndexOf (length bids) [] index → IsOpen cmp net rows bids [] totals index
+open_root cmp net rows bids totals index none indexed = record {
+  is_node = record { formed = λ k e l. absurd (omega (arith, l)); once = λ i j e l m. absurd (omega (arith, l, m)) };
+  loads = none;
+  few = λ row. let z = none row in omega (arith, z);
+  indexed = indexed;
+}
+
 module _ {R : Type 0} (cmp : R → R → Ordering) (net : Net) (rows : Rows R) (bids : List Bid) (d : Decision) where
-  pub open_push : (node node' : List Decision) (totals totals' : BTreeMap R ℕ) (lists lists' : List (List Decision)) (index index' : DecisionIndex) → node' ≡ node ++ d ∷ []
-      → IsOpen cmp net rows bids node totals lists index → IsFormedDecision net (length bids) d → IsUndecided node d.bid d.leg
+  pub open_push : (node node' : List Decision) (totals totals' : BTreeMap R ℕ) (index index' : DecisionIndex) → node' ≡ node ++ d ∷ []
+      → IsOpen cmp net rows bids node totals index → IsFormedDecision net (length bids) d → IsUndecided node d.bid d.leg
       → ((q : R) → total_of cmp totals' q ≡ total_of cmp totals q + yes_uses rows bids q d) → ((q : R) → yes_uses rows bids q d ≤ 8192)
-      → AreByBid (length bids) (node ++ d ∷ []) lists' → IsIndexOf (length bids) (node ++ d ∷ []) index' → IsOpen cmp net rows bids node' totals' lists' index'
-  open_push node node' totals totals' lists lists' index index' is before formed fresh added little own indexed = record {
+      → IsIndexOf (length bids) (node ++ d ∷ []) index' → IsOpen cmp net rows bids node' totals' index'
+  open_push node node' totals totals' index index' is before formed fresh added little indexed = record {
     is_node = child_is_node net (length bids) node node' d is fresh before.is_node formed;
     loads = λ row. added row ∙ ap (λ n. n + yes_uses rows bids row d) (before.loads row) ∙ sym (load_push rows bids node d row) ∙ ap (λ n. yes_load rows bids n row) (sym is);
     few = λ row. let a = added row in let b = before.few row in let u = little row in let l : length node' ≡ length node + 1 = ap length is ∙ length-append node (d ∷ []) in omega arith;
-    by_bid = subst (λ n. AreByBid (length bids) n lists') (sym is) own;
     indexed = subst (λ n. IsIndexOf (length bids) n index') (sym is) indexed;
   }
 
-  pub open_pop : (node node' : List Decision) (totals totals' : BTreeMap R ℕ) (lists lists' : List (List Decision)) (index index' : DecisionIndex) → node ≡ node' ++ d ∷ []
-      → IsOpen cmp net rows bids node totals lists index → ((q : R) → yes_load rows bids node' q ≤ 8192 * length node')
+  pub open_pop : (node node' : List Decision) (totals totals' : BTreeMap R ℕ) (index index' : DecisionIndex) → node ≡ node' ++ d ∷ []
+      → IsOpen cmp net rows bids node totals index → ((q : R) → yes_load rows bids node' q ≤ 8192 * length node')
       → ((q : R) → total_of cmp totals' q + yes_uses rows bids q d ≡ total_of cmp totals q)
-      → AreByBid (length bids) node' lists' → IsIndexOf (length bids) node' index' → IsOpen cmp net rows bids node' totals' lists' index'
-  open_pop node node' totals totals' lists lists' index index' is before small taken own indexed = record {
+      → IsIndexOf (length bids) node' index' → IsOpen cmp net rows bids node' totals' index'
+  open_pop node node' totals totals' index index' is before small taken indexed = record {
     is_node = (behind net (length bids) node' d (subst (IsNode net (length bids)) is before.is_node)).is_node;
     loads = same;
     few = λ row. let s = same row in let w = small row in omega arith;
-    by_bid = own;
     indexed = indexed;
   }
     where

@@ -4,9 +4,9 @@ use Rattle.std.specs.Prelude.{ℤ, pos, negsuc, ◌+ℤ◌, ◌*ℤ◌, ◌≤�
 use Rattle.std.specs.Int.{w128}
 use Rattle.std.proofs.Math.Nat.{mul-le-mul_left}
 use Rattle.std.proofs.lemmas.Int.{ints, to_z-of_z}
-use Rattle.optra_bid.specs.Specs.{IsRate}
+use Rattle.optra_bid.specs.Specs.{IsBetween, IsRate}
 use Rattle.optra_checker.specs.Shares.{IsTimesPrice, IsPriceOff, IsBase, IsShare, IsStartValue}
-use Rattle.optra_checker.specs.Sizes.{IsRowPrice, IsLegPrice, IsWholeRest}
+use Rattle.optra_checker.specs.Sizes.{IsRowPrice, IsLegPrice, IsWholeRest, IsCapacityPrice}
 
 -- a product lies within the bounds of its factors
 pub product_within : (most : ℕ) (z : ℤ) (n : ℕ) → pos 0 ≤ℤ z → z ≤ℤ pos most → (pos 0 ≤ℤ (z *ℤ pos n)) × ((z *ℤ pos n) ≤ℤ pos (most * n))
@@ -28,6 +28,13 @@ row_price_same z range = let a = range.0 in let b = range.1 in let fits : FitsSi
 
 pub leg_price_same : (z : ℤ) → IsLegPrice z → to_z w128 (of_z w128 z) ≡ z
 leg_price_same z range = let a = range.0 in let b = range.1 in let fits : FitsSigned w128 z = omega (arith, ints) in to_z-of_z w128 z fits
+
+-- the price of a leg is no more than a leg may cost
+pub price_is_cost : (z : ℤ) → IsLegPrice z → IsBetween (pos 0) (pos 1152921504606846976) (to_z w128 (of_z w128 z))
+price_is_cost z range = let a = range.0 in let b = range.1 in subst (IsBetween (pos 0) (pos 1152921504606846976)) (sym (leg_price_same z range)) (omega (arith, ints), omega (arith, ints))
+
+pub capacity_price_same : (z : ℤ) → IsCapacityPrice z → to_z w128 (of_z w128 z) ≡ z
+capacity_price_same z range = let a = range.0 in let b = range.1 in let fits : FitsSigned w128 z = omega (arith, ints) in to_z-of_z w128 z fits
 
 pub base_same : (z : ℤ) → IsBase z → to_z w64 (of_z w64 z) ≡ z
 base_same z range = let a = range.0 in let b = range.1 in let fits : FitsSigned w64 z = omega (arith, ints) in to_z-of_z w64 z fits

@@ -1,13 +1,9 @@
 -- The nodes that are still to come when the items of a tree are gone through one after the other. A yes decision of the
 -- open node is of a split whose no part is still to come; a no decision leaves nothing behind.
 use Rattle.std.specs.Prelude.{◌≡◌, ◌⊎◌, ℕ, ◌<◌, List, [], ◌∷◌, ◌++◌, length, take, cond}
-use Rattle.optra_network.specs.Net.{Net}
-use Rattle.optra_bid.specs.declared.bids.Bid.{Bid}
 use Rattle.optra_node.specs.declared.Decision.{Decision}
 use Rattle.optra_node.specs.declared.Item.{Item}
-use Rattle.optra_node.specs.Summaries.{Summed, summed}
 use Rattle.optra_node.specs.Trees.{decide_not, root, open_after}
-use Rattle.optra_checker.specs.Opens.{AreSame}
 
 -- the nodes still to come after decisions that stand behind others, the nearest first
 abbrev pub to_come_behind : List Decision → List Decision → List (List Decision)
@@ -28,6 +24,5 @@ abbrev pub IsNextWay : List (List Decision) → List Decision → Type 0
 IsNextWay ways next = (ways ≡ []) ⊎ (ways ≡ open_with next)
 
 -- before an item of a tree, its node is open
-pub record IsAt {F R : Type 0} (family : F) (net : Net) (bids : List Bid) (tree : List (Item R)) (i : ℕ) (open_node : Summed F) : Type 0 where
-  pub same : AreSame (summed family net bids []) open_node
-  pub ways : i < length tree → open_after root (take i tree) ≡ open_with open_node.node
+abbrev pub IsAt : {R : Type 0} → List (Item R) → ℕ → List Decision → Type 0
+IsAt tree i node = i < length tree → open_after root (take i tree) ≡ open_with node

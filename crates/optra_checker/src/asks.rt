@@ -1,17 +1,27 @@
 //! What legs cost, asked as seldom as may be.
-ghost use Rattle.std.specs.Prelude.{◌<◌, length};
+ghost use Rattle.std.specs.Prelude.{◌≡◌, ◌<◌, None, IfOk, length, replicate};
 ghost use Rattle.optra_walk.specs.Families.{IsUsable};
 ghost use Rattle.optra_checker.specs.Asks.{AreAsked};
 ghost use Rattle.optra_checker.specs.Weights.{TellsCost};
 
 use crate::weighing::Weighing;
+use optra_network::NoMemory;
 use optra_walk::Leg;
+use std::alloc::Global;
 
 /// A leg, and what it costs; `None` where a walk may not have it.
-#[derive(Clone, Copy, Debug, PartialEq, Eq)]
+#[derive(Clone, Copy)]
 pub(crate) struct Ask {
     pub leg: Leg,
     pub cost: Option<i128>,
+}
+
+/// So many tracks of which no leg was asked of. `NoMemory` is its only refusal.
+pub(crate) fn no_asks(alloc: Global, tracks: usize) -> Result<Vec<Option<Ask>>, NoMemory>
+    ensures { IfOk result (λ asks. asks.items ≡ replicate tracks None) }
+{
+    let asks = vec![in alloc; None; tracks]?;
+    Ok(asks)
 }
 
 /// What the leg costs. Of each track the leg that was asked of last is kept, and a leg that is

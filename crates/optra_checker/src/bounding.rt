@@ -1,5 +1,5 @@
 //! Whether the stated bound is the greatest bound of the leaves with prices.
-ghost use Rattle.std.specs.Prelude.{◌≡◌, ◌↔◌, All, IsTrue, IfOk, Some, length, map, option_map};
+ghost use Rattle.std.specs.Prelude.{◌≡◌, ◌↔◌, [], All, IsTrue, IfOk, Some, length, map, option_map};
 ghost use Rattle.optra_bid.specs.Instances.{IsInstance};
 ghost use Rattle.optra_node.specs.Trees.{IsTree, places};
 ghost use Rattle.optra_node.specs.Certificates.{IsFormedItem, SplitsUndecided, HasPrices, IsGreatestBound};
@@ -7,8 +7,10 @@ ghost use Rattle.optra_node.specs.Nodes.{yes_load};
 ghost use Rattle.optra_checker.specs.Frees.{AreFree};
 ghost use Rattle.optra_checker.specs.Watches.{AreWatches, AreTreeWatches};
 ghost use Rattle.optra_checker.specs.Bounds.{IsItemBound, IsGreatestOf};
+ghost use Rattle.optra_checker.specs.Opens.{IsRoom};
 
 use crate::frees::{Free, find_frees};
+use crate::node_room::{NodeRoom, pass, root_room};
 use crate::open_node::OpenNode;
 use crate::rest_table::RestTable;
 use crate::rests::greater;
@@ -54,35 +56,69 @@ fn item_bound<F: RowFamily>(
     }
 }
 
-/// As [`greatest_bound`], with the best walks of the bids and the rows that are watched for them at
-/// hand.
+/// The best walks of the bids, and the rows that are watched for them.
+#[derive(Drop)]
+struct Known<'a, R> {
+    frees: &'a [Free],
+    watches: &'a [Option<Vec<R>>],
+}
+
+/// As [`greatest_over`], from the root on, which the room has.
+fn greatest_from<F: RowFamily>(
+    alloc: Global,
+    room: &mut NodeRoom<F::Row>,
+    inst: Instance<'_>,
+    rows: &F,
+    tree: &[Item<F::Row>],
+    known: Known<'_, F::Row>,
+    table: &mut RestTable,
+) -> Result<Option<i128>, NoMemory>
+    requires room { IsRoom F.Row.cmp inst.net.now (F.rows_of rows.now inst.net.now) inst.bids.now
+        room.old }
+    requires root { room.old.decisions.items ≡ [] }
+    requires whole { IsTree tree.now }
+    requires items { All (IsFormedItem F.Row.cmp inst.net.now (length inst.bids.now)) tree.now }
+    requires splits { All (λ p. SplitsUndecided p.0 p.1) (places tree.now) }
+    requires prices { All (HasPrices (F.rows_of rows.now inst.net.now)) tree.now }
+    requires frees { AreFree inst.net.now inst.bids.now known.frees.now }
+    requires watches { AreTreeWatches (F.rows_of rows.now inst.net.now) inst.bids.now tree.now
+        known.frees.now (map (option_map (λ w. w.items)) known.watches.now) }
+    ensures { IfOk result (IsGreatestOf inst.entry.net.now (F.rows_of rows.now inst.entry.net.now)
+        inst.entry.bids.now (places tree.now)) }
+{
+    let mut greatest = None;
+    'items: for item in tree {
+        let node = OpenNode::of(inst, rows, room);
+        let cents = item_bound(alloc, &node, item, known.frees, known.watches, table)?;
+        greatest = greater(greatest, cents);
+        pass(room, inst, rows, item)?;
+    }
+    Ok(greatest)
+}
+
+/// As [`greatest_bound`], with what is known of the bids at hand.
 fn greatest_over<F: RowFamily>(
     alloc: Global,
     inst: Instance<'_>,
     rows: &F,
     tree: &[Item<F::Row>],
-    frees: &[Free],
-    watches: &[Option<Vec<F::Row>>],
+    known: Known<'_, F::Row>,
     table: &mut RestTable,
 ) -> Result<Option<i128>, NoMemory>
     requires whole { IsTree tree.now }
     requires items { All (IsFormedItem F.Row.cmp inst.net.now (length inst.bids.now)) tree.now }
     requires splits { All (λ p. SplitsUndecided p.0 p.1) (places tree.now) }
     requires prices { All (HasPrices (F.rows_of rows.now inst.net.now)) tree.now }
-    requires frees { AreFree inst.net.now inst.bids.now frees.now }
+    requires frees { AreFree inst.net.now inst.bids.now known.frees.now }
     requires watches { AreTreeWatches (F.rows_of rows.now inst.net.now) inst.bids.now tree.now
-        frees.now (map (option_map (λ w. w.items)) watches.now) }
+        known.frees.now (map (option_map (λ w. w.items)) known.watches.now) }
     ensures { IfOk result (IsGreatestOf inst.entry.net.now (F.rows_of rows.now inst.entry.net.now)
         inst.entry.bids.now (places tree.now)) }
 {
-    let mut node = OpenNode::new(alloc, inst, rows)?;
-    let mut greatest = None;
-    'items: for item in tree {
-        let cents = item_bound(alloc, &node, item, frees, watches, table)?;
-        greatest = greater(greatest, cents);
-        node = node.pass(item)?;
-    }
-    Ok(greatest)
+    let mut room = root_room(alloc, inst, rows)?;
+    let greatest = greatest_from(alloc, &mut room, inst, rows, tree, known, table);
+    drop(room);
+    greatest
 }
 
 /// As [`greatest_bound`], with the best walks of the bids at hand.
@@ -103,7 +139,13 @@ fn greatest_by<F: RowFamily>(
         inst.entry.bids.now (places tree.now)) }
 {
     let watches = find_watches(alloc, inst, rows, tree, frees)?;
-    greatest_over(alloc, inst, rows, tree, frees, &watches, table)
+    let known = Known {
+        frees,
+        watches: &watches,
+    };
+    let greatest = greatest_over(alloc, inst, rows, tree, known, table);
+    drop(watches);
+    greatest
 }
 
 /// The greatest bound of the leaves with prices, in whole cents; `None` where there is no such
@@ -113,6 +155,7 @@ fn greatest_bound<F: RowFamily>(
     inst: Instance<'_>,
     rows: &F,
     tree: &[Item<F::Row>],
+    table: &mut RestTable,
 ) -> Result<Option<i128>, NoMemory>
     requires whole { IsTree tree.now }
     requires items { All (IsFormedItem F.Row.cmp inst.net.now (length inst.bids.now)) tree.now }
@@ -121,9 +164,10 @@ fn greatest_bound<F: RowFamily>(
     ensures { IfOk result (IsGreatestOf inst.entry.net.now (F.rows_of rows.now inst.entry.net.now)
         inst.entry.bids.now (places tree.now)) }
 {
-    let mut table = RestTable::new(alloc);
-    let frees = find_frees(alloc, inst, &mut table)?;
-    greatest_by(alloc, inst, rows, tree, &frees, &mut table)
+    let frees = find_frees(alloc, inst, table)?;
+    let greatest = greatest_by(alloc, inst, rows, tree, &frees, table);
+    drop(frees);
+    greatest
 }
 
 /// Whether there is a number and it is the stated one.
@@ -136,13 +180,15 @@ fn is_stated(greatest: Option<i128>, stated: Cents) -> bool
     }
 }
 
-/// Whether the stated bound, in cents, is the greatest bound of the leaves with prices.
+/// Whether the stated bound, in cents, is the greatest bound of the leaves with prices. The table is
+/// room for searches.
 pub(crate) fn bound_holds<F: RowFamily>(
     alloc: Global,
     inst: Instance<'_>,
     rows: &F,
     tree: &[Item<F::Row>],
     stated: Cents,
+    table: &mut RestTable,
 ) -> Result<bool, NoMemory>
     requires whole { IsTree tree.now }
     requires items { All (IsFormedItem F.Row.cmp inst.net.now (length inst.bids.now)) tree.now }
@@ -151,6 +197,6 @@ pub(crate) fn bound_holds<F: RowFamily>(
     ensures { IfOk result (λ holds. IsTrue holds ↔ IsGreatestBound inst.entry.net.now (F.rows_of
         rows.now inst.entry.net.now) inst.entry.bids.now tree.now stated) }
 {
-    let greatest = greatest_bound(alloc, inst, rows, tree)?;
+    let greatest = greatest_bound(alloc, inst, rows, tree, table)?;
     Ok(is_stated(greatest, stated))
 }

@@ -7,6 +7,7 @@ use crate::bounding::bound_holds;
 use crate::fitting::rule_holds;
 use crate::leaves::leaves_hold;
 use crate::pricing::prices_hold;
+use crate::rest_table::RestTable;
 use crate::splitting::splits_hold;
 use crate::walks::{revenue, walks_hold};
 use crate::{Reason, Verdict};
@@ -58,12 +59,13 @@ fn choice_fault<F: RowFamily>(
     Ok(None)
 }
 
-/// The first of K4 to K7 that comes, where none of K1 to K3 does.
+/// The first of K4 to K7 that comes, where none of K1 to K3 does. The table is room for searches.
 fn tree_fault<F: RowFamily>(
     alloc: Global,
     inst: Instance<'_>,
     rows: &F,
     cert: &Certificate<F::Row>,
+    table: &mut RestTable,
 ) -> Result<Option<Reason>, NoMemory>
     requires formed { IsFormed F.Row.cmp inst.net.now (length inst.bids.now) cert.now.choice
         cert.now.tree }
@@ -78,13 +80,13 @@ fn tree_fault<F: RowFamily>(
     if !splits_hold(alloc, inst, rows, tree)? {
         return Ok(Some(Reason::Decision));
     }
-    if !leaves_hold(alloc, inst, rows, tree)? {
+    if !leaves_hold(alloc, inst, rows, tree, table)? {
         return Ok(Some(Reason::DeadLeaf));
     }
     if !prices_hold(inst.net, rows, tree) {
         return Ok(Some(Reason::Price));
     }
-    if !bound_holds(alloc, inst, rows, tree, cert.bound)? {
+    if !bound_holds(alloc, inst, rows, tree, cert.bound, table)? {
         return Ok(Some(Reason::Bound));
     }
     Ok(None)
@@ -105,7 +107,10 @@ fn verdict_on<F: RowFamily>(
     if let Some(reason) = choice_fault(alloc, inst, rows, cert)? {
         return Ok(Verdict::No(reason));
     }
-    if let Some(reason) = tree_fault(alloc, inst, rows, cert)? {
+    let mut table = RestTable::new(alloc);
+    let fault = tree_fault(alloc, inst, rows, cert, &mut table);
+    drop(table);
+    if let Some(reason) = fault? {
         return Ok(Verdict::No(reason));
     }
     Ok(Verdict::Yes {

@@ -1,5 +1,5 @@
-//! The decisions of a node, for look-ups: the yes decisions of each bid, and all decisions in
-//! buckets by bid, track and minute. A look-up reads one list of each, however many decisions there
+//! The decisions of a node, for look-ups: all decisions and the yes decisions of each bid, and all
+//! decisions in buckets by bid, track and minute. A look-up reads one list of each, however many decisions there
 //! are.
 ghost use Rattle.std.specs.Prelude.{◌≡◌, ℕ, ◌<◌, ◌++◌, ◌∷◌, ◌↔◌, [], List, OnOk, IfOk, IsTrue, map, length, vec_len, true};
 ghost use Rattle.optra_node.specs.declared.Decision.{Decision};
@@ -85,6 +85,8 @@ fn take_yes(lists: &mut Vec<Vec<Decision>>, decision: Decision)
 /// The decisions of a node, for look-ups.
 #[derive(Drop)]
 pub(crate) struct DecisionIndex {
+    /// For each bid, the decisions for it.
+    own: Vec<Vec<Decision>>,
     /// For each bid, its yes decisions.
     yes: Vec<Vec<Decision>>,
     buckets: Vec<Vec<Decision>>,
@@ -98,19 +100,22 @@ impl DecisionIndex {
     pub(crate) fn new(alloc: Global, bids: usize) -> Result<DecisionIndex, NoMemory>
         ensures { IfOk result (IsIndexOf bids []) }
     {
+        let own = empty_lists(alloc, bids)?;
         let yes = empty_lists(alloc, bids)?;
         let buckets = empty_lists(alloc, BUCKETS)?;
-        Ok(DecisionIndex { yes, buckets })
+        Ok(DecisionIndex { own, yes, buckets })
     }
 
     /// Puts one more decision to it. `NoMemory` is its only refusal, and then the index serves no
     /// more.
     pub(crate) fn put(&mut self, decision: Decision) -> Result<(), NoMemory>
-        requires bid { decision.bid < vec_len self.old.yes }
+        requires own { decision.bid < vec_len self.old.own }
+        requires yes { decision.bid < vec_len self.old.yes }
         requires buckets { vec_len self.old.buckets ≡ 4096 }
         ensures { OnOk result ((bids : ℕ) (node : List Decision) → IsIndexOf bids node self.old
             → IsIndexOf bids (node ++ decision ∷ []) self.new) }
     {
+        add_at(&mut self.own, decision.bid as usize, decision)?;
         put_yes(&mut self.yes, decision)?;
         let bucket = bucket_of(decision.bid, decision.leg);
         add_at(&mut self.buckets, bucket, decision)
@@ -118,14 +123,25 @@ impl DecisionIndex {
 
     /// Takes the last decision off.
     pub(crate) fn take_off(&mut self, decision: Decision)
-        requires bid { decision.bid < vec_len self.old.yes }
+        requires own { decision.bid < vec_len self.old.own }
+        requires yes { decision.bid < vec_len self.old.yes }
         requires buckets { vec_len self.old.buckets ≡ 4096 }
         ensures { (bids : ℕ) (node : List Decision) → IsIndexOf bids (node ++ decision
             ∷ []) self.old → IsIndexOf bids node self.new }
     {
+        drop_at(&mut self.own, decision.bid as usize, decision);
         take_yes(&mut self.yes, decision);
         let bucket = bucket_of(decision.bid, decision.leg);
         drop_at(&mut self.buckets, bucket, decision);
+    }
+
+    /// The decisions for the bid.
+    pub(crate) fn own_of(&self, bid: u32) -> &[Decision]
+        requires { bid < vec_len self.now.own }
+        ensures { (bids : ℕ) (node : List Decision) → IsIndexOf bids node self.now → result.now
+            ≡ decisions_for node bid }
+    {
+        &self.own[bid as usize]
     }
 
     /// The yes decisions of the bid.

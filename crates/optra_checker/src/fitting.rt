@@ -6,6 +6,7 @@ ghost use Rattle.optra_walk.specs.Choices.{IsChoice};
 ghost use Rattle.optra_walk.specs.Families.{IsUsable, entries_of, load_of, total_of};
 ghost use Rattle.optra_checker.specs.Fits.{AreWithin};
 
+use crate::ways::kind_of;
 use optra_bid::Bid;
 use optra_network::{Network, NoMemory, TypeId};
 use optra_walk::{Leg, RowFamily, Walk};
@@ -86,13 +87,6 @@ fn legs_fit<F: RowFamily>(
         }
     }
     Ok(true)
-}
-
-/// The train type of a bid.
-fn kind_of(bid: &Bid) -> TypeId
-    ensures { result ≡ bid.now.path.kind }
-{
-    bid.path.kind
 }
 
 /// The legs of a walk.

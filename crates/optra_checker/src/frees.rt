@@ -11,6 +11,7 @@ ghost use Rattle.optra_checker.specs.Frees.{IsFree, AreFree, Attains};
 use crate::rest_table::RestTable;
 use crate::table::search;
 use crate::tracing::trace;
+use crate::ways::kind_of;
 use crate::weighing::Weighing;
 use optra_bid::Bid;
 use optra_network::{Cents, Minute, Network, NoMemory, TypeId};
@@ -24,6 +25,13 @@ pub(crate) struct Free {
     pub best: Option<i128>,
     /// The legs of one, or none where none is at hand.
     pub legs: Vec<Leg>,
+}
+
+/// The legs that are at hand.
+pub(crate) fn legs_of(free: &Free) -> &[Leg]
+    ensures { result.now ≡ free.now.legs.items }
+{
+    &free.legs
 }
 
 /// A walk may have every start and every leg of the type, at no cost.
@@ -85,13 +93,6 @@ fn attains(net: &Network, bid: &Bid, best: Option<i128>, legs: &[Leg]) -> bool
         return false;
     }
     is_number(best, worth(net, bid, legs))
-}
-
-/// The train type of a bid.
-fn kind_of(bid: &Bid) -> TypeId
-    ensures { result ≡ bid.now.path.kind }
-{
-    bid.path.kind
 }
 
 /// The best of all walks of a bid.

@@ -58,7 +58,7 @@ fn used_price<F: RowFamily>(
 }
 
 /// Whether no row has a price.
-fn are_none<R>(prices: &[(R, i64)]) -> bool
+pub(crate) fn are_none<R>(prices: &[(R, i64)]) -> bool
     ensures { IsTrue result ↔ (prices.now ≡ []) }
 {
     prices.is_empty()

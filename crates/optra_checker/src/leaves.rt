@@ -1,13 +1,14 @@
 //! Whether each leaf without prices is dead: no choice that keeps the rule is of its node.
-ghost use Rattle.std.specs.Prelude.{◌≡◌, ◌<◌, ◌↔◌, All, IsTrue, IfOk, IsSomeAnd, length, slice_get};
-ghost use Rattle.optra_bid.specs.Instances.{IsInstance};
+ghost use Rattle.std.specs.Prelude.{◌≡◌, ◌<◌, ◌↔◌, [], All, IsTrue, IfOk, IsSomeAnd, length, slice_get};
 ghost use Rattle.optra_node.specs.Duals.{IsStuck};
 ghost use Rattle.optra_node.specs.Trees.{IsTree, places};
 ghost use Rattle.optra_node.specs.Certificates.{IsFormedItem, SplitsUndecided, EndsDead};
+ghost use Rattle.optra_checker.specs.Opens.{IsRoom};
 
+use crate::node_room::{NodeRoom, pass, root_room};
 use crate::open_node::OpenNode;
 use crate::rest_table::RestTable;
-use crate::terms::best_offer;
+use crate::terms::{best_found, offer_of};
 use optra_network::NoMemory;
 use optra_node::Item;
 use optra_walk::{Instance, RowFamily};
@@ -20,15 +21,14 @@ fn is_stuck<F: RowFamily>(
     bid: u32,
     table: &mut RestTable,
 ) -> Result<bool, NoMemory>
-    requires instance { IsInstance node.now.net node.now.bids }
     requires bid { bid < length node.now.bids }
     ensures { IfOk result (λ stuck. IsTrue stuck ↔ IsSomeAnd (slice_get node.now.bids bid) (λ b.
         IsStuck node.now.net (F.rows_of node.now.family node.now.net) node.now.bids node.now.node
         bid b)) }
 {
     let prices = Vec::new(alloc);
-    let best = best_offer(alloc, node, &prices, bid, None, table)?;
-    Ok(best.is_none())
+    let best = best_found(alloc, node, &prices, bid, table)?;
+    Ok(offer_of(node, &prices, bid, best).is_none())
 }
 
 /// Whether the item is a split, has prices, or is a dead leaf.
@@ -38,7 +38,6 @@ fn ends_dead<F: RowFamily>(
     item: &Item<F::Row>,
     table: &mut RestTable,
 ) -> Result<bool, NoMemory>
-    requires instance { IsInstance node.now.net node.now.bids }
     requires formed { IsFormedItem F.Row.cmp node.now.net (length node.now.bids) item.now }
     ensures { IfOk result (λ dead. IsTrue dead ↔ EndsDead node.now.net (F.rows_of node.now.family
         node.now.net) node.now.bids node.now.node item.now) }
@@ -50,8 +49,37 @@ fn ends_dead<F: RowFamily>(
     }
 }
 
-/// As [`leaves_hold`], with room for searches.
-fn leaves_hold_by<F: RowFamily>(
+/// As [`leaves_hold`], from the root on, which the room has.
+fn leaves_hold_from<F: RowFamily>(
+    alloc: Global,
+    room: &mut NodeRoom<F::Row>,
+    inst: Instance<'_>,
+    rows: &F,
+    tree: &[Item<F::Row>],
+    table: &mut RestTable,
+) -> Result<bool, NoMemory>
+    requires room { IsRoom F.Row.cmp inst.net.now (F.rows_of rows.now inst.net.now) inst.bids.now
+        room.old }
+    requires root { room.old.decisions.items ≡ [] }
+    requires whole { IsTree tree.now }
+    requires items { All (IsFormedItem F.Row.cmp inst.net.now (length inst.bids.now)) tree.now }
+    requires splits { All (λ p. SplitsUndecided p.0 p.1) (places tree.now) }
+    ensures { IfOk result (λ hold. IsTrue hold
+        ↔ All (λ p. EndsDead inst.entry.net.now (F.rows_of rows.now inst.entry.net.now)
+        inst.entry.bids.now p.0 p.1) (places tree.now)) }
+{
+    'items: for item in tree {
+        let node = OpenNode::of(inst, rows, room);
+        if !ends_dead(alloc, &node, item, table)? {
+            return Ok(false);
+        }
+        pass(room, inst, rows, item)?;
+    }
+    Ok(true)
+}
+
+/// Whether each leaf without prices is dead. The table is room for searches.
+pub(crate) fn leaves_hold<F: RowFamily>(
     alloc: Global,
     inst: Instance<'_>,
     rows: &F,
@@ -65,30 +93,8 @@ fn leaves_hold_by<F: RowFamily>(
         ↔ All (λ p. EndsDead inst.entry.net.now (F.rows_of rows.now inst.entry.net.now)
         inst.entry.bids.now p.0 p.1) (places tree.now)) }
 {
-    let mut node = OpenNode::new(alloc, inst, rows)?;
-    'items: for item in tree {
-        if !ends_dead(alloc, &node, item, table)? {
-            return Ok(false);
-        }
-        node = node.pass(item)?;
-    }
-    Ok(true)
-}
-
-/// Whether each leaf without prices is dead.
-pub(crate) fn leaves_hold<F: RowFamily>(
-    alloc: Global,
-    inst: Instance<'_>,
-    rows: &F,
-    tree: &[Item<F::Row>],
-) -> Result<bool, NoMemory>
-    requires whole { IsTree tree.now }
-    requires items { All (IsFormedItem F.Row.cmp inst.net.now (length inst.bids.now)) tree.now }
-    requires splits { All (λ p. SplitsUndecided p.0 p.1) (places tree.now) }
-    ensures { IfOk result (λ hold. IsTrue hold
-        ↔ All (λ p. EndsDead inst.entry.net.now (F.rows_of rows.now inst.entry.net.now)
-        inst.entry.bids.now p.0 p.1) (places tree.now)) }
-{
-    let mut table = RestTable::new(alloc);
-    leaves_hold_by(alloc, inst, rows, tree, &mut table)
+    let mut room = root_room(alloc, inst, rows)?;
+    let hold = leaves_hold_from(alloc, &mut room, inst, rows, tree, table);
+    drop(room);
+    hold
 }

@@ -26,6 +26,7 @@ mod leaf_prices;
 mod leaf_weights;
 mod leaves;
 mod loaded;
+mod node_room;
 mod open_node;
 mod own_lists;
 mod pricing;

@@ -1,57 +1,47 @@
 //! The node at hand while a tree is gone through.
-ghost use Rattle.std.specs.Prelude.{◌≡◌, ◌<◌, ◌↔◌, ◌++◌, ◌∷◌, [], All, IsTrue, IfOk, length, pos, true};
+ghost use Rattle.std.specs.Prelude.{◌≡◌, ◌<◌, ◌↔◌, [], All, IsTrue, IfOk, length, true};
 ghost use Rattle.std.specs.List.{list_any};
 ghost use Rattle.optra_network.specs.Net.{IsProper};
-ghost use Rattle.optra_node.specs.Nodes.{IsFormedLeg, IsFormedDecision, IsUndecided, IsOverfull, IsBlocked, kind_at, has_yes, yes_load};
-ghost use Rattle.optra_node.specs.Spans.{IsLegOk, IsLetBy, IsStartOk};
+ghost use Rattle.optra_node.specs.Nodes.{IsFormedLeg, IsUndecided, IsOverfull, IsBlocked, kind_at, has_yes, yes_load};
+ghost use Rattle.optra_node.specs.Spans.{IsLegOk, IsLetBy};
 ghost use Rattle.optra_node.specs.Summaries.{decisions_for};
-ghost use Rattle.optra_node.specs.Trees.{children};
 ghost use Rattle.optra_walk.specs.Families.{IsUsable};
 ghost use Rattle.optra_node.specs.Duals.{PriceList, ArePrices, leg_price, capacity_price};
-ghost use Rattle.optra_node.specs.Certificates.{IsFormedItem, SplitsUndecided, AreAscending};
+ghost use Rattle.optra_node.specs.Certificates.{AreAscending};
 ghost use Rattle.optra_checker.specs.Leaves.{weights_at};
 ghost use Rattle.optra_checker.specs.Keyed.{yes_part};
 ghost use Rattle.optra_checker.specs.Loaded.{AreRising, AreLoaded, KeepsOff};
 ghost use Rattle.optra_checker.specs.Sizes.{IsLegPrice, IsCapacityPrice};
 ghost use Rattle.optra_checker.specs.Tests.{may_have_leg, may_start_at};
 ghost use Rattle.optra_checker.specs.Weights.{AreAlike};
-ghost use Rattle.optra_checker.specs.ToCome.{to_come, IsNextWay};
 
-use crate::decision_index::DecisionIndex;
 use crate::leaf_prices::{capacity_price, leg_price};
 use crate::loaded::{keeps_off, loaded_rows};
-use crate::own_lists::{add_own, drop_own, empty_lists};
-use crate::taking::take_decision;
+use crate::node_room::NodeRoom;
 use optra_network::{Minute, NoMemory};
-use optra_node::{Decision, Item, add_decision, is_blocked_beside, kind_at, start_ok, total};
+use optra_node::{Decision, is_blocked_beside, kind_at, start_ok, total};
 use optra_walk::{Instance, Leg, RowFamily};
 use std::alloc::Global;
-use std::collections::BTreeMap;
 use std::marker::Model;
 
-/// A node of an instance whose last decision can be undone and which can be decided further,
-/// without a copy. It keeps how much of each row its yes legs use, and each bid's own decisions,
-/// and answers from them what the calls of [`optra_node::Node`] answer.
+/// A node of an instance, as its room has it. From the room it answers what the calls of
+/// [`optra_node::Node`] answer.
 #[derive(Drop)]
 pub(crate) struct OpenNode<'a, F: RowFamily> {
     inst: Instance<'a>,
     rows: &'a F,
-    decisions: Vec<Decision>,
-    totals: BTreeMap<F::Row, u128>,
-    own: Vec<Vec<Decision>>,
-    index: DecisionIndex,
+    room: &'a NodeRoom<F::Row>,
 }
 
 impl<'a, F: RowFamily> Model for OpenNode<'a, F> {
-    ghost use Rattle.std.specs.Prelude.{map};
     ghost use Rattle.optra_node.specs.Summaries.{Summed};
-    ghost use Rattle.optra_checker.specs.Opens.{IsOpen};
+    ghost use Rattle.optra_checker.specs.Opens.{IsRoom};
 
     ghost Value = { Summed F };
 
-    ghost view = { λ a. record { family = a.rows.now; net = a.inst.net.now; bids = a.inst.bids.now; node = a.decisions.items } };
+    ghost view = { λ a. record { family = a.rows.now; net = a.inst.net.now; bids = a.inst.bids.now; node = a.room.now.decisions.items } };
 
-    ghost invariant = { λ a. IsOpen F.Row.cmp a.inst.net.now (F.rows_of a.rows.now a.inst.net.now) a.inst.bids.now a.decisions.items a.totals (map (λ v. v.items) a.own.items) a.index };
+    ghost invariant = { λ a. IsRoom F.Row.cmp a.inst.net.now (F.rows_of a.rows.now a.inst.net.now) a.inst.bids.now a.room.now };
 }
 
 /// Whether one of the decisions is a yes.
@@ -70,142 +60,16 @@ fn has_none(decisions: &[Decision]) -> bool
 
 impl<'a, F: RowFamily> OpenNode<'a, F> {
     ghost use Rattle.optra_node.specs.Summaries.{summed};
-    ghost use Rattle.optra_checker.specs.Opens.{AreSame};
+    ghost use Rattle.optra_checker.specs.Opens.{IsRoom};
 
-    /// The root of an instance. `NoMemory` is its only refusal.
-    pub(crate) fn new(
-        alloc: Global,
-        inst: Instance<'a>,
-        rows: &'a F,
-    ) -> Result<OpenNode<'a, F>, NoMemory>
-        ensures { IfOk result (λ node. node ≡ summed rows.now inst.entry.net.now inst.entry.bids.now
-            []) }
+    /// The node that the room has.
+    pub(crate) fn of(inst: Instance<'a>, rows: &'a F, room: &'a NodeRoom<F::Row>) -> OpenNode<'a, F>
+        requires { IsRoom F.Row.cmp inst.net.now (F.rows_of rows.now inst.net.now) inst.bids.now
+            room.now }
+        ensures { result ≡ summed rows.now inst.entry.net.now inst.entry.bids.now
+            room.now.decisions.items }
     {
-        let own = empty_lists(alloc, inst.bids.len())?;
-        let index = DecisionIndex::new(alloc, inst.bids.len())?;
-        Ok(OpenNode {
-            inst,
-            rows,
-            decisions: Vec::new(alloc),
-            totals: BTreeMap::new(alloc),
-            own,
-            index,
-        })
-    }
-
-    /// The node with one more decision, of a leg that is not decided yet for its bid. `NoMemory` is
-    /// its only refusal.
-    pub(crate) fn decide(self, decision: Decision) -> Result<OpenNode<'a, F>, NoMemory>
-        requires formed { IsFormedDecision self.net (length self.bids) decision }
-        requires undecided { IsUndecided self.node decision.bid decision.leg }
-        ensures { IfOk result (λ next. next ≡ summed self.entry.family self.entry.net
-            self.entry.bids (self.entry.node ++ decision ∷ [])) }
-    {
-        let OpenNode {
-            inst,
-            rows,
-            mut decisions,
-            mut totals,
-            mut own,
-            mut index,
-        } = self;
-        add_decision(&mut totals, inst, rows, decision)?;
-        add_own(&mut own, decision)?;
-        index.put(decision)?;
-        decisions.push(decision)?;
-        Ok(OpenNode {
-            inst,
-            rows,
-            decisions,
-            totals,
-            own,
-            index,
-        })
-    }
-
-    /// The node without its last decision, and that decision.
-    pub(crate) fn undo(self) -> (OpenNode<'a, F>, Decision)
-        requires { 0 < length self.node }
-        ensures same { AreSame self.entry result.0 }
-        ensures last { self.entry.node ≡ result.0.node ++ result.1 ∷ [] }
-        ensures formed { IsFormedDecision self.entry.net (length self.entry.bids) result.1 }
-        ensures undecided { IsUndecided result.0.node result.1.bid result.1.leg }
-    {
-        let OpenNode {
-            inst,
-            rows,
-            mut decisions,
-            mut totals,
-            mut own,
-            mut index,
-        } = self;
-        let Some(last) = decisions.pop() else {
-            unreachable!()
-        };
-        take_decision(&mut totals, inst, rows, last);
-        drop_own(&mut own, last);
-        index.take_off(last);
-        let before = OpenNode {
-            inst,
-            rows,
-            decisions,
-            totals,
-            own,
-            index,
-        };
-        (before, last)
-    }
-
-    /// Whether it is the root, which has no decision.
-    pub(crate) fn is_root(&self) -> bool
-        ensures { IsTrue result ↔ (self.now.node ≡ []) }
-    {
-        self.decisions.is_empty()
-    }
-
-    /// The nearest node that is still to come, or the root where none is. `NoMemory` is its only
-    /// refusal.
-    fn turn(self) -> Result<OpenNode<'a, F>, NoMemory>
-        ensures same { IfOk result (AreSame self.entry) }
-        ensures next { IfOk result (λ next. IsNextWay (to_come self.entry.node) next.node) }
-    {
-        let mut node = self;
-        'back: while !node.is_root() {
-            let (before, last) = node.undo();
-            if last.yes {
-                return before.decide(Decision { yes: false, ..last });
-            }
-            node = before;
-        }
-        Ok(node)
-    }
-
-    /// The node that is open after an item of this node: below a split the one whose decision is
-    /// yes, and after a leaf the nearest that is still to come. Where none is, it is the root.
-    /// `NoMemory` is its only refusal.
-    pub(crate) fn pass(self, item: &Item<F::Row>) -> Result<OpenNode<'a, F>, NoMemory>
-        requires formed { IsFormedItem F.Row.cmp self.net (length self.bids) item.now }
-        requires undecided { SplitsUndecided self.node item.now }
-        ensures same { IfOk result (AreSame self.entry) }
-        ensures next { IfOk result (λ next. IsNextWay (children self.entry.node item.now
-            ++ to_come self.entry.node) next.node) }
-    {
-        match item {
-            Item::Split { bid, leg } => self.decide(Decision {
-                bid: *bid,
-                leg: *leg,
-                yes: true,
-            }),
-            Item::NoWalk { .. } | Item::Forced { .. } | Item::Priced { .. } => self.turn(),
-        }
-    }
-
-    /// The decisions for a bid, in the node's order.
-    fn own(&self, bid: u32) -> &[Decision]
-        requires { bid < length self.now.bids }
-        ensures { result.now ≡ decisions_for self.now.node bid }
-    {
-        &self.own[bid as usize]
+        OpenNode { inst, rows, room }
     }
 
     /// The yes decisions for a bid, in the node's order.
@@ -213,7 +77,7 @@ impl<'a, F: RowFamily> OpenNode<'a, F> {
         requires { bid < length self.now.bids }
         ensures { result.now ≡ decisions_for (yes_part self.now.node) bid }
     {
-        self.index.yes_of(bid)
+        self.room.index.yes_of(bid)
     }
 
     /// Whether the leg is not decided yet for the bid.
@@ -221,7 +85,7 @@ impl<'a, F: RowFamily> OpenNode<'a, F> {
         requires { bid < length self.now.bids }
         ensures { IsTrue result ↔ IsUndecided self.now.node bid leg }
     {
-        self.index.is_undecided(bid, leg)
+        self.room.index.is_undecided(bid, leg)
     }
 
     /// Whether the bid has a yes leg.
@@ -238,15 +102,8 @@ impl<'a, F: RowFamily> OpenNode<'a, F> {
             self.now.node row }
     {
         let net = self.inst.net;
-        self.rows.is_row(net, row) && u128::from(self.rows.cap(net, row)) < total(&self.totals, row)
-    }
-
-    /// As [`optra_node::Node::start_ok`] of the node.
-    pub(crate) fn start_ok(&self, bid: u32, minute: Minute) -> bool
-        requires { bid < length self.now.bids }
-        ensures { IsTrue result ↔ IsStartOk self.now.node bid minute }
-    {
-        start_ok(self.yes(bid), bid, minute)
+        self.rows.is_row(net, row)
+            && u128::from(self.rows.cap(net, row)) < total(&self.room.totals, row)
     }
 
     /// Whether each decision for the bid lets its walk have the leg.
@@ -259,7 +116,9 @@ impl<'a, F: RowFamily> OpenNode<'a, F> {
             return true;
         }
         let inst = self.inst;
-        self.index.let_by(inst.net, kind_at(inst, bid), bid, leg)
+        self.room
+            .index
+            .let_by(inst.net, kind_at(inst, bid), bid, leg)
     }
 
     /// As [`optra_node::Node::blocked`] of the node.
@@ -273,7 +132,7 @@ impl<'a, F: RowFamily> OpenNode<'a, F> {
         is_blocked_beside(
             inst,
             self.rows,
-            &self.totals,
+            &self.room.totals,
             self.yes(bid),
             kind_at(inst, bid),
             leg,
@@ -295,7 +154,7 @@ impl<'a, F: RowFamily> OpenNode<'a, F> {
         requires { bid < length self.now.bids }
         ensures { IsTrue result → All (λ d. d.bid ≡ bid → ⊥) self.now.node }
     {
-        has_none(self.own(bid))
+        has_none(self.room.index.own_of(bid))
     }
 
     /// Whether the yes legs use nothing of any of the rows.
@@ -304,7 +163,7 @@ impl<'a, F: RowFamily> OpenNode<'a, F> {
             self.now.bids self.now.node row ≡ 0) rows.now }
     {
         'rows: for row in rows {
-            if total(&self.totals, *row) > 0 {
+            if total(&self.room.totals, *row) > 0 {
                 return false;
             }
         }
@@ -326,27 +185,17 @@ impl<'a, F: RowFamily> OpenNode<'a, F> {
         let _inst = self.inst;
     }
 
-    /// Whether a walk of the bid may have the leg, on a track that its type may use.
-    pub(crate) fn usable_leg_ok(&self, bid: u32, leg: Leg) -> bool
-        requires bid { bid < length self.now.bids }
-        requires usable { IsUsable self.now.net (kind_at self.now.bids bid) leg }
-        ensures { result ≡ may_have_leg self.now.net (F.rows_of self.now.family self.now.net)
-            (F.rows_used self.now.family self.now.net) self.now.bids self.now.node bid
-            (kind_at self.now.bids bid) leg }
-    {
-        self.leg_ok(bid, leg)
-    }
-
     /// The rows of which the yes legs use something, ascending. `NoMemory` is its only refusal.
     pub(crate) fn loaded(&self, alloc: Global) -> Result<Vec<F::Row>, NoMemory>
         ensures rising { IfOk result (λ loaded. AreRising F.Row.cmp loaded.items) }
         ensures all { IfOk result (λ loaded. AreLoaded F.Row.cmp (F.rows_of self.now.family
             self.now.net) self.now.bids self.now.node loaded.items) }
     {
-        loaded_rows(alloc, &self.totals)
+        loaded_rows(alloc, &self.room.totals)
     }
 
-    /// As [`OpenNode::usable_leg_ok`], with the loaded rows of the node at hand.
+    /// Whether a walk of the bid may have the leg, on a track that its type may use, with the loaded
+    /// rows of the node at hand.
     pub(crate) fn leg_ok_beside(&self, loaded: &[F::Row], bid: u32, leg: Leg) -> bool
         requires bid { bid < length self.now.bids }
         requires usable { IsUsable self.now.net (kind_at self.now.bids bid) leg }
@@ -360,17 +209,7 @@ impl<'a, F: RowFamily> OpenNode<'a, F> {
         if !self.let_by(bid, leg) {
             return false;
         }
-        self.keeps_off(loaded, bid, leg) || self.has_room(bid, leg)
-    }
-
-    /// Whether the leg, on a track that the bid's type may use, is not blocked.
-    fn has_room(&self, bid: u32, leg: Leg) -> bool
-        requires bid { bid < length self.now.bids }
-        requires usable { IsUsable self.now.net (kind_at self.now.bids bid) leg }
-        ensures { IsTrue result ↔ (IsBlocked (F.rows_of self.now.family self.now.net) self.now.bids
-            self.now.node bid (kind_at self.now.bids bid) leg → ⊥) }
-    {
-        !self.blocked(bid, leg)
+        self.keeps_off(loaded, bid, leg) || !self.blocked(bid, leg)
     }
 
     /// Whether the leg uses none of the rows, and no other row above its capacity.
@@ -407,7 +246,7 @@ impl<'a, F: RowFamily> OpenNode<'a, F> {
         requires { bid < length self.now.bids }
         ensures { result ≡ may_start_at self.now.node bid minute }
     {
-        self.start_ok(bid, minute)
+        start_ok(self.yes(bid), bid, minute)
     }
 
     /// What the leg costs a walk of the bid at the prices, on a track that its type may use.

@@ -226,7 +226,7 @@ fn waits_rest<W: Weighing>(
 }
 
 /// Whether the walk may end when the train arrives by the way.
-fn may_finish(bid: &Bid, way: Way) -> bool
+pub(crate) fn may_finish(bid: &Bid, way: Way) -> bool
     ensures { IsTrue result ↔ IsAtEnd bid.now.path way }
 {
     let path = &bid.path;

@@ -1,8 +1,10 @@
 //! Whether each split of a tree is of a leg that is not decided yet.
-ghost use Rattle.std.specs.Prelude.{◌≡◌, ◌↔◌, All, IsTrue, IfOk, length};
+ghost use Rattle.std.specs.Prelude.{◌≡◌, ◌↔◌, [], All, IsTrue, IfOk, length};
 ghost use Rattle.optra_node.specs.Trees.{IsTree, places};
 ghost use Rattle.optra_node.specs.Certificates.{IsFormedItem, SplitsUndecided};
+ghost use Rattle.optra_checker.specs.Opens.{IsRoom};
 
+use crate::node_room::{NodeRoom, pass, root_room};
 use crate::open_node::OpenNode;
 use optra_network::NoMemory;
 use optra_node::Item;
@@ -20,6 +22,31 @@ fn is_fresh<F: RowFamily>(node: &OpenNode<'_, F>, item: &Item<F::Row>) -> bool
     }
 }
 
+/// As [`splits_hold`], from the root on, which the room has.
+fn splits_hold_from<F: RowFamily>(
+    room: &mut NodeRoom<F::Row>,
+    inst: Instance<'_>,
+    rows: &F,
+    tree: &[Item<F::Row>],
+) -> Result<bool, NoMemory>
+    requires room { IsRoom F.Row.cmp inst.net.now (F.rows_of rows.now inst.net.now) inst.bids.now
+        room.old }
+    requires root { room.old.decisions.items ≡ [] }
+    requires whole { IsTree tree.now }
+    requires items { All (IsFormedItem F.Row.cmp inst.net.now (length inst.bids.now)) tree.now }
+    ensures { IfOk result (λ hold. IsTrue hold
+        ↔ All (λ p. SplitsUndecided p.0 p.1) (places tree.now)) }
+{
+    'items: for item in tree {
+        let node = OpenNode::of(inst, rows, room);
+        if !is_fresh(&node, item) {
+            return Ok(false);
+        }
+        pass(room, inst, rows, item)?;
+    }
+    Ok(true)
+}
+
 /// Whether each split is of a leg that is not decided yet for its bid on the way from the root.
 pub(crate) fn splits_hold<F: RowFamily>(
     alloc: Global,
@@ -32,12 +59,8 @@ pub(crate) fn splits_hold<F: RowFamily>(
     ensures { IfOk result (λ hold. IsTrue hold
         ↔ All (λ p. SplitsUndecided p.0 p.1) (places tree.now)) }
 {
-    let mut node = OpenNode::new(alloc, inst, rows)?;
-    'items: for item in tree {
-        if !is_fresh(&node, item) {
-            return Ok(false);
-        }
-        node = node.pass(item)?;
-    }
-    Ok(true)
+    let mut room = root_room(alloc, inst, rows)?;
+    let hold = splits_hold_from(&mut room, inst, rows, tree);
+    drop(room);
+    hold
 }

@@ -9,7 +9,7 @@ use optra_bid::Bid;
 use optra_network::{Minute, Network, StationId};
 
 /// Where a train is to leave next, when, from a halt or not, and how many stops are done.
-#[derive(Clone, Copy, Debug, PartialEq, Eq)]
+#[derive(Clone, Copy)]
 pub(crate) struct State {
     pub station: StationId,
     pub minute: Minute,
@@ -19,7 +19,7 @@ pub(crate) struct State {
 
 /// How the states of a bid are numbered: minute by minute, in each by station, then by stops done,
 /// then by mode. A state has one of `slots` for its stops and its mode.
-#[derive(Clone, Copy, Debug, PartialEq, Eq)]
+#[derive(Clone, Copy)]
 pub(crate) struct Layout {
     pub first: Minute,
     pub minutes: u16,

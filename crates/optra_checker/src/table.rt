@@ -14,7 +14,7 @@ ghost use Rattle.optra_checker.specs.Starts.{IsBestStart, IsAt};
 ghost use Rattle.optra_checker.specs.Tables.{IsTable, IsFilled, IsReadyFor, end_of};
 ghost use Rattle.optra_checker.specs.Weights.{AreWeightsFor, IsBestWorth, IsWorthSize};
 
-use crate::asks::Ask;
+use crate::asks::{Ask, no_asks};
 use crate::reach::make_reach;
 use crate::rest_table::RestTable;
 use crate::rests::{greater, state_rest};
@@ -265,7 +265,7 @@ pub(crate) fn search<W: Weighing>(
 {
     let reach = make_reach(alloc, net, bid)?;
     table.turn_to(make_layout(net, bid), reach)?;
-    let mut asks = vec![in alloc; None; net.track_count() as usize]?;
+    let mut asks = no_asks(alloc, net.track_count() as usize)?;
     fill(net, bid, weighing, &mut asks, table);
     Ok(best_start(net, bid, weighing, table))
 }

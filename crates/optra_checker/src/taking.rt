@@ -56,8 +56,12 @@ pub(crate) fn take_decision<F: RowFamily>(
         + yes_uses (F.rows_of rows.now inst.entry.net.now) inst.entry.bids.now q decision
         ≡ total_of F.Row.cmp totals.old q }
 {
-    let kind = kind_at(inst, decision.bid);
-    if decision.yes && may_use(inst.net, decision.leg.track, kind) {
-        take_leg(totals, inst.net, rows, kind, decision.leg);
+    if !decision.yes {
+        return;
     }
+    let kind = kind_at(inst, decision.bid);
+    if !may_use(inst.net, decision.leg.track, kind) {
+        return;
+    }
+    take_leg(totals, inst.net, rows, kind, decision.leg);
 }

@@ -9,12 +9,14 @@ ghost use Rattle.optra_walk.specs.Values.{first_departure};
 ghost use Rattle.optra_node.specs.Nodes.{kind_at, yes_load};
 ghost use Rattle.optra_checker.specs.Frees.{IsFree, AreFree, IsFreeLeg};
 ghost use Rattle.optra_checker.specs.Leaves.{IsBestOffer, AreTerms, IsSumSize, plus_of, dual_by, weights_at};
+ghost use Rattle.optra_checker.specs.Loaded.{AreRising, AreLoaded};
 ghost use Rattle.optra_checker.specs.Sizes.{IsCapacityPrice};
 ghost use Rattle.optra_checker.specs.Tests.{may_start_at};
 ghost use Rattle.optra_checker.specs.Watches.{AreWatched, AreWatches, IsLetBe};
 ghost use Rattle.optra_checker.specs.Weights.{IsBestWorth, IsWorthSize};
 
-use crate::frees::Free;
+use crate::frees::{Free, legs_of};
+use crate::leaf_prices::are_none;
 use crate::leaf_weights::LeafWeights;
 use crate::open_node::OpenNode;
 use crate::rest_table::RestTable;
@@ -56,7 +58,7 @@ fn leg_stays_free<F: RowFamily>(
     ensures { IsTrue result ↔ IsFreeLeg (weights_at F.rows_of F.rows_used node.now bid prices.now)
         leg }
 {
-    if !node.usable_leg_ok(bid, leg) {
+    if !node.leg_ok(bid, leg) {
         return false;
     }
     is_zero(node.leg_price(prices, bid, leg))
@@ -82,13 +84,6 @@ fn legs_stay_free<F: RowFamily>(
         }
     }
     true
-}
-
-/// The legs that are at hand.
-fn legs_of(free: &Free) -> &[Leg]
-    ensures { result.now ≡ free.now.legs.items }
-{
-    &free.legs
 }
 
 /// Whether a walk of the bid may start at the first departure of the legs.
@@ -119,7 +114,6 @@ fn stays_free<F: RowFamily>(
     bid: u32,
     free: &Free,
 ) -> bool
-    requires instance { IsInstance node.now.net node.now.bids }
     requires bid { bid < length node.now.bids }
     requires free { IsSomeAnd (slice_get node.now.bids bid) (λ b. IsFree node.now.net b free.now) }
     requires ascending { AreAscending F.Row.cmp prices.now }
@@ -139,49 +133,46 @@ fn stays_free<F: RowFamily>(
     legs_stay_free(node, prices, bid, legs)
 }
 
-/// What the best walk of the bid is worth that the node allows, in thousandths of a cent, by a
-/// search; `None` exactly where there is none.
-fn best_found<F: RowFamily>(
+/// As [`best_found`], with the loaded rows of the node at hand.
+fn best_beside<F: RowFamily>(
     alloc: Global,
     node: &OpenNode<'_, F>,
     prices: &[(F::Row, i64)],
     bid: u32,
+    loaded: &[F::Row],
     table: &mut RestTable,
 ) -> Result<Option<i128>, NoMemory>
-    requires instance { IsInstance node.now.net node.now.bids }
     requires bid { bid < length node.now.bids }
     requires ascending { AreAscending F.Row.cmp prices.now }
     requires proper { ArePrices (F.rows_of node.now.family node.now.net) prices.now }
+    requires rising { AreRising F.Row.cmp loaded.now }
+    requires all { AreLoaded F.Row.cmp (F.rows_of node.now.family node.now.net) node.now.bids
+        node.now.node loaded.now }
     ensures best { IfOk result (λ best. (b : Asked) → slice_get node.now.bids bid ≡ Some b
         → IsBestWorth (weights_at F.rows_of F.rows_used node.now bid prices.now) node.now.net b
         best) }
     ensures size { IfOk result (λ best. IfSome best IsWorthSize) }
 {
     let inst = node.inst();
-    let loaded = node.loaded(alloc)?;
     let weights = LeafWeights {
         node,
         bid,
         prices,
-        loaded: &loaded,
+        loaded,
     };
     search(alloc, inst.net, &inst.bids[bid as usize], &weights, table)
 }
 
-/// As [`best_found`]. Where the best of all walks is at hand and the node allows it, nothing is
-/// searched.
-fn best_at<F: RowFamily>(
+/// What the best walk of the bid is worth that the node allows, in thousandths of a cent, by a
+/// search; `None` exactly where there is none.
+pub(crate) fn best_found<F: RowFamily>(
     alloc: Global,
     node: &OpenNode<'_, F>,
     prices: &[(F::Row, i64)],
     bid: u32,
-    free: Option<&Free>,
     table: &mut RestTable,
 ) -> Result<Option<i128>, NoMemory>
-    requires instance { IsInstance node.now.net node.now.bids }
     requires bid { bid < length node.now.bids }
-    requires free { IfSome free (λ f. IsSomeAnd (slice_get node.now.bids bid)
-        (λ b. IsFree node.now.net b f.now)) }
     requires ascending { AreAscending F.Row.cmp prices.now }
     requires proper { ArePrices (F.rows_of node.now.family node.now.net) prices.now }
     ensures best { IfOk result (λ best. (b : Asked) → slice_get node.now.bids bid ≡ Some b
@@ -189,50 +180,59 @@ fn best_at<F: RowFamily>(
         best) }
     ensures size { IfOk result (λ best. IfSome best IsWorthSize) }
 {
-    if let Some(free) = free {
-        if stays_free(node, prices, bid, free) {
-            return Ok(free.best);
-        }
-    }
-    best_found(alloc, node, prices, bid, table)
+    let loaded = node.loaded(alloc)?;
+    let best = best_beside(alloc, node, prices, bid, &loaded, table);
+    drop(loaded);
+    best
 }
 
-/// The greatest offer to a bid at the node and prices, in thousandths of a cent: the greatest
-/// reduced value of its allowed walks, and zero where it has no yes leg. `None` exactly where it
-/// has a yes leg and no allowed walk.
-pub(crate) fn best_offer<F: RowFamily>(
+/// As [`best_found`]. Where the node allows the best of all walks, nothing is searched.
+fn best_at<F: RowFamily>(
     alloc: Global,
     node: &OpenNode<'_, F>,
     prices: &[(F::Row, i64)],
     bid: u32,
-    free: Option<&Free>,
+    free: &Free,
     table: &mut RestTable,
 ) -> Result<Option<i128>, NoMemory>
-    requires instance { IsInstance node.now.net node.now.bids }
     requires bid { bid < length node.now.bids }
-    requires free { IfSome free (λ f. IsSomeAnd (slice_get node.now.bids bid)
-        (λ b. IsFree node.now.net b f.now)) }
+    requires free { IsSomeAnd (slice_get node.now.bids bid) (λ b. IsFree node.now.net b free.now) }
     requires ascending { AreAscending F.Row.cmp prices.now }
     requires proper { ArePrices (F.rows_of node.now.family node.now.net) prices.now }
     ensures best { IfOk result (λ best. (b : Asked) → slice_get node.now.bids bid ≡ Some b
-        → IsBestOffer node.now.net (F.rows_of node.now.family node.now.net) node.now.bids
-        node.now.node prices.now bid b best) }
+        → IsBestWorth (weights_at F.rows_of F.rows_used node.now bid prices.now) node.now.net b
+        best) }
     ensures size { IfOk result (λ best. IfSome best IsWorthSize) }
 {
-    node.laws();
-    let best = best_at(alloc, node, prices, bid, free, table)?;
-    if node.has_yes(bid) {
-        Ok(best)
-    } else {
-        Ok(Some(or_zero(best)))
+    if stays_free(node, prices, bid, free) {
+        return Ok(free.best);
     }
+    best_found(alloc, node, prices, bid, table)
 }
 
-/// Whether there is no price.
-fn are_none<R>(prices: &[(R, i64)]) -> bool
-    ensures { IsTrue result ↔ (prices.now ≡ []) }
+/// The greatest offer to a bid at the node and prices, in thousandths of a cent, by what the best
+/// walk is worth that the node allows: the greatest reduced value of its allowed walks, and zero
+/// where it has no yes leg. `None` exactly where it has a yes leg and no allowed walk.
+pub(crate) fn offer_of<F: RowFamily>(
+    node: &OpenNode<'_, F>,
+    prices: &[(F::Row, i64)],
+    bid: u32,
+    best: Option<i128>,
+) -> Option<i128>
+    requires bid { bid < length node.now.bids }
+    requires best { (b : Asked) → slice_get node.now.bids bid ≡ Some b
+        → IsBestWorth (weights_at F.rows_of F.rows_used node.now bid prices.now) node.now.net b
+        best }
+    requires size { IfSome best IsWorthSize }
+    ensures best { (b : Asked) → slice_get node.now.bids bid ≡ Some b → IsBestOffer node.now.net
+        (F.rows_of node.now.family node.now.net) node.now.bids node.now.node prices.now bid b
+        result }
+    ensures size { IfSome result IsWorthSize }
 {
-    prices.is_empty()
+    let _ = prices;
+    node.laws();
+    let least = or_zero(best);
+    if node.has_yes(bid) { best } else { Some(least) }
 }
 
 /// Whether there are legs.
@@ -269,8 +269,8 @@ fn is_let_be<F: RowFamily>(
     node.are_unused(watched)
 }
 
-/// As [`best_offer`]: where nothing of the node bears on the best of all walks of the bid, it is
-/// the best that the node allows.
+/// The greatest offer to a bid at the node and prices, as [`offer_of`]: where nothing of the node
+/// bears on the best of all walks of the bid, it is the best that the node allows.
 fn offer_at<F: RowFamily>(
     alloc: Global,
     node: &OpenNode<'_, F>,
@@ -280,7 +280,6 @@ fn offer_at<F: RowFamily>(
     watched: &Option<Vec<F::Row>>,
     table: &mut RestTable,
 ) -> Result<Option<i128>, NoMemory>
-    requires instance { IsInstance node.now.net node.now.bids }
     requires bid { bid < length node.now.bids }
     requires free { IsSomeAnd (slice_get node.now.bids bid) (λ b. IsFree node.now.net b free.now) }
     requires watched { AreWatched (F.rows_of node.now.family node.now.net)
@@ -297,7 +296,8 @@ fn offer_at<F: RowFamily>(
     if is_let_be(node, prices, bid, free, watched) {
         return Ok(Some(or_zero(free.best)));
     }
-    best_offer(alloc, node, prices, bid, Some(free), table)
+    let best = best_at(alloc, node, prices, bid, free, table)?;
+    Ok(offer_of(node, prices, bid, best))
 }
 
 /// A sum with one offer more; none where either is missing.

@@ -4,10 +4,12 @@
 //! walk and what it is worth.
 
 use crate::rest_table::RestTable;
+use crate::rests::may_finish;
 use crate::shares::{end_price, start_value, wait_price};
 use crate::states::State;
 use crate::table::make_start;
-use optra_bid::{Bid, Stop};
+use crate::ways::{Way, kind_of};
+use optra_bid::Bid;
 use optra_network::{Minute, Network, NoMemory, TrackId};
 use optra_walk::{Action, Leg};
 use std::alloc::Global;
@@ -24,33 +26,14 @@ struct Step {
     next: Option<State>,
 }
 
-/// A track by which the train may go on, and when it arrives at its head, passing or halting.
-#[derive(Clone, Copy)]
-struct Road {
-    from: State,
-    track: TrackId,
-    pass: State,
-    halt: State,
-}
-
-impl Road {
-    fn leg(self, action: Action) -> Leg {
-        Leg {
-            track: self.track,
-            depart: self.from.minute,
-            from_halt: self.from.halted,
-            action,
-        }
-    }
-
-    fn step(self, action: Action, next: State, table: &RestTable, share: i64) -> Option<Step> {
-        let rest = table.peek(next)?;
-        Some(Step {
-            worth: rest.wrapping_sub(i128::from(share)),
-            leg: self.leg(action),
-            next: Some(next),
-        })
-    }
+/// The step by the way to a state behind it, where the table has a rest from there.
+fn step_by(way: Way, action: Action, next: State, table: &RestTable, share: i64) -> Option<Step> {
+    let rest = table.peek(next)?;
+    Some(Step {
+        worth: rest.wrapping_sub(i128::from(share)),
+        leg: way.leg(action),
+        next: Some(next),
+    })
 }
 
 /// The one that is worth more, the first where both are worth the same.
@@ -62,83 +45,78 @@ fn better(best: Option<Step>, step: Option<Step>) -> Option<Step> {
     }
 }
 
-/// The state of a train that halted for so many minutes more.
-fn after_halt(state: State, dwell: u16) -> State {
+/// The state behind the way of a train that passes at its end.
+fn passed(way: Way) -> State {
     State {
-        minute: state.minute.saturating_add(dwell),
-        ..state
+        station: way.head,
+        minute: way.pass,
+        halted: false,
+        done: way.from.done,
     }
 }
 
-/// The road by the track, where the train may use it.
-fn find_road(net: &Network, bid: &Bid, from: State, track: TrackId) -> Option<Road> {
+/// The state behind the way of a train that halted at its end for so many minutes, with so many
+/// stops done.
+fn halted(way: Way, dwell: u16, done: u16) -> State {
+    State {
+        station: way.head,
+        minute: way.halt.saturating_add(dwell),
+        halted: true,
+        done,
+    }
+}
+
+/// The way by the track, where the train may use it.
+fn find_road(net: &Network, bid: &Bid, from: State, track: TrackId) -> Option<Way> {
     if track.0 >= net.track_count() {
         return None;
     }
-    let kind = bid.path.kind;
+    let kind = kind_of(bid);
     let pass = net.run(track, kind, from.halted, false)?;
     let halt = net.run(track, kind, from.halted, true)?;
-    let head = net.head(track);
-    Some(Road {
+    Some(Way {
         from,
         track,
-        pass: State {
-            station: head,
-            minute: from.minute.saturating_add(pass),
-            halted: false,
-            done: from.done,
-        },
-        halt: State {
-            station: head,
-            minute: from.minute.saturating_add(halt),
-            halted: true,
-            done: from.done,
-        },
+        head: net.head(track),
+        pass: from.minute.saturating_add(pass),
+        halt: from.minute.saturating_add(halt),
     })
 }
 
 /// The best step that halts at the next stop.
-fn halts(table: &RestTable, stop: Stop, road: Road) -> Option<Step> {
-    let at = road.halt;
-    if stop.station != at.station || at.minute < stop.arrive.from || stop.arrive.to < at.minute {
+fn halts(table: &RestTable, bid: &Bid, way: Way) -> Option<Step> {
+    let stop = bid.path.stops.get(way.from.done as usize).copied()?;
+    if stop.station != way.head || way.halt < stop.arrive.from || stop.arrive.to < way.halt {
         return None;
     }
-    let done = State {
-        done: at.done.saturating_add(1),
-        ..at
-    };
+    let done = way.from.done.saturating_add(1);
     let mut best = None;
     'dwells: for dwell in stop.min_dwell..stop.max_dwell.saturating_add(1) {
-        let step = road.step(Action::Halt(dwell), after_halt(done, dwell), table, 0);
-        best = better(best, step);
+        let next = halted(way, dwell, done);
+        best = better(best, step_by(way, Action::Halt(dwell), next, table, 0));
     }
     best
 }
 
 /// The best step that waits.
-fn waits(table: &RestTable, bid: &Bid, road: Road) -> Option<Step> {
+fn waits(table: &RestTable, bid: &Bid, way: Way) -> Option<Step> {
     let mut best = None;
     'dwells: for dwell in 1..bid.path.wait_max.saturating_add(1) {
-        let next = after_halt(road.halt, dwell);
-        let step = road.step(Action::Wait(dwell), next, table, wait_price(bid, dwell));
-        best = better(best, step);
+        let next = halted(way, dwell, way.from.done);
+        let share = wait_price(bid, dwell);
+        best = better(best, step_by(way, Action::Wait(dwell), next, table, share));
     }
     best
 }
 
 /// The step that finishes, where it may.
-fn finish(bid: &Bid, road: Road) -> Option<Step> {
-    let path = &bid.path;
-    let at = road.halt;
-    if at.station != path.destination || usize::from(at.done) != path.stops.len() {
-        return None;
-    }
-    if at.minute < path.arrive.from || path.arrive.to < at.minute {
+fn finish(bid: &Bid, way: Way) -> Option<Step> {
+    if !may_finish(bid, way) {
         return None;
     }
     Some(Step {
-        worth: i128::from(end_price(bid, at.minute)).wrapping_neg(),
-        leg: road.leg(Action::Finish),
+        worth: i128::from(end_price(bid, way.halt)).wrapping_neg(),
+        leg: way.leg(Action::Finish),
         next: None,
     })
 }
@@ -151,15 +129,11 @@ fn road_step(
     from: State,
     track: TrackId,
 ) -> Option<Step> {
-    let road = find_road(net, bid, from, track)?;
-    let pass = road.step(Action::Pass, road.pass, table, 0);
-    let stop = bid.path.stops.get(from.done as usize).copied();
-    let halt = match stop {
-        Some(stop) => halts(table, stop, road),
-        None => None,
-    };
-    let wait = waits(table, bid, road);
-    better(better(pass, halt), better(wait, finish(bid, road)))
+    let way = find_road(net, bid, from, track)?;
+    let pass = step_by(way, Action::Pass, passed(way), table, 0);
+    let halt = halts(table, bid, way);
+    let wait = waits(table, bid, way);
+    better(better(pass, halt), better(wait, finish(bid, way)))
 }
 
 /// The best step from the state.
@@ -181,22 +155,20 @@ fn start_worth(bid: &Bid, table: &RestTable, minute: Minute) -> Option<i128> {
     Some(rest.wrapping_add(i128::from(start_value(bid, minute))))
 }
 
-/// The first of the best minutes to start at.
-fn best_minute(bid: &Bid, table: &RestTable) -> Option<Minute> {
+/// The state in which the first of the best walks starts; none where there is no walk.
+fn best_begin(bid: &Bid, table: &RestTable) -> Option<State> {
     let window = bid.path.depart;
-    let mut best: Option<(i128, Minute)> = None;
+    let mut begin = None;
+    let mut most = 0;
     'minutes: for minute in window.from..window.to.saturating_add(1) {
         if let Some(worth) = start_worth(bid, table, minute) {
-            let more = match best {
-                Some((most, _)) => most < worth,
-                None => true,
-            };
-            if more {
-                best = Some((worth, minute));
+            if begin.is_none() || most < worth {
+                begin = Some(make_start(bid, minute));
+                most = worth;
             }
         }
     }
-    best.map(|(_, minute)| minute)
+    begin
 }
 
 /// The legs that the table leads along from the best start on; none where it has no start.
@@ -207,7 +179,7 @@ pub(crate) fn trace(
     table: &RestTable,
 ) -> Result<Vec<Leg>, NoMemory> {
     let mut legs = Vec::new(alloc);
-    let mut at = best_minute(bid, table).map(|minute| make_start(bid, minute));
+    let mut at = best_begin(bid, table);
     'legs: for _ in 0..MOST_LEGS {
         let Some(state) = at else { break };
         let Some(step) = best_step(net, bid, table, state) else {

@@ -7,8 +7,8 @@ ghost use Rattle.optra_walk.specs.Families.{IsUsable, total_of};
 ghost use Rattle.optra_checker.specs.Frees.{AreFree};
 ghost use Rattle.optra_checker.specs.Watches.{Spares, AreSplitLoads, IsWatched, AreWatched, AreWatches, AreTreeWatches};
 
-use crate::frees::Free;
-use optra_bid::Bid;
+use crate::frees::{Free, legs_of};
+use crate::ways::kind_of;
 use optra_network::{Network, NoMemory, TypeId};
 use optra_node::{Decision, Item, add_decision, total};
 use optra_walk::{Instance, Leg, RowFamily};
@@ -126,20 +126,6 @@ fn watch_legs<F: RowFamily>(
         }
     }
     Ok(Some(watched))
-}
-
-/// The legs that are at hand.
-fn legs_of(free: &Free) -> &[Leg]
-    ensures { result.now ≡ free.now.legs.items }
-{
-    &free.legs
-}
-
-/// The train type of a bid.
-fn kind_of(bid: &Bid) -> TypeId
-    ensures { result ≡ bid.now.path.kind }
-{
-    bid.path.kind
 }
 
 /// For the best walk of each bid, the rows that its legs use and that have a load; none where a leg

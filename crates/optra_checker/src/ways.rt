@@ -11,7 +11,7 @@ use optra_walk::{Action, Leg};
 
 /// A track by which the train may leave a state, and when it arrives at its head, passing or
 /// halting there.
-#[derive(Clone, Copy, Debug, PartialEq, Eq)]
+#[derive(Clone, Copy)]
 pub(crate) struct Way {
     pub from: State,
     pub track: TrackId,
@@ -34,7 +34,8 @@ impl Way {
     }
 }
 
-fn kind_of(bid: &Bid) -> TypeId
+/// The train type of a bid.
+pub(crate) fn kind_of(bid: &Bid) -> TypeId
     ensures { result ≡ bid.now.path.kind }
 {
     bid.path.kind

@@ -1,3 +1,6 @@
+use Rattle.std.proofs.Common.{length, sym, subst}
+use Rattle.optra_node.specs.Duals.{ArePrices}
+use Rattle.optra_node.specs.Certificates.{AreAscending, IsFormedItem, HasPrices}
 use Rattle.optra_checker.proofs.bounding.item_bound.Goals as goal
 
 pub leaf_bound-requires-clause-frees : goal.leaf_bound-requires-clause-frees
@@ -8,3 +11,15 @@ leaf_bound-requires-clause-watches g c = c.requires.watches
 
 pub leaf_bound-requires-clause-instance : goal.leaf_bound-requires-clause-instance
 leaf_bound-requires-clause-instance g c = c.requires.instance
+
+pub leaf_bound-requires-clause-ascending : goal.leaf_bound-requires-clause-ascending
+leaf_bound-requires-clause-ascending g c =
+    let node = c.args.node.now in
+    let cmp = g.F.Row.Ord.cmp in
+    subst (AreAscending cmp) (sym c.entries.ensures) (subst (IsFormedItem cmp node.net (length node.bids)) c.in-Priced.is c.requires.formed)
+
+pub leaf_bound-requires-clause-proper : goal.leaf_bound-requires-clause-proper
+leaf_bound-requires-clause-proper g c =
+    let node = c.args.node.now in
+    let rows = g.F.RowFamily.rows_of node.family node.net in
+    subst (ArePrices rows) (sym c.entries.ensures) (subst (HasPrices rows) c.in-Priced.is c.requires.prices)

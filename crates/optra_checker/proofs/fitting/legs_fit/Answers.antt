@@ -33,3 +33,12 @@ returns-clause-within g c =
           (λ q. sym (c.legs.invariant.added q ∙ ap (λ ls. total c.args.totals.now q + load_of rows q (map (λ (leg : Leg). (kind, leg)) ls)) all)) c.legs.invariant.within,
       λ _. refl,
     )
+
+pub leg_fits-requires-clause-usable : goal.leg_fits-requires-clause-usable
+leg_fits-requires-clause-usable g c = c.requires.usable c.legs.leg-index any_leg c.legs-test.true
+
+pub leg_fits-requires-clause-within : goal.leg_fits-requires-clause-within
+leg_fits-requires-clause-within g c = c.legs.invariant.within
+
+pub returns-then-not-branch-clause-added : goal.returns-then-not-branch-clause-added
+returns-then-not-branch-clause-added g c t = absurd (no_true t)

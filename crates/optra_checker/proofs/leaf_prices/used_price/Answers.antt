@@ -1,7 +1,6 @@
-use Rattle.std.proofs.Common.{◌≡◌, ◌∙◌, ℕ, ◌+◌, ◌*◌, ◌≤◌, length, refl, sym, ap, subst, arith, w64, to_z, take, sum_by}
+use Rattle.std.proofs.Common.{◌∙◌, ℕ, ◌+◌, ◌*◌, ◌≤◌, length, refl, sym, ap, subst, arith, to_z, take, sum_by}
 use Rattle.std.specs.Prelude.{ℤ, pos, ◌+ℤ◌, ◌*ℤ◌, ◌≤ℤ◌}
 use Rattle.std.specs.Int.{w128}
-use Rattle.std.proofs.lemmas.Int.{ints}
 use Rattle.optra_checker.proofs.LeafPriceLemmas.{term_more, uses_more, priced_all, prices_small}
 use Rattle.optra_checker.proofs.LoadedLemmas.{no_more}
 use Rattle.optra_checker.proofs.ProductLemmas.{row_price_same, product_is, more_least, more_most, more_fit, more_same}

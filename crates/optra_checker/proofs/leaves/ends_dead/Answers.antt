@@ -8,6 +8,3 @@ pub returns-in-NoWalk : goal.returns-in-NoWalk
 returns-in-NoWalk g c =
     let node = c.args.node.now in
     subst (λ (item : Item g.row.F-Row.Denot). IfOk c.is_stuck.result (λ dead. IsTrue dead ↔ EndsDead node.net (g.F.RowFamily.rows_of node.family node.net) node.bids node.node item)) (sym c.in-NoWalk.is) c.is_stuck.ensures
-
-pub is_stuck-requires-clause-instance : goal.is_stuck-requires-clause-instance
-is_stuck-requires-clause-instance g c = c.requires.instance

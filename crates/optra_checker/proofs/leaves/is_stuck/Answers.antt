@@ -9,8 +9,5 @@ pub returns : goal.returns
 returns g c =
     let node = c.args.node.now in
     let rows = g.F.RowFamily.rows_of node.family node.net in
-    subst (λ (r : Bool). IsTrue r ↔ IsSomeAnd (slice_get node.bids c.args.bid) (IsStuck node.net rows node.bids node.node c.args.bid)) (sym (flip c.is_none.result (is_some c.in_ok-best.best) c.is_none.ensures))
-    (stuck_at node.net rows node.bids node.node c.deref.result.now c.args.bid c.in_ok-best.best c.requires.bid c.in_ok-best.ensures.best)
-
-pub best_offer-requires-clause-instance : goal.best_offer-requires-clause-instance
-best_offer-requires-clause-instance g c = c.requires.instance
+    subst (λ (r : Bool). IsTrue r ↔ IsSomeAnd (slice_get node.bids c.args.bid) (IsStuck node.net rows node.bids node.node c.args.bid)) (sym (flip c.is_none.result (is_some c.offer_of.result) c.is_none.ensures))
+    (stuck_at node.net rows node.bids node.node c.deref-2.result.now c.args.bid c.offer_of.result c.requires.bid c.offer_of.ensures.best)

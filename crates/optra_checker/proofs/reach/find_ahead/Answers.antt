@@ -2,7 +2,7 @@ use Rattle.std.proofs.Common.{◌≡◌, ◌+◌, true, ◌∙◌, ◌++◌, ◌
 use Rattle.std.proofs.lemmas.List.{map-append, length-map}
 use Rattle.optra_bid.specs.Specs.{Path}
 use Rattle.optra_checker.specs.Reaches.{AreLeast, AreAhead}
-use Rattle.optra_checker.proofs.ReachLemmas.{ahead_first, ahead_more, stop_at}
+use Rattle.optra_checker.proofs.AheadLemmas.{ahead_first, ahead_more, stop_at}
 use Rattle.optra_checker.proofs.reach.find_ahead.Goals as goal
 
 pub start_at-start-requires : goal.start_at-start-requires

@@ -1,7 +1,9 @@
 -- The table is turned to the bid's layout and reach, which fit one another.
 use Rattle.std.proofs.Common.{◌∙◌, sym, subst}
+use Rattle.optra_checker.specs.Asks.{AreAsked}
 use Rattle.optra_checker.specs.Reaches.{IsReach}
 use Rattle.optra_checker.specs.Settings.{IsSetting}
+use Rattle.optra_checker.proofs.AskLemmas.{asked_none}
 use Rattle.optra_checker.proofs.table.search.Goals as goal
 
 pub turn_to-requires-clause-small : goal.turn_to-requires-clause-small
@@ -36,3 +38,14 @@ fill-requires-clause-weights g c = c.requires.weights
 
 pub best_start-requires-clause-weights : goal.best_start-requires-clause-weights
 best_start-requires-clause-weights g c = c.requires.weights
+
+pub returns-clause-best : goal.returns-clause-best
+returns-clause-best g c = c.best_start.ensures.best
+
+pub returns-clause-size : goal.returns-clause-size
+returns-clause-size g c = c.best_start.ensures.size
+
+pub fill-requires-clause-asks : goal.fill-requires-clause-asks
+fill-requires-clause-asks g c =
+    let w = g.W.Weighing.weights c.args.weighing.now in
+    subst (AreAsked w) (sym c.deref_mut.ensures.value) (asked_none w c.args.net.now c.track_count.result c.in_ok-asks.asks.items c.requires.weights.net_is c.track_count.ensures.count c.in_ok-asks.ensures)

@@ -1,42 +1,26 @@
-use Rattle.std.proofs.Common.{◌≡◌, ◌∙◌, ◌<◌, List, length, Some, ap, sym, slice_get, subst, get_or}
-use Rattle.std.proofs.lemmas.Option.{get_or_from_slice_get}
-use Rattle.optra_bid.specs.declared.bids.Bid.{Bid}
-use Rattle.optra_node.specs.Nodes.{kind_at}
-use Rattle.optra_checker.specs.Leaves.{leaf_weights}
+use Rattle.std.proofs.Common.{sym, subst}
 use Rattle.optra_checker.specs.Loaded.{AreRising, AreLoaded}
-use Rattle.optra_checker.specs.Weights.{IsBestWorth}
-use Rattle.optra_checker.proofs.ToComeLemmas.{if_ok}
 use Rattle.optra_checker.proofs.terms.best_found.Goals as goal
 
-pub invariant_of-weights : goal.invariant_of-weights
-invariant_of-weights g c =
-    let node = c.args.node.now in
-    let is = sym c.deref.ensures.value in
-    let rows = g.F.RowFamily.rows_of node.family node.net in
-    record {
-      in_range = c.requires.bid;
-      ascending = c.requires.ascending;
-      rising = subst (AreRising g.F.Row.Ord.cmp) is c.in_ok-loaded.ensures.rising;
-      all = subst (AreLoaded g.F.Row.Ord.cmp rows node.bids node.node) is c.in_ok-loaded.ensures.all;
-      proper = c.requires.proper;
-    }
+pub best_beside-best-requires-clause-bid : goal.best_beside-best-requires-clause-bid
+best_beside-best-requires-clause-bid g c = c.requires.bid
 
-pub search-requires-clause-path : goal.search-requires-clause-path
-search-requires-clause-path g c =
-    c.inst-inst.result.paths c.args.bid c.index-inst-bid.result (subst (λ (bs : List Bid). c.args.bid < length bs) (sym c.inst-inst.ensures.bids) c.requires.bid)
+pub best_beside-best-requires-clause-ascending : goal.best_beside-best-requires-clause-ascending
+best_beside-best-requires-clause-ascending g c = c.requires.ascending
+
+pub best_beside-best-requires-clause-proper : goal.best_beside-best-requires-clause-proper
+best_beside-best-requires-clause-proper g c = c.requires.proper
+
+pub best_beside-best-requires-clause-rising : goal.best_beside-best-requires-clause-rising
+best_beside-best-requires-clause-rising g c = subst (AreRising g.F.Row.Ord.cmp) (sym c.deref.ensures.value) c.in_ok-loaded.ensures.rising
+
+pub best_beside-best-requires-clause-all : goal.best_beside-best-requires-clause-all
+best_beside-best-requires-clause-all g c =
+    let node = c.args.node.now in
+    subst (AreLoaded g.F.Row.Ord.cmp (g.F.RowFamily.rows_of node.family node.net) node.bids node.node) (sym c.deref.ensures.value) c.in_ok-loaded.ensures.all
 
 pub returns-clause-best : goal.returns-clause-best
-returns-clause-best g c =
-    let node = c.args.node.now in
-    let rows = g.F.RowFamily.rows_of node.family node.net in
-    let used = g.F.RowFamily.rows_used node.family node.net in
-    let r = c.index-inst-bid.result in
-    let weights = leaf_weights node.net rows used node.bids node.node c.args.bid c.args.prices.now (kind_at node.bids c.args.bid) in
-    if_ok c.search.result (IsBestWorth weights c.inst-inst.result.net.now (get_or c.inst-inst.result.bids.now c.args.bid r)) (λ best. (b : Bid) → slice_get node.bids c.args.bid ≡ Some b → IsBestWorth weights node.net b best)
-    (λ best is b at.
-    let same : get_or c.inst-inst.result.bids.now c.args.bid r ≡ b = ap (λ bs. get_or bs c.args.bid r) c.inst-inst.ensures.bids ∙ get_or_from_slice_get node.bids c.args.bid b r at in
-    subst (λ x. IsBestWorth weights node.net x best) same (subst (λ n. IsBestWorth weights n (get_or c.inst-inst.result.bids.now c.args.bid r) best) c.inst-inst.ensures.net is))
-    c.search.ensures.best
+returns-clause-best g c = c.best_beside-best.ensures.best
 
 pub returns-clause-size : goal.returns-clause-size
-returns-clause-size g c = c.search.ensures.size
+returns-clause-size g c = c.best_beside-best.ensures.size

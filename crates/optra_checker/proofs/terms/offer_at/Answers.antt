@@ -27,20 +27,32 @@ returns-then-is_let_be-clause-best g c b at =
     (best_no g.F.Row.Ord.cmp node.net proper rows used (λ kind leg usable. g.met.F.RowFamily.lists_rows node.family node.net kind leg usable) node.bids node.node c.args.prices.now c.args.bid b at free.best best
     (no_yes c.args.bid node.node is.own) c.or_zero.result c.or_zero.ensures.least c.or_zero.ensures.most c.or_zero.ensures.reached)
 
-pub best_offer-requires-clause-ascending : goal.best_offer-requires-clause-ascending
-best_offer-requires-clause-ascending g c = c.requires.ascending
+pub best_at-requires-clause-ascending : goal.best_at-requires-clause-ascending
+best_at-requires-clause-ascending g c = c.requires.ascending
 
-pub best_offer-requires-clause-proper : goal.best_offer-requires-clause-proper
-best_offer-requires-clause-proper g c = c.requires.proper
+pub best_at-requires-clause-proper : goal.best_at-requires-clause-proper
+best_at-requires-clause-proper g c = c.requires.proper
 
-pub best_offer-requires-clause-free : goal.best_offer-requires-clause-free
-best_offer-requires-clause-free g c = c.requires.free
+pub best_at-requires-clause-free : goal.best_at-requires-clause-free
+best_at-requires-clause-free g c = c.requires.free
 
-pub best_offer-requires-clause-instance : goal.best_offer-requires-clause-instance
-best_offer-requires-clause-instance g c = c.requires.instance
+pub offer_of-requires-clause-bid : goal.offer_of-requires-clause-bid
+offer_of-requires-clause-bid g c = c.requires.bid
+
+pub offer_of-requires-clause-best : goal.offer_of-requires-clause-best
+offer_of-requires-clause-best g c = c.in_ok-best.ensures.best
+
+pub offer_of-requires-clause-size : goal.offer_of-requires-clause-size
+offer_of-requires-clause-size g c = c.in_ok-best.ensures.size
 
 pub returns-clause-best : goal.returns-clause-best
-returns-clause-best g c = c.best_offer.ensures.best
+returns-clause-best g c = c.offer_of.ensures.best
 
 pub returns-clause-size : goal.returns-clause-size
-returns-clause-size g c = c.best_offer.ensures.size
+returns-clause-size g c = c.offer_of.ensures.size
+
+pub best_at-requires-clause-bid : goal.best_at-requires-clause-bid
+best_at-requires-clause-bid g c = c.requires.bid
+
+pub is_let_be-requires : goal.is_let_be-requires
+is_let_be-requires g c = c.requires.bid

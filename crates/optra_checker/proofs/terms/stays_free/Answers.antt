@@ -9,6 +9,7 @@ use Rattle.optra_checker.specs.Frees.{IsFreeLeg}
 use Rattle.optra_checker.specs.Leaves.{leaf_weights}
 use Rattle.optra_checker.specs.Tests.{may_start_at}
 use Rattle.optra_checker.proofs.FreeLemmas.{free_usable, stays_best, stays_none}
+use Rattle.optra_checker.proofs.AtLemmas.{no_true}
 use Rattle.optra_checker.proofs.terms.stays_free.Goals as goal
 
 pub returns-then-is_missing : goal.returns-then-is_missing
@@ -45,3 +46,6 @@ legs_stay_free-requires-clause-ascending g c = c.requires.ascending
 
 pub legs_stay_free-requires-clause-proper : goal.legs_stay_free-requires-clause-proper
 legs_stay_free-requires-clause-proper g c = c.requires.proper
+
+pub returns-then-not-start_stays_free : goal.returns-then-not-start_stays_free
+returns-then-not-start_stays_free g c t = absurd (no_true t)

@@ -82,5 +82,8 @@ offer_at-requires-clause-ascending g c = c.requires.ascending
 pub offer_at-requires-clause-proper : goal.offer_at-requires-clause-proper
 offer_at-requires-clause-proper g c = c.requires.proper
 
-pub offer_at-requires-clause-instance : goal.offer_at-requires-clause-instance
-offer_at-requires-clause-instance g c = c.requires.instance
+pub offer_at-requires-clause-bid : goal.offer_at-requires-clause-bid
+offer_at-requires-clause-bid g c = let l = c.bids-test.true in let same = ap length c.inst.ensures.bids in omega (arith, l, same)
+
+pub plus-sum-requires-clause-best : goal.plus-sum-requires-clause-best
+plus-sum-requires-clause-best g c = c.in_ok-best.ensures.size

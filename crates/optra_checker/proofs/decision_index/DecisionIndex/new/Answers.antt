@@ -5,6 +5,7 @@ use Rattle.optra_checker.proofs.decision_index.DecisionIndex.new.Goals as goal
 
 pub returns : goal.returns
 returns c = record {
+  own = keyed_none (λ (d : Decision). d.bid) c.args.bids _ c.in_ok-own.ensures;
   yes = keyed_none (λ (d : Decision). d.bid) c.args.bids _ c.in_ok-yes.ensures;
   buckets = keyed_none (λ (d : Decision). bucket_of d.bid d.leg) 4096 _ c.in_ok-buckets.ensures;
 }

@@ -1,10 +1,11 @@
-use Rattle.std.proofs.Common.{false}
+use Rattle.std.proofs.Common.{false, not}
 use Rattle.std.proofs.lemmas.Bool.Decides.{same_from_decides}
-use Rattle.optra_node.specs.Nodes.{kind_at}
+use Rattle.optra_node.specs.Nodes.{IsBlocked, kind_at}
 use Rattle.optra_checker.specs.Tests.{may_have_leg}
-use Rattle.optra_checker.proofs.AtLemmas.{no_true, not_both}
+use Rattle.optra_checker.proofs.AtLemmas.{is_not, no_true, not_both}
 use Rattle.optra_checker.proofs.LoadedLemmas.{off_free}
 use Rattle.optra_checker.proofs.TestLemmas.{leg_tested}
+use Rattle.optra_checker.proofs.UsedLemmas.{usable_is_formed}
 use Rattle.optra_checker.proofs.open_node.OpenNode.leg_ok_beside.Goals as goal
 
 pub returns-then-not-let_by : goal.returns-then-not-let_by
@@ -47,8 +48,9 @@ returns-else-keeps_off g c =
     let used = g.F.RowFamily.rows_used self.family self.net in
     let proper = c.requires.usable.proper in
     let lists = g.met.F.RowFamily.lists_rows self.family self.net kind leg c.requires.usable in
-    same_from_decides c.has_room.result (may_have_leg self.net rows used self.bids self.node bid kind leg)
-    ((λ t. record { let_by = c.let_by.ensures.0 c.if-not-let_by.false; free = c.has_room.ensures.0 t }), (λ h. c.has_room.ensures.1 h.free))
+    let free = is_not c.blocked.result (IsBlocked rows self.bids self.node bid kind leg) c.blocked.ensures in
+    same_from_decides (not c.blocked.result) (may_have_leg self.net rows used self.bids self.node bid kind leg)
+    ((λ t. record { let_by = c.let_by.ensures.0 c.if-not-let_by.false; free = free.0 t }), (λ h. free.1 h.free))
     (leg_tested self.net kind g.F.Row.Ord.cmp rows used self.bids self.node bid leg lists)
 
 pub keeps_off-requires-clause-rising : goal.keeps_off-requires-clause-rising
@@ -57,5 +59,8 @@ keeps_off-requires-clause-rising g c = c.requires.rising
 pub keeps_off-requires-clause-usable : goal.keeps_off-requires-clause-usable
 keeps_off-requires-clause-usable g c = c.requires.usable
 
-pub has_room-requires-clause-usable : goal.has_room-requires-clause-usable
-has_room-requires-clause-usable g c = c.requires.usable
+pub blocked-requires-clause-leg : goal.blocked-requires-clause-leg
+blocked-requires-clause-leg g c =
+    let self = c.args.self.now in
+    let proper = c.requires.usable.proper in
+    usable_is_formed self.net (kind_at self.bids c.args.bid) c.args.leg proper c.requires.usable

@@ -2,11 +2,13 @@ use Rattle.std.proofs.Common.{take}
 use Rattle.std.specs.Prelude.{All}
 use Rattle.optra_node.specs.Trees.{placed, root}
 use Rattle.optra_node.specs.Certificates.{SplitsUndecided}
+use Rattle.optra_checker.specs.Opens.{IsRoom}
 use Rattle.optra_checker.specs.ToCome.{IsAt}
-use Rattle.optra_checker.proofs.splitting.splits_hold.Given as goal
+use Rattle.optra_checker.proofs.splitting.splits_hold_from.Given as goal
 
 abbrev pub invariant-items : goal.invariant-items
 invariant-items g l = record {
-  at : IsAt l.rows l.inst.net.now l.inst.bids.now l.tree l.item-index l.node;
+  kept : IsRoom g.F.Row.Ord.cmp l.inst.net.now (g.F.RowFamily.rows_of l.rows l.inst.net.now) l.inst.bids.now l.room;
+  at : IsAt l.tree l.item-index l.room.decisions.items;
   so_far : All (λ p. SplitsUndecided p.0 p.1) (placed root (take l.item-index l.tree));
 }

@@ -1,0 +1,16 @@
+use Rattle.std.proofs.Common.{◌++◌, ◌∷◌, [], refl, sym, ◌∙◌, ap, inr}
+use Rattle.optra_node.specs.declared.Decision.{Decision}
+use Rattle.optra_node.specs.Trees.{decide, decide_not, children}
+use Rattle.optra_checker.specs.ToCome.{to_come}
+use Rattle.optra_checker.proofs.ToComeLemmas.{split_opens}
+use Rattle.std.proofs.lemmas.Result.{on_ok_weaker}
+use Rattle.optra_checker.proofs.node_room.pass.Goals as goal
+
+pub returns-in-Split-clause-next : goal.returns-in-Split-clause-next
+returns-in-Split-clause-next g c =
+    let node = c.args.room.now.decisions.items in
+    let next = c.decide.new.room.decisions.items in
+    let yes : Decision = decide c.in-Split.bid c.in-Split.leg in
+    let no : Decision = decide_not c.in-Split.bid c.in-Split.leg in
+    on_ok_weaker c.decide.result
+    (λ is. inr (ap (λ item. children node item ++ to_come node) c.in-Split.is ∙ ap (λ n. n ∷ (node ++ no ∷ []) ∷ to_come node) (sym is) ∙ split_opens node next yes is refl)) c.decide.ensures.more

@@ -1,0 +1,13 @@
+use Rattle.std.proofs.Common.{◌≡◌, length}
+use Rattle.optra_checker.specs.Opens.{IsRoom}
+use Rattle.optra_checker.specs.ToCome.{to_come}
+use Rattle.optra_checker.proofs.node_room.turn.Given as goal
+
+abbrev pub invariant-back : goal.invariant-back
+invariant-back g l = record {
+  kept : IsRoom g.F.Row.Ord.cmp l.inst.net.now (g.F.RowFamily.rows_of l.rows l.inst.net.now) l.inst.bids.now l.room;
+  to_come_is : to_come l.room.decisions.items ≡ to_come l.fn.room.decisions.items;
+}
+
+abbrev pub decreases-back : goal.decreases-back
+decreases-back g l = length l.room.decisions.items

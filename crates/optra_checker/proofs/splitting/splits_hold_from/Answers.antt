@@ -1,0 +1,72 @@
+use Rattle.std.proofs.Common.{◌↔◌, List, length, refl, sym, subst, rules}
+use Rattle.std.specs.Prelude.{IsTrue}
+use Rattle.optra_node.specs.declared.Decision.{Decision}
+use Rattle.optra_node.specs.declared.Item.{Item}
+use Rattle.optra_node.specs.Certificates.{IsFormedItem, SplitsUndecided}
+use Rattle.optra_node.specs.Summaries.{Summed}
+use Rattle.optra_checker.proofs.AtLemmas.{all_more, all_past, at_first, at_more, here_of_all, no_true, not_both}
+use Rattle.optra_checker.proofs.HereLemmas.{all_here}
+use Rattle.optra_checker.proofs.splitting.splits_hold_from.Goals as goal
+
+pub items-init : goal.items-init
+items-init g c = record {
+  kept = c.requires.room;
+  at = at_first c.args.tree.now c.args.room.now.decisions.items c.requires.root;
+  so_far = search rules;
+}
+
+pub of-node-requires : goal.of-node-requires
+of-node-requires g c = c.items.invariant.kept
+
+pub is_fresh-requires : goal.is_fresh-requires
+is_fresh-requires g c =
+    let cmp = g.F.Row.Ord.cmp in
+    let here = all_here (IsFormedItem cmp c.args.inst.net.now (length c.args.inst.bids.now)) c.args.tree.now c.items.item-index c.item-item.result c.items-test.true c.item-item.is c.requires.items in
+    subst (λ (w : Summed g.row.F.Denot). IsFormedItem cmp w.net (length w.bids) c.item-item.result) (sym c.of-node.ensures) here
+
+pub pass-requires-clause-room : goal.pass-requires-clause-room
+pass-requires-clause-room g c = c.items.invariant.kept
+
+pub pass-requires-clause-formed : goal.pass-requires-clause-formed
+pass-requires-clause-formed g c =
+    all_here (IsFormedItem g.F.Row.Ord.cmp c.args.inst.net.now (length c.args.inst.bids.now)) c.args.tree.now c.items.item-index c.item-item.result c.items-test.true c.item-item.is c.requires.items
+
+pub pass-requires-clause-undecided : goal.pass-requires-clause-undecided
+pass-requires-clause-undecided g c =
+    subst (λ (w : Summed g.row.F.Denot). SplitsUndecided w.node c.item-item.result) c.of-node.ensures (c.is_fresh.ensures.0 c.if-not-is_fresh.false)
+
+pub returns-then-not-is_fresh : goal.returns-then-not-is_fresh
+returns-then-not-is_fresh g c =
+    let net = c.args.inst.net.now in
+    let bids = c.args.inst.bids.now in
+    let v = c.items.room.decisions.items in
+    let P = λ (p : List Decision × Item g.row.F-Row.Denot). SplitsUndecided p.0 p.1 in
+    let told = subst (λ (w : Summed g.row.F.Denot). IsTrue c.is_fresh.result ↔ SplitsUndecided w.node c.item-item.result) c.of-node.ensures c.is_fresh.ensures in (
+      λ t. absurd (no_true t),
+      λ all. absurd (not_both c.is_fresh.result c.if-not-is_fresh.true (told.1 (here_of_all c.args.tree.now c.items.item-index c.item-item.result v c.items-test.true c.item-item.is c.items.invariant.at P all))),
+    )
+
+pub items-preserved : goal.items-preserved
+items-preserved g c =
+    let f = c.args.rows.now in
+    let net = c.args.inst.net.now in
+    let bids = c.args.inst.bids.now in
+    let tree = c.args.tree.now in
+    let i = c.items.item-index in
+    let v = c.items.room.decisions.items in
+    let next = c.pass.new.room.decisions.items in
+    let at = c.items.invariant.at in
+    let P = λ (p : List Decision × Item g.row.F-Row.Denot). SplitsUndecided p.0 p.1 in
+    let fresh = subst (λ (w : Summed g.row.F.Denot). SplitsUndecided w.node c.item-item.result) c.of-node.ensures (c.is_fresh.ensures.0 c.if-not-is_fresh.false) in
+    record {
+      kept = c.in_ok-pass.ensures.room;
+      at = at_more tree i c.item-item.result v c.items-test.true c.item-item.is at c.requires.whole next c.in_ok-pass.ensures.next;
+      so_far = all_more tree i c.item-item.result v c.items-test.true c.item-item.is at P c.items.invariant.so_far fresh;
+    }
+
+pub returns : goal.returns
+returns g c =
+    let P = λ (p : List Decision × Item g.row.F-Row.Denot). SplitsUndecided p.0 p.1 in (
+      λ _. all_past c.args.tree.now P c.items.item-index c.items-test.false c.items.invariant.so_far,
+      λ _. refl,
+    )
