@@ -1,11 +1,7 @@
 -- With so many stops left, a walk still takes the least minutes from each station on by way of them.
-use Rattle.std.proofs.Common.{◌≡◌, ℕ, zero, suc, ◌+◌, ◌≤◌, ◌<◌, ◌∙◌, inl, inr, Bool, true, not, sym, List, [], ◌∷◌, ◌++◌, Option, None, Some, IsSomeAnd, slice_get, slice_index, slice_index_or, get_or, length, ◌-◌, refl, ap, subst, arith}
-use Rattle.std.specs.Prelude.{All}
-use Rattle.std.proofs.lemmas.Option.{slice_get_within, slice_get-get_or, get_or_from_slice_get}
-use Rattle.std.proofs.lemmas.Bool.{cases_lt}
-use Rattle.std.proofs.lemmas.List.{get_or_append_left, length-append}
-use Rattle.std.proofs.Math.Seq.{get_or-append_seam}
-use Rattle.optra_network.specs.Net.{Net, IsStation, times_of, minutes_by, track_id}
+use Rattle.std.proofs.Common.{◌≡◌, ℕ, ◌+◌, ◌≤◌, ◌∙◌, inl, inr, Bool, not, sym, List, [], ◌∷◌, Option, None, Some, IsSomeAnd, slice_get, slice_index, slice_index_or, length, ◌-◌, refl, ap, subst, arith}
+use Rattle.std.proofs.lemmas.Option.{slice_get_within}
+use Rattle.optra_network.specs.Net.{Net, times_of, minutes_by}
 use Rattle.optra_network.specs.declared.StationId.{StationId}
 use Rattle.optra_network.specs.declared.Times.{Times}
 use Rattle.optra_bid.specs.Specs.{Path}
@@ -17,7 +13,7 @@ use Rattle.optra_walk.specs.Legs.{is_pass, dwell_of, arrival_of, after_action}
 use Rattle.optra_walk.specs.Walks.{tail_of, head_of, MeetsStop}
 use Rattle.optra_checker.specs.declared.states.State.{State}
 use Rattle.optra_checker.specs.declared.reach.Reach.{Reach}
-use Rattle.optra_checker.specs.Reaches.{AreLeast, IsLeastAlong, AreAhead, IsReach, IsAhead, levels_of}
+use Rattle.optra_checker.specs.Reaches.{IsReach, IsAhead, levels_of}
 use Rattle.optra_checker.specs.Rests.{FitsAction, IsRest, done_after}
 use Rattle.optra_checker.proofs.ReachLemmas.{some_same, track_there, head_is, ran, arrived, arrival_within}
 
@@ -51,7 +47,7 @@ module _ (net : Net) (path : Path) (reach : Reach) (is : IsReach net path reach)
       let e = fits.0 in
       let none_left : length path.stops - s.done ≡ 0 = omega (arith, e) in
       let k = along 0 (omega arith) leg s.station path.destination t.0 leg.from_halt (not (is_pass leg.action)) m.place fits.1.place t.1 in
-      let z = is.ahead.end in
+      let z = is.ahead.first in
       let d = m.time in
       let r = t.2 in
       let l = at.2 in
@@ -88,7 +84,7 @@ module _ (net : Net) (path : Path) (reach : Reach) (is : IsReach net path reach)
           let k = along (left + 1) (omega (arith, within)) leg s.station f.0.station t.0 leg.from_halt (not (is_pass leg.action)) m.place f.1.place t.1 in
           let here = ap (λ (x : StationId). slice_index (level left) x.0) (some_same stop.0.station f.0.station (sym stop.2.place ∙ f.1.place)) in
           let there = ap (λ (x : StationId). slice_index (level (left + 1)) x.0) (some_same stop.0.station f.0.station (sym stop.2.place ∙ f.1.place)) in
-          let h = is.ahead.halt s.done left stop.0 stop.1 (omega (arith, within)) (omega (arith, within)) in
+          let h = is.ahead.halt left stop.0 (ap (slice_get path.stops) (omega (arith, within)) ∙ stop.1) (omega (arith, within)) in
           let dwell : d ≡ dwell_of leg.action = sym (ap dwell_of e) in
           let least = stop.2.dwell.0 in
           let until : at.0 + d ≡ f.0.minute = some_same (at.0 + d) f.0.minute (sym (ap (λ o. after_action (Halt d) o) at.1) ∙ sym (ap (λ x. after_action x (arrival_of net path.kind leg)) e) ∙ f.1.time) in
@@ -101,73 +97,3 @@ module _ (net : Net) (path : Path) (reach : Reach) (is : IsReach net path reach)
       by (Wait d) e i = same (Wait d) e refl i
       by (Halt d) e i = halt d e i
       by Finish e i = same Finish e refl i
-
--- no stop is left
-pub ahead_first : (net : Net) (path : Path) (last : List ℕ) → AreLeast net path.kind true path.destination 0 last → AreAhead net path (last ∷ []) 0
-ahead_first net path last least = record {
-  count = omega arith;
-  len = λ left few. ap length (only left few) ∙ least.len;
-  each = λ left few n l. subst (λ xs. IsLeastAlong net path.kind true xs (track_id n)) (sym (only left few)) (least.each n l);
-  end = least.first;
-  halt = λ done left stop there sum few. absurd (omega (arith, few));
-}
-  where
-    only : (left : ℕ) → left ≤ 0 → slice_index_or (last ∷ []) left [] ≡ last
-    only zero few = refl
-    only (suc left) few = absurd (omega (arith, few))
-
--- one stop more is left
-pub ahead_more : (net : Net) (path : Path) (levels : List (List ℕ)) (left start : ℕ) (stop : Stop) (more : List ℕ) → left < length path.stops → slice_get path.stops (length path.stops - 1 - left) ≡ Some stop
-    → AreLeast net path.kind true stop.station start more → start ≤ stop.min_dwell + slice_index (slice_index_or levels left []) stop.station.0
-    → AreAhead net path levels left → AreAhead net path (levels ++ more ∷ []) (left + 1)
-ahead_more net path levels left start stop more within at least from are = record {
-  count = let c = are.count in omega (arith, c, length-append levels (more ∷ []));
-  len = λ n few. elim (cases_lt n (left + 1)) as (λ _. length (slice_index_or (levels ++ more ∷ []) n []) ≡ length net.stations) [
-    | inl l ↦ ap length (before n l) ∙ are.len n (omega (arith, l))
-    | inr l ↦ ap length (here n (omega (arith, l, few))) ∙ least.len
-  ];
-  each = λ n few t l. elim (cases_lt n (left + 1)) as (λ _. IsLeastAlong net path.kind true (slice_index_or (levels ++ more ∷ []) n []) (track_id t)) [
-    | inl k ↦ subst (λ xs. IsLeastAlong net path.kind true xs (track_id t)) (sym (before n k)) (are.each n (omega (arith, k)) t l)
-    | inr k ↦ subst (λ xs. IsLeastAlong net path.kind true xs (track_id t)) (sym (here n (omega (arith, k, few)))) (least.each t l)
-  ];
-  end = let e = ap (λ xs. slice_index xs path.destination.0) (before 0 (omega arith)) in let z = are.end in omega (arith, e, z);
-  halt = λ done n s there sum few. elim (cases_lt (n + 1) (left + 1)) as (λ _. slice_index (slice_index_or (levels ++ more ∷ []) (n + 1) []) s.station.0 ≤ s.min_dwell + slice_index (slice_index_or (levels ++ more ∷ []) n []) s.station.0) [
-    | inl k ↦
-        let a = ap (λ xs. slice_index xs s.station.0) (before (n + 1) k) in
-        let b = ap (λ xs. slice_index xs s.station.0) (before n (omega (arith, k))) in
-        let h = are.halt done n s there sum (omega (arith, k)) in
-        omega (arith, a, b, h)
-    | inr k ↦
-        let last : n ≡ left = omega (arith, k, few) in
-        let place : done ≡ length path.stops - 1 - left = omega (arith, sum, last, within) in
-        let same : s ≡ stop = some_stop s stop (sym there ∙ ap (slice_get path.stops) place ∙ at) in
-        let station = ap (λ (x : Stop). x.station.0) same in
-        let dwell = ap (λ (x : Stop). x.min_dwell) same in
-        let a : slice_index (slice_index_or (levels ++ more ∷ []) (n + 1) []) s.station.0 ≡ slice_index more stop.station.0 = (λ i. slice_index (here (n + 1) (omega (arith, last)) i) (station i)) in
-        let b : slice_index (slice_index_or (levels ++ more ∷ []) n []) s.station.0 ≡ slice_index (slice_index_or levels left []) stop.station.0 = (λ i. slice_index (before n (omega (arith, last)) i) (station i)) ∙ ap (λ k. slice_index (slice_index_or levels k []) stop.station.0) last in
-        let first = least.first in
-        omega (arith, a, b, first, from, dwell)
-  ];
-}
-  where
-    some_stop : (x y : Stop) → Some x ≡ Some y → x ≡ y
-    some_stop x y e = cc
-
-    before : (n : ℕ) → n < left + 1 → slice_index_or (levels ++ more ∷ []) n [] ≡ slice_index_or levels n []
-    before n l = let c = are.count in get_or_append_left levels (more ∷ []) [] n (omega (arith, l, c))
-
-    here : (n : ℕ) → n ≡ left + 1 → slice_index_or (levels ++ more ∷ []) n [] ≡ more
-    here n e = let c = are.count in ap (λ k. slice_index_or (levels ++ more ∷ []) k []) (omega (arith, e, c)) ∙ get_or-append_seam levels more [] []
-
--- the stop before so many
-pub stop_at : (net : Net) (xs ys : List Stop) (count left : ℕ) (stop : Stop) → xs ≡ ys → count ≡ length xs → left < count → stop ≡ get_or xs (count - 1 - left) stop → All (λ s. IsStation net s.station) ys
-    → (left < length ys) × (slice_get ys (length ys - 1 - left) ≡ Some stop) × (stop.station.0 < length net.stations)
-stop_at net xs ys count left stop same is l at stations =
-    let n : count ≡ length ys = is ∙ ap length same in
-    let k : count - 1 - left < length xs = omega (arith, is, l) in
-    let there : slice_get xs (count - 1 - left) ≡ Some stop = slice_get-get_or xs (count - 1 - left) stop k ∙ ap Some (sym at) in
-    let here : slice_get ys (length ys - 1 - left) ≡ Some stop = subst (λ zs. slice_get zs (length ys - 1 - left) ≡ Some stop) same (subst (λ m. slice_get xs (m - 1 - left) ≡ Some stop) n there) in
-    let j : length ys - 1 - left < length ys = omega (arith, n, l) in
-    let e = get_or_from_slice_get ys (length ys - 1 - left) stop stop here in
-    let s = stations (length ys - 1 - left) stop j in
-    (omega (arith, n, l), here, subst (λ (x : Stop). x.station.0 < length net.stations) e s)

@@ -20,7 +20,7 @@ use Rattle.optra_checker.specs.Places.{IsPlaced, IsSmall, slot_of, spot_at, plac
 use Rattle.optra_checker.specs.Settings.{IsSetting}
 use Rattle.optra_checker.specs.Rests.{IsBestRest, AnyLeg}
 use Rattle.optra_checker.specs.declared.reach.Reach.{Reach}
-use Rattle.optra_checker.specs.Reaches.{IsReach, IsReached, WasTime, IsInTime, IsAhead, IsNear, IsWithoutFar}
+use Rattle.optra_checker.specs.Reaches.{from_origin, to_destination, IsReach, IsReached, WasTime, IsInTime, IsAhead, IsNear, IsWithoutFar}
 use Rattle.optra_checker.specs.Tables.{IsTable, IsFilled, IsReadyFor, HasBest, entry_at, rest_at, rest_in, rests_of, end_of, is_early}
 use Rattle.optra_checker.proofs.HorizonLemmas.{after_later, rest_before}
 use Rattle.optra_checker.proofs.BehindLemmas.{time_after}
@@ -31,7 +31,7 @@ use Rattle.optra_checker.proofs.PlaceLemmas.{place_below, place_later, one_place
 pub early_before : (table : RestTable) (s : State) → is_early table s ≡ true → s.minute < end_of table
 early_before table s e = by (nat_lt s.minute (end_of table)) refl e
   where
-    by : (b : Bool) → nat_lt s.minute (end_of table) ≡ b → (b && nat_le (s.minute + slice_index table.reach.to_destination.items s.station.0) (end_of table)) ≡ true → s.minute < end_of table
+    by : (b : Bool) → nat_lt s.minute (end_of table) ≡ b → (b && nat_le (s.minute + slice_index (to_destination table.reach) s.station.0) (end_of table)) ≡ true → s.minute < end_of table
     by true l h = grind (arith, nat_tests)
     by false l h = absurd (true≢false (sym h))
 
@@ -73,7 +73,7 @@ module _ (w : Weights) (net : Net) (bid : Bid) where
 
   -- a track on which no walk may end in time
   pub late_way : (table : RestTable) (s : State) (way : Way) → IsSetting net bid.path table.layout → IsReach net bid.path table.reach → IsWay net bid.path s way → s.minute < bid.path.arrive.to
-      → end_of table < way.pass + slice_index table.reach.to_destination.items way.head.0 → end_of table < way.halt + slice_index table.reach.to_destination.items way.head.0
+      → end_of table < way.pass + slice_index (to_destination table.reach) way.head.0 → end_of table < way.halt + slice_index (to_destination table.reach) way.head.0
       → IsBestRest w net bid s (IsOn way.track) None
   late_way table s way setting reach is before pass halt =
       let f = setting.laid.first in
@@ -90,8 +90,8 @@ module _ (w : Weights) (net : Net) (bid : Bid) where
       let m = setting.laid.minutes in
       let l = placed.late in
       let b = placed.early in
-      let k : nat_le (s.minute + slice_index table.reach.to_destination.items s.station.0) (end_of table) ≡ true = second (nat_lt s.minute (end_of table)) (nat_le (s.minute + slice_index table.reach.to_destination.items s.station.0) (end_of table)) e in
-      let n : s.minute + slice_index table.reach.to_destination.items s.station.0 ≤ end_of table = grind (arith, nat_tests) in
+      let k : nat_le (s.minute + slice_index (to_destination table.reach) s.station.0) (end_of table) ≡ true = second (nat_lt s.minute (end_of table)) (nat_le (s.minute + slice_index (to_destination table.reach) s.station.0) (end_of table)) e in
+      let n : s.minute + slice_index (to_destination table.reach) s.station.0 ≤ end_of table = grind (arith, nat_tests) in
       omega (arith, n, f, m, l, b)
     where
       second : (a b : Bool) → (a && b) ≡ true → b ≡ true
@@ -119,7 +119,7 @@ module _ (w : Weights) (net : Net) (bid : Bid) where
 
   -- the stations behind so many, to which no train comes
   pub filled_far : (table : RestTable) (minute left more : ℕ) → table.layout.first ≤ minute → left + more ≤ table.layout.stations
-      → ((station : ℕ) → left ≤ station → station < left + more → IsNear bid.path table.reach.from_origin.items table.reach.to_destination.items station → ⊥)
+      → ((station : ℕ) → left ≤ station → station < left + more → IsNear bid.path (from_origin table.reach) (to_destination table.reach) station → ⊥)
       → IsFilled w net bid table (spot_at table.layout (minute - table.layout.first) (left + more)) → IsFilled w net bid table (spot_at table.layout (minute - table.layout.first) left)
   filled_far table minute left zero from within far h =
       let e : left + zero ≡ left = omega arith in
@@ -129,16 +129,16 @@ module _ (w : Weights) (net : Net) (bid : Bid) where
       filled_far table minute left more from (omega (arith, within)) (λ station l b near. far station l (omega (arith, b)) near)
       (filled_skip table minute (left + more) from (omega (arith, within))
       (λ s m t reached soon.
-      let near : IsNear bid.path table.reach.from_origin.items table.reach.to_destination.items (left + more) =
-      (let p = ap (λ (n : ℕ). slice_index table.reach.from_origin.items n) t in
-      let q = ap (λ (n : ℕ). slice_index table.reach.to_destination.items n) t in
+      let near : IsNear bid.path (from_origin table.reach) (to_destination table.reach) (left + more) =
+      (let p = ap (λ (n : ℕ). slice_index (from_origin table.reach) n) t in
+      let q = ap (λ (n : ℕ). slice_index (to_destination table.reach) n) t in
       omega (arith, reached, soon, p, q)) in
       far (left + more) (omega arith) (omega arith) near)
       (subst (λ (n : ℕ). IsFilled w net bid table (spot_at table.layout (minute - table.layout.first) n)) e h))
 
   -- so many of the first stations, without the last ones that are far
   pub filled_without : (table : RestTable) (minute count left : ℕ) → table.layout.first ≤ minute → count ≤ table.layout.stations
-      → IsWithoutFar bid.path table.reach.from_origin.items table.reach.to_destination.items count left
+      → IsWithoutFar bid.path (from_origin table.reach) (to_destination table.reach) count left
       → IsFilled w net bid table (spot_at table.layout (minute - table.layout.first) count) → IsFilled w net bid table (spot_at table.layout (minute - table.layout.first) left)
   filled_without table minute count left from within is h =
       let fewer = is.fewer in
@@ -176,8 +176,8 @@ module _ (w : Weights) (net : Net) (bid : Bid) where
           let p = ap places_of f in
           let l = h.is_table.len in
           omega (arith, n, a, b, p, l);
-      from = ap (λ (r : Reach). length r.from_origin.items) g ∙ h.is_table.from ∙ ap (λ (lay : Layout). lay.stations) (sym f);
-      on = ap (λ (r : Reach). length r.to_destination.items) g ∙ h.is_table.on ∙ ap (λ (lay : Layout). lay.stations) (sym f);
+      from = ap (λ (r : Reach). length (from_origin r)) g ∙ h.is_table.from ∙ ap (λ (lay : Layout). lay.stations) (sym f);
+      on = ap (λ (r : Reach). length (to_destination r)) g ∙ h.is_table.on ∙ ap (λ (lay : Layout). lay.stations) (sym f);
     };
     setting = subst (IsSetting net bid.path) (sym f) h.setting;
     reach = subst (IsReach net bid.path) (sym g) h.reach;
@@ -191,7 +191,7 @@ module _ (w : Weights) (net : Net) (bid : Bid) where
   }
     where
       early_by : Layout → Reach → State → Bool
-      early_by lay reach s = nat_lt s.minute (lay.first + lay.minutes) && nat_le (s.minute + slice_index reach.to_destination.items s.station.0) (lay.first + lay.minutes)
+      early_by lay reach s = nat_lt s.minute (lay.first + lay.minutes) && nat_le (s.minute + slice_index (to_destination reach) s.station.0) (lay.first + lay.minutes)
 
       at : (s : State) → IsPlaced table.layout s → (place_of table.layout here < place_of table.layout s) ⊎ (place_of table.layout s ≤ place_of table.layout here) → place_of table.layout here ≤ place_of table.layout s → IsReached bid.path table.reach s
           → WasTime bid.path table.reach s → is_early table s ≡ true
@@ -218,7 +218,7 @@ module _ (w : Weights) (net : Net) (bid : Bid) where
           → is_early table s ≡ false → ⊥
       late s before soon f m e =
           let l : nat_lt s.minute (end_of table) ≡ true = lt-ltb s.minute (end_of table) (omega (arith, before, f, m)) in
-          let k : nat_le (s.minute + slice_index table.reach.to_destination.items s.station.0) (end_of table) ≡ true = grind (arith, nat_tests) in
+          let k : nat_le (s.minute + slice_index (to_destination table.reach) s.station.0) (end_of table) ≡ true = grind (arith, nat_tests) in
           true≢false (sym (λ i. l i && k i) ∙ e)
 
       by : (b : Bool) → is_early table s ≡ b → IsBestRest w net bid s AnyLeg (rest_at table s)
@@ -237,8 +237,8 @@ module _ (w : Weights) (net : Net) (bid : Bid) where
 -- two states of one spot
 pub same_spot : (path : Path) (reach : Reach) (a b : State) → a.minute ≡ b.minute → a.station.0 ≡ b.station.0 → IsReached path reach a → IsInTime path reach a → IsReached path reach b × IsInTime path reach b
 same_spot path reach a b m t from on =
-    let p = ap (λ (n : ℕ). slice_index reach.from_origin.items n) t in
-    let q = ap (λ (n : ℕ). slice_index reach.to_destination.items n) t in
+    let p = ap (λ (n : ℕ). slice_index (from_origin reach) n) t in
+    let q = ap (λ (n : ℕ). slice_index (to_destination reach) n) t in
     (omega (arith, from, m, p), omega (arith, on, m, q))
 
 -- a state of a spot, by the number of its stops done and its mode

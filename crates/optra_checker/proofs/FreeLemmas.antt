@@ -1,5 +1,5 @@
 -- A best of all walks that a node still allows, at no price, is the best of those that it allows.
-use Rattle.std.proofs.Common.{◌≡◌, ℕ, suc, ◌+◌, ◌<◌, true, List, [], ◌∷◌, ◌++◌, length, get_or, take, Option, None, Some, refl, sym, ap, ◌∙◌, subst, arith, inl, inr}
+use Rattle.std.proofs.Common.{◌≡◌, ℕ, suc, ◌+◌, ◌<◌, true, List, [], ◌∷◌, ◌++◌, length, get_or, take, Option, None, Some, IfSome, refl, sym, ap, ◌∙◌, subst, arith, inl, inr}
 use Rattle.std.specs.Prelude.{All, IsSomeAnd, is_some, not, slice_get}
 use Rattle.std.proofs.lemmas.Bool.{cases_lt, false≢true}
 use Rattle.std.specs.Prelude.{ℤ, pos, ◌*ℤ◌, ◌≤ℤ◌}
@@ -15,7 +15,7 @@ use Rattle.optra_node.specs.Nodes.{kind_at}
 use Rattle.optra_network.specs.declared.TypeId.{TypeId}
 use Rattle.optra_node.specs.Duals.{sum_of, PriceList, ArePrices, leg_price}
 use Rattle.optra_node.proofs.SumLemmas.{sum_of-cons}
-use Rattle.optra_checker.specs.Weights.{Weights, IsOpenWalk, IsBestWorth, worth_of}
+use Rattle.optra_checker.specs.Weights.{Weights, IsOpenWalk, IsBestWorth, IsWorthSize, worth_of}
 use Rattle.optra_checker.specs.declared.frees.Free.{Free}
 use Rattle.optra_checker.specs.Frees.{free_weights, Attains, IsFree, AreFree, IsStillFree}
 use Rattle.optra_checker.specs.Leaves.{leaf_weights}
@@ -143,3 +143,8 @@ free_at net bids frees number free d l at are =
     let m : number < length frees = omega arith in
     let e : slice_get frees number ≡ Some free = slice_get-get_or frees number d m ∙ ap Some (sym at) in
     subst (λ o. IsSomeAnd o (λ b. IsFree net b free)) (sym there.1) (are.each number there.0 free there.1 e)
+
+-- what the best of all walks is worth is small
+pub free_size : (net : Net) (o : Option Bid) (free : Free) → IsSomeAnd o (λ b. IsFree net b free) → IfSome free.best IsWorthSize
+free_size net None free h = absurd h
+free_size net (Some b) free h = h.size

@@ -216,3 +216,8 @@ module _ {R : Type 0} (net : Net) (rows : Rows R) (bids : List Bid) (node : List
           → ((IsDead net rows bids node → ⊥) × (dual_by (capacity_price rows prices) sum ≡ capacity_price rows prices +ℤ sum_of (λ t. t) are.terms)) ⊎ (IsDead net rows bids node × (dual_by (capacity_price rows prices) sum ≡ pos 0))
       by None (number, b, l, there, stuck) = inr ((number, b, there, stuck), refl)
       by (Some total) s = inl ((λ d. s.0 (below d)), ap (λ t. capacity_price rows prices +ℤ t) s.1)
+
+-- zero, or a number that is small
+pub size_above : (best : Option ℤ) (n : ℤ) → IfSome best IsWorthSize → (n ≡ pos 0) ⊎ (best ≡ Some n) → IsWorthSize n
+size_above best n size (inl e) = subst IsWorthSize (sym e) (omega (arith, ints), omega (arith, ints))
+size_above best n size (inr e) = subst (λ b. IfSome b IsWorthSize) e size

@@ -30,6 +30,7 @@ pub mod LeafLemmas
 pub mod BoundLemmas
 pub mod ReachLemmas
 pub mod AheadLemmas
+pub mod LevelLemmas
 pub mod VerdictLemmas
 pub mod FreeLemmas
 pub mod ProductLemmas

@@ -16,7 +16,7 @@ use Rattle.optra_walk.specs.Legs.{is_pass, arrival_of, next_depart_of, after_act
 use Rattle.optra_walk.specs.Walks.{tail_of, head_of}
 use Rattle.optra_checker.specs.declared.states.State.{State}
 use Rattle.optra_checker.specs.declared.reach.Reach.{Reach}
-use Rattle.optra_checker.specs.Reaches.{IsReach, IsReached, IsInTime}
+use Rattle.optra_checker.specs.Reaches.{from_origin, to_destination, IsReach, IsReached, IsInTime}
 use Rattle.optra_checker.specs.declared.ways.Way.{Way}
 use Rattle.optra_checker.specs.Rests.{FitsAction, IsMove, IsAfter, IsRest}
 use Rattle.optra_checker.specs.Ways.{IsWay, leg_by}
@@ -65,22 +65,22 @@ arrival_within (Some n) from to h = (n, refl, h.1)
 module _ (net : Net) (path : Path) (reach : Reach) (is : IsReach net path reach) where
   -- from a station to the next one along a leg
   ahead : (leg : Leg) (near far : StationId) (times : Times) (a b : Bool) → tail_of net leg ≡ Some near → head_of net leg ≡ Some far → times_of net leg.track path.kind ≡ Some times
-      → (slice_index reach.from_origin.items far.0 ≤ slice_index reach.from_origin.items near.0 + minutes_by a b times)
-      × (slice_index reach.to_destination.items near.0 ≤ slice_index reach.to_destination.items far.0 + minutes_by a b times)
+      → (slice_index (from_origin reach) far.0 ≤ slice_index (from_origin reach) near.0 + minutes_by a b times)
+      × (slice_index (to_destination reach) near.0 ≤ slice_index (to_destination reach) far.0 + minutes_by a b times)
   ahead leg near far times a b e f g =
       let t = track_there net.tracks leg.track.0 near e in
       let h = head_is net.tracks leg.track.0 far t.0 t.1 f in
       let l = slice_get_within net.tracks leg.track.0 t.0 t.1 in
-      let from = is.from.each leg.track.0 l t.0 times a b t.1 g in
-      let on = is.on.each leg.track.0 l t.0 times a b t.1 g in
-      let p = ap (λ (s : StationId). slice_index reach.from_origin.items s.0) t.2 in
-      let q = ap (λ (s : StationId). slice_index reach.from_origin.items s.0) h in
-      let u = ap (λ (s : StationId). slice_index reach.to_destination.items s.0) t.2 in
-      let v = ap (λ (s : StationId). slice_index reach.to_destination.items s.0) h in
+      let from = is.behind.each 0 (omega arith) leg.track.0 l t.0 times a b t.1 g in
+      let on = is.ahead.each 0 (omega arith) leg.track.0 l t.0 times a b t.1 g in
+      let p = ap (λ (s : StationId). slice_index (from_origin reach) s.0) t.2 in
+      let q = ap (λ (s : StationId). slice_index (from_origin reach) s.0) h in
+      let u = ap (λ (s : StationId). slice_index (to_destination reach) s.0) t.2 in
+      let v = ap (λ (s : StationId). slice_index (to_destination reach) s.0) h in
       (omega (arith, from, p, q), omega (arith, on, u, v))
 
   pub reached_start : (s : State) → s.station ≡ path.origin → path.depart.from ≤ s.minute → IsReached path reach s
-  reached_start s e l = let z = is.from.first in let p = ap (λ (x : StationId). slice_index reach.from_origin.items x.0) e in omega (arith, z, p, l)
+  reached_start s e l = let z = is.behind.first in let p = ap (λ (x : StationId). slice_index (from_origin reach) x.0) e in omega (arith, z, p, l)
 
   pub reached_after : (s after : State) (leg : Leg) → IsMove net path s leg → IsAfter net path s leg after → IsReached path reach s → IsReached path reach after
   reached_after s after leg move is_after h =
@@ -100,7 +100,7 @@ module _ (net : Net) (path : Path) (reach : Reach) (is : IsReach net path reach)
       let at = arrival_within (arrival_of net path.kind leg) path.arrive.from path.arrive.to fits.1.time in
       let t = ran net path.kind leg at.0 at.1 in
       let k = ahead leg s.station path.destination t.0 leg.from_halt (not (is_pass leg.action)) m.place fits.1.place t.1 in
-      let z = is.on.first in
+      let z = is.ahead.first in
       let d = m.time in
       let e = t.2 in
       let l = at.2 in
@@ -119,11 +119,11 @@ module _ (net : Net) (path : Path) (reach : Reach) (is : IsReach net path reach)
 
   -- a leg by a way on which no walk may end in time has no rest
   pub late_leg : (s : State) (way : Way) (leg : Leg) (legs : List Leg) → IsWay net path s way → leg.track ≡ way.track
-      → path.arrive.to < way.pass + slice_index reach.to_destination.items way.head.0 → path.arrive.to < way.halt + slice_index reach.to_destination.items way.head.0
+      → path.arrive.to < way.pass + slice_index (to_destination reach) way.head.0 → path.arrive.to < way.halt + slice_index (to_destination reach) way.head.0
       → IsRest net path s (leg ∷ legs) → ⊥
   late_leg s way leg legs w on pass halt (m, goes) = by goes
     where
-      arrives : (n : ℕ) → arrival_of net path.kind leg ≡ Some n → path.arrive.to < n + slice_index reach.to_destination.items way.head.0
+      arrives : (n : ℕ) → arrival_of net path.kind leg ≡ Some n → path.arrive.to < n + slice_index (to_destination reach) way.head.0
       arrives n e = by leg.action refl
         where
           same : (a : Action) → leg.action ≡ a → leg ≡ leg_by s way.track a
@@ -132,7 +132,7 @@ module _ (net : Net) (path : Path) (reach : Reach) (is : IsReach net path reach)
           halts : (a : Action) → is_pass a ≡ false → leg.action ≡ a → n ≡ way.halt
           halts a h f = some_same n way.halt (sym e ∙ ap (arrival_of net path.kind) (same a f) ∙ ap (λ b. option_map (λ (times : Times). s.minute + minutes_by s.halted (not b) times) (times_of net way.track path.kind)) h ∙ w.halt)
 
-          by : (a : Action) → leg.action ≡ a → path.arrive.to < n + slice_index reach.to_destination.items way.head.0
+          by : (a : Action) → leg.action ≡ a → path.arrive.to < n + slice_index (to_destination reach) way.head.0
           by Pass f = let k : n ≡ way.pass = some_same n way.pass (sym e ∙ ap (arrival_of net path.kind) (same Pass f) ∙ w.pass) in omega (arith, k, pass)
           by (Halt d) f = let k = halts (Halt d) refl f in omega (arith, k, halt)
           by (Wait d) f = let k = halts (Wait d) refl f in omega (arith, k, halt)
@@ -146,14 +146,14 @@ module _ (net : Net) (path : Path) (reach : Reach) (is : IsReach net path reach)
           let fits : FitsAction net path s.done leg Finish = subst (λ a. FitsAction net path s.done leg a) f.0 m.action in
           let at = arrival_within (arrival_of net path.kind leg) path.arrive.from path.arrive.to fits.1.time in
           let l = arrives at.0 at.1 in
-          let h = ap (λ (x : StationId). slice_index reach.to_destination.items x.0) (head path.destination fits.1.place) in
-          let z = is.on.first in
+          let h = ap (λ (x : StationId). slice_index (to_destination reach) x.0) (head path.destination fits.1.place) in
+          let z = is.ahead.first in
           let k = at.2 in
           omega (arith, l, h, z, k)
       by (inr f) =
           let i = rest_in_time f.0 legs f.2 in
           let at = arrived net path.kind leg f.0.minute f.1.time in
           let l = arrives at.0 at.1 in
-          let h = ap (λ (x : StationId). slice_index reach.to_destination.items x.0) (head f.0.station f.1.place) in
+          let h = ap (λ (x : StationId). slice_index (to_destination reach) x.0) (head f.0.station f.1.place) in
           let k = at.2 in
           omega (arith, i, l, h, k)

@@ -1,6 +1,7 @@
 -- The greatest bound of the leaves with prices.
-use Rattle.std.specs.Prelude.{◌≡◌, List, Option, None, Some, IsSomeAnd, All, Contains, ⊤}
+use Rattle.std.specs.Prelude.{◌≡◌, List, length, Option, None, Some, IsSomeAnd, All, Contains, ⊤}
 use Rattle.std.specs.Prelude.{ℤ}
+use Rattle.std.specs.declared.cmp.Ordering.{Ordering}
 use Rattle.optra_network.specs.Net.{Net}
 use Rattle.optra_bid.specs.declared.bids.Bid.{Bid}
 use Rattle.optra_walk.specs.Families.{Rows}
@@ -8,7 +9,11 @@ use Rattle.optra_node.specs.declared.Decision.{Decision}
 use Rattle.optra_node.specs.declared.Item.{Item}
 use Rattle.optra_node.specs.declared.Item.TheVariants.{Split, NoWalk, Forced, Priced}
 use Rattle.optra_node.specs.Duals.{PriceList}
-use Rattle.optra_node.specs.Certificates.{IsBoundOf, IsWithin}
+use Rattle.optra_node.specs.Trees.{IsTree, places}
+use Rattle.optra_node.specs.Certificates.{IsBoundOf, IsWithin, IsFormedItem, SplitsUndecided, HasPrices}
+use Rattle.optra_checker.specs.declared.frees.Free.{Free}
+use Rattle.optra_checker.specs.Frees.{AreFree}
+use Rattle.optra_checker.specs.Watches.{AreTreeWatches}
 
 -- the item has no prices
 abbrev pub IsUnpriced : {R : Type 0} → Item R → Type 0
@@ -30,3 +35,16 @@ IsGreatestOf net rows bids placed None = All (λ p. IsUnpriced p.1) placed
 IsGreatestOf {R} net rows bids placed (Some bound) =
     All (λ p. IsWithin net rows bids bound p.0 p.1) placed
     × ((node : List Decision) × (prices : PriceList R) × Contains placed (node, Priced prices) × IsBoundOf net rows bids node prices bound)
+
+-- a tree whose leaves may be bounded: it is whole, its items are formed, its splits are of legs that are not decided yet, and
+-- its prices are of rows
+pub record IsSoundTree {R : Type 0} (cmp : R → R → Ordering) (net : Net) (rows : Rows R) (bids : List Bid) (tree : List (Item R)) : Type 0 where
+  pub whole : IsTree tree
+  pub items : All (IsFormedItem cmp net (length bids)) tree
+  pub splits : All (λ p. SplitsUndecided p.0 p.1) (places tree)
+  pub prices : All (HasPrices rows) tree
+
+-- the best walks of the bids, and the rows that are watched for them in the tree
+pub record AreKnown {R : Type 0} (net : Net) (rows : Rows R) (bids : List Bid) (tree : List (Item R)) (frees : List Free) (watches : List (Option (List R))) : Type 0 where
+  pub best : AreFree net bids frees
+  pub watched : AreTreeWatches rows bids tree frees watches

@@ -49,33 +49,41 @@ pub record SkipsFar (path : Path) (from on skips : List ℕ) : Type 0 where
   pub len : length skips ≡ length from + 1
   pub each : (count : ℕ) → count ≤ length from → IsWithoutFar path from on count (slice_index skips count)
 
--- no more minutes from each station on to the destination than trains take by way of the stops that are left, for each number of
--- stops left up to one: they go to the first of these, halt there, and go on by way of the others
-pub record AreAhead (net : Net) (path : Path) (levels : List (List ℕ)) (most : ℕ) : Type 0 where
-  pub count : length levels ≡ most + 1
-  pub len : (left : ℕ) → left ≤ most → length (slice_index_or levels left []) ≡ length net.stations
-  pub each : (left : ℕ) → left ≤ most → (n : ℕ) → n < length net.tracks → IsLeastAlong net path.kind true (slice_index_or levels left []) (track_id n)
-  pub end : slice_index (slice_index_or levels 0 []) path.destination.0 ≤ 0
-  pub halt : (done left : ℕ) (stop : Stop) → slice_get path.stops done ≡ Some stop → done + (left + 1) ≡ length path.stops → left + 1 ≤ most
-      → slice_index (slice_index_or levels (left + 1) []) stop.station.0 ≤ stop.min_dwell + slice_index (slice_index_or levels left []) stop.station.0
+-- the end of a walk from which minutes are counted, and the place of the stop behind so many: going back both are counted from
+-- the destination
+abbrev pub first_of : Bool → Path → StationId
+first_of back path = if back then path.destination else path.origin
 
+abbrev pub place_after : Bool → ℕ → ℕ → ℕ
+place_after back count passed = if back then count - 1 - passed else passed
+
+-- for each number of stops up to one, no more minutes between an end of a walk and each station than trains take by way of so many
+-- stops next to that end: they go from the end by way of the others to the last of these, halt there, and go on; or all of it
+-- back
+pub record AreLevels (net : Net) (path : Path) (back : Bool) (levels : List (List ℕ)) (most : ℕ) : Type 0 where
+  pub count : length levels ≡ most + 1
+  pub len : (passed : ℕ) → passed ≤ most → length (slice_index_or levels passed []) ≡ length net.stations
+  pub each : (passed : ℕ) → passed ≤ most → (n : ℕ) → n < length net.tracks
+      → IsLeastAlong net path.kind back (slice_index_or levels passed []) (track_id n)
+  pub first : slice_index (slice_index_or levels 0 []) (first_of back path).0 ≤ 0
+  pub halt : (passed : ℕ) (stop : Stop) → slice_get path.stops (place_after back (length path.stops) passed) ≡ Some stop → passed + 1 ≤ most
+      → slice_index (slice_index_or levels (passed + 1) []) stop.station.0
+      ≤ stop.min_dwell + slice_index (slice_index_or levels passed []) stop.station.0
+
+-- the minutes from each station on to the destination, by the number of stops that are left
 abbrev pub levels_of : Reach → List (List ℕ)
 levels_of reach = map (λ level. level.items) reach.ahead.items
 
--- no more minutes from the origin to each station than trains take by way of the stops that are done, for each number of stops
--- done up to one: they go to the last of these by way of the others, halt there, and go on
-pub record AreBehind (net : Net) (path : Path) (levels : List (List ℕ)) (most : ℕ) : Type 0 where
-  pub count : length levels ≡ most + 1
-  pub len : (done : ℕ) → done ≤ most → length (slice_index_or levels done []) ≡ length net.stations
-  pub each : (done : ℕ) → done ≤ most → (n : ℕ) → n < length net.tracks
-      → IsLeastAlong net path.kind false (slice_index_or levels done []) (track_id n)
-  pub start : slice_index (slice_index_or levels 0 []) path.origin.0 ≤ 0
-  pub halt : (done : ℕ) (stop : Stop) → slice_get path.stops done ≡ Some stop → done + 1 ≤ most
-      → slice_index (slice_index_or levels (done + 1) []) stop.station.0
-      ≤ stop.min_dwell + slice_index (slice_index_or levels done []) stop.station.0
-
+-- the minutes from the origin to each station, by the number of stops that are done
 abbrev pub behind_of : Reach → List (List ℕ)
 behind_of reach = map (λ level. level.items) reach.behind.items
+
+-- the minutes from the origin to each station, and from there on to the destination, by way of no stop
+abbrev pub from_origin : Reach → List ℕ
+from_origin reach = slice_index_or (behind_of reach) 0 []
+
+abbrev pub to_destination : Reach → List ℕ
+to_destination reach = slice_index_or (levels_of reach) 0 []
 
 -- there was time for a walk to come to the state by way of the stops that it has done
 abbrev pub WasTime : Path → Reach → State → Type 0
@@ -88,16 +96,14 @@ IsAhead path reach s = s.minute + slice_index (slice_index_or (levels_of reach) 
 
 -- from the origin of the path, and on to its destination; and which stations are far
 pub record IsReach (net : Net) (path : Path) (reach : Reach) : Type 0 where
-  pub from : AreLeast net path.kind false path.origin 0 reach.from_origin.items
-  pub on : AreLeast net path.kind true path.destination 0 reach.to_destination.items
-  pub far : SkipsFar path reach.from_origin.items reach.to_destination.items reach.skips.items
-  pub ahead : AreAhead net path (levels_of reach) (length path.stops)
-  pub behind : AreBehind net path (behind_of reach) (length path.stops)
+  pub far : SkipsFar path (from_origin reach) (to_destination reach) reach.skips.items
+  pub ahead : AreLevels net path true (levels_of reach) (length path.stops)
+  pub behind : AreLevels net path false (behind_of reach) (length path.stops)
 
 -- a train may be there by then
 abbrev pub IsReached : Path → Reach → State → Type 0
-IsReached path reach s = path.depart.from + slice_index reach.from_origin.items s.station.0 ≤ s.minute
+IsReached path reach s = path.depart.from + slice_index (from_origin reach) s.station.0 ≤ s.minute
 
 -- and it may still end its walk in time
 abbrev pub IsInTime : Path → Reach → State → Type 0
-IsInTime path reach s = s.minute + slice_index reach.to_destination.items s.station.0 ≤ path.arrive.to
+IsInTime path reach s = s.minute + slice_index (to_destination reach) s.station.0 ≤ path.arrive.to

@@ -7,7 +7,7 @@ use Rattle.optra_walk.specs.declared.Leg.{Leg}
 use Rattle.optra_checker.specs.Weights.{Weights}
 use Rattle.optra_checker.specs.Places.{IsPlaced, IsSmall, place_of, places_of}
 use Rattle.optra_checker.specs.Settings.{IsSetting}
-use Rattle.optra_checker.specs.Reaches.{IsReach, IsReached, WasTime}
+use Rattle.optra_checker.specs.Reaches.{from_origin, to_destination, IsReach, IsReached, WasTime}
 use Rattle.optra_checker.specs.Rests.{IsBestRest, IsMove, IsAfter, AnyLeg}
 use Rattle.optra_checker.specs.declared.states.State.{State}
 use Rattle.optra_checker.specs.declared.rest_table.RestTable.{RestTable}
@@ -16,8 +16,8 @@ use Rattle.optra_checker.specs.declared.rest_table.RestTable.{RestTable}
 pub record IsTable (table : RestTable) : Type 0 where
   pub small : IsSmall table.layout
   pub len : places_of table.layout ≤ length table.rests.items
-  pub from : length table.reach.from_origin.items ≡ table.layout.stations
-  pub on : length table.reach.to_destination.items ≡ table.layout.stations
+  pub from : length (from_origin table.reach) ≡ table.layout.stations
+  pub on : length (to_destination table.reach) ≡ table.layout.stations
 
 -- the rest that a number stands for; none for one above zero
 abbrev pub rest_in : ℤ → Option ℤ
@@ -39,7 +39,7 @@ end_of table = table.layout.first + table.layout.minutes
 
 -- whether the table has minutes for the state, and a walk may still end in time from there
 abbrev pub is_early : RestTable → State → Bool
-is_early table s = nat_lt s.minute (end_of table) && nat_le (s.minute + slice_index table.reach.to_destination.items s.station.0) (end_of table)
+is_early table s = nat_lt s.minute (end_of table) && nat_le (s.minute + slice_index (to_destination table.reach) s.station.0) (end_of table)
 
 -- what the table has for the state; nothing where it is too late
 abbrev pub rest_at : RestTable → State → Option ℤ

@@ -1,12 +1,12 @@
 //! Whether the stated bound is the greatest bound of the leaves with prices.
-ghost use Rattle.std.specs.Prelude.{◌≡◌, ◌↔◌, [], All, IsTrue, IfOk, Some, length, map, option_map};
+ghost use Rattle.std.specs.Prelude.{◌≡◌, ◌↔◌, [], IsTrue, IfOk, Some, length, map, option_map};
 ghost use Rattle.optra_bid.specs.Instances.{IsInstance};
-ghost use Rattle.optra_node.specs.Trees.{IsTree, places};
-ghost use Rattle.optra_node.specs.Certificates.{IsFormedItem, SplitsUndecided, HasPrices, IsGreatestBound};
+ghost use Rattle.optra_node.specs.Trees.{places};
+ghost use Rattle.optra_node.specs.Certificates.{IsFormedItem, HasPrices, IsGreatestBound};
 ghost use Rattle.optra_node.specs.Nodes.{yes_load};
 ghost use Rattle.optra_checker.specs.Frees.{AreFree};
-ghost use Rattle.optra_checker.specs.Watches.{AreWatches, AreTreeWatches};
-ghost use Rattle.optra_checker.specs.Bounds.{IsItemBound, IsGreatestOf};
+ghost use Rattle.optra_checker.specs.Watches.{AreWatches};
+ghost use Rattle.optra_checker.specs.Bounds.{AreKnown, IsItemBound, IsGreatestOf, IsSoundTree};
 ghost use Rattle.optra_checker.specs.Opens.{IsRoom};
 
 use crate::frees::{Free, find_frees};
@@ -70,19 +70,16 @@ fn greatest_from<F: RowFamily>(
     inst: Instance<'_>,
     rows: &F,
     tree: &[Item<F::Row>],
-    known: Known<'_, F::Row>,
+    known: &Known<'_, F::Row>,
     table: &mut RestTable,
 ) -> Result<Option<i128>, NoMemory>
     requires room { IsRoom F.Row.cmp inst.net.now (F.rows_of rows.now inst.net.now) inst.bids.now
         room.old }
     requires root { room.old.decisions.items ≡ [] }
-    requires whole { IsTree tree.now }
-    requires items { All (IsFormedItem F.Row.cmp inst.net.now (length inst.bids.now)) tree.now }
-    requires splits { All (λ p. SplitsUndecided p.0 p.1) (places tree.now) }
-    requires prices { All (HasPrices (F.rows_of rows.now inst.net.now)) tree.now }
-    requires frees { AreFree inst.net.now inst.bids.now known.frees.now }
-    requires watches { AreTreeWatches (F.rows_of rows.now inst.net.now) inst.bids.now tree.now
-        known.frees.now (map (option_map (λ w. w.items)) known.watches.now) }
+    requires tree { IsSoundTree F.Row.cmp inst.net.now (F.rows_of rows.now inst.net.now)
+        inst.bids.now tree.now }
+    requires known { AreKnown inst.net.now (F.rows_of rows.now inst.net.now) inst.bids.now tree.now
+        known.now.frees.now (map (option_map (λ w. w.items)) known.now.watches.now) }
     ensures { IfOk result (IsGreatestOf inst.entry.net.now (F.rows_of rows.now inst.entry.net.now)
         inst.entry.bids.now (places tree.now)) }
 {
@@ -102,16 +99,13 @@ fn greatest_over<F: RowFamily>(
     inst: Instance<'_>,
     rows: &F,
     tree: &[Item<F::Row>],
-    known: Known<'_, F::Row>,
+    known: &Known<'_, F::Row>,
     table: &mut RestTable,
 ) -> Result<Option<i128>, NoMemory>
-    requires whole { IsTree tree.now }
-    requires items { All (IsFormedItem F.Row.cmp inst.net.now (length inst.bids.now)) tree.now }
-    requires splits { All (λ p. SplitsUndecided p.0 p.1) (places tree.now) }
-    requires prices { All (HasPrices (F.rows_of rows.now inst.net.now)) tree.now }
-    requires frees { AreFree inst.net.now inst.bids.now known.frees.now }
-    requires watches { AreTreeWatches (F.rows_of rows.now inst.net.now) inst.bids.now tree.now
-        known.frees.now (map (option_map (λ w. w.items)) known.watches.now) }
+    requires tree { IsSoundTree F.Row.cmp inst.net.now (F.rows_of rows.now inst.net.now)
+        inst.bids.now tree.now }
+    requires known { AreKnown inst.net.now (F.rows_of rows.now inst.net.now) inst.bids.now tree.now
+        known.now.frees.now (map (option_map (λ w. w.items)) known.now.watches.now) }
     ensures { IfOk result (IsGreatestOf inst.entry.net.now (F.rows_of rows.now inst.entry.net.now)
         inst.entry.bids.now (places tree.now)) }
 {
@@ -130,10 +124,8 @@ fn greatest_by<F: RowFamily>(
     frees: &[Free],
     table: &mut RestTable,
 ) -> Result<Option<i128>, NoMemory>
-    requires whole { IsTree tree.now }
-    requires items { All (IsFormedItem F.Row.cmp inst.net.now (length inst.bids.now)) tree.now }
-    requires splits { All (λ p. SplitsUndecided p.0 p.1) (places tree.now) }
-    requires prices { All (HasPrices (F.rows_of rows.now inst.net.now)) tree.now }
+    requires tree { IsSoundTree F.Row.cmp inst.net.now (F.rows_of rows.now inst.net.now)
+        inst.bids.now tree.now }
     requires frees { AreFree inst.net.now inst.bids.now frees.now }
     ensures { IfOk result (IsGreatestOf inst.entry.net.now (F.rows_of rows.now inst.entry.net.now)
         inst.entry.bids.now (places tree.now)) }
@@ -143,7 +135,7 @@ fn greatest_by<F: RowFamily>(
         frees,
         watches: &watches,
     };
-    let greatest = greatest_over(alloc, inst, rows, tree, known, table);
+    let greatest = greatest_over(alloc, inst, rows, tree, &known, table);
     drop(watches);
     greatest
 }
@@ -157,10 +149,8 @@ fn greatest_bound<F: RowFamily>(
     tree: &[Item<F::Row>],
     table: &mut RestTable,
 ) -> Result<Option<i128>, NoMemory>
-    requires whole { IsTree tree.now }
-    requires items { All (IsFormedItem F.Row.cmp inst.net.now (length inst.bids.now)) tree.now }
-    requires splits { All (λ p. SplitsUndecided p.0 p.1) (places tree.now) }
-    requires prices { All (HasPrices (F.rows_of rows.now inst.net.now)) tree.now }
+    requires { IsSoundTree F.Row.cmp inst.net.now (F.rows_of rows.now inst.net.now)
+        inst.bids.now tree.now }
     ensures { IfOk result (IsGreatestOf inst.entry.net.now (F.rows_of rows.now inst.entry.net.now)
         inst.entry.bids.now (places tree.now)) }
 {
@@ -190,10 +180,8 @@ pub(crate) fn bound_holds<F: RowFamily>(
     stated: Cents,
     table: &mut RestTable,
 ) -> Result<bool, NoMemory>
-    requires whole { IsTree tree.now }
-    requires items { All (IsFormedItem F.Row.cmp inst.net.now (length inst.bids.now)) tree.now }
-    requires splits { All (λ p. SplitsUndecided p.0 p.1) (places tree.now) }
-    requires prices { All (HasPrices (F.rows_of rows.now inst.net.now)) tree.now }
+    requires { IsSoundTree F.Row.cmp inst.net.now (F.rows_of rows.now inst.net.now)
+        inst.bids.now tree.now }
     ensures { IfOk result (λ holds. IsTrue holds ↔ IsGreatestBound inst.entry.net.now (F.rows_of
         rows.now inst.entry.net.now) inst.entry.bids.now tree.now stated) }
 {

@@ -1,14 +1,13 @@
 //! The decisions of a node, for look-ups: all decisions and the yes decisions of each bid, and all
 //! decisions in buckets by bid, track and minute. A look-up reads one list of each, however many decisions there
 //! are.
-ghost use Rattle.std.specs.Prelude.{◌≡◌, ℕ, ◌<◌, ◌++◌, ◌∷◌, ◌↔◌, [], List, OnOk, IfOk, IsTrue, map, length, vec_len, true};
+ghost use Rattle.std.specs.Prelude.{◌≡◌, ℕ, ◌<◌, ◌++◌, ◌∷◌, ◌↔◌, [], List, OnOk, IfOk, IsTrue, map, length, replicate, vec_len, true};
 ghost use Rattle.optra_node.specs.declared.Decision.{Decision};
 ghost use Rattle.optra_node.specs.Nodes.{IsUndecided};
 ghost use Rattle.optra_node.specs.Spans.{IsLetBy};
 ghost use Rattle.optra_node.specs.Summaries.{decisions_for};
 ghost use Rattle.optra_checker.specs.Keyed.{AreKeyed, bucket_of, bucket_in, yes_part};
 
-use crate::own_lists::empty_lists;
 use optra_network::{Network, NoMemory, TypeId};
 use optra_node::{Decision, is_undecided, let_by};
 use optra_walk::Leg;
@@ -30,6 +29,17 @@ fn bucket_of(bid: u32, leg: Leg) -> usize
 {
     let (bid, track, depart) = (bid as usize, leg.track.0 as usize, leg.depart as usize);
     (bid * BID_STEP + track * TRACK_STEP + depart) % BUCKETS
+}
+
+/// So many empty lists.
+fn empty_lists(alloc: Global, count: usize) -> Result<Vec<Vec<Decision>>, NoMemory>
+    ensures { IfOk result (λ lists. map (λ list. list.items) lists.items ≡ replicate count []) }
+{
+    let mut lists = Vec::new(alloc);
+    'lists: for _ in 0..count {
+        lists.push(Vec::new(alloc))?;
+    }
+    Ok(lists)
 }
 
 /// Puts a decision behind those of a list.

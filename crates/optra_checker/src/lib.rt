@@ -28,7 +28,6 @@ mod leaves;
 mod loaded;
 mod node_room;
 mod open_node;
-mod own_lists;
 mod pricing;
 mod reach;
 mod rest_table;

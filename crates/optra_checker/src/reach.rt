@@ -1,11 +1,12 @@
 //! Which states may come into a walk, by the minutes that trains take at least between stations.
-ghost use Rattle.std.specs.Prelude.{◌≡◌, ◌+◌, ◌≤◌, ◌<◌, ◌↔◌, ◌∷◌, length, map, sum, ℕ, false, true, Some, slice_get, slice_index, slice_index_or, [], IfOk, IsTrue};
+ghost use Rattle.std.specs.Prelude.{◌≡◌, ◌+◌, ◌≤◌, ◌<◌, ◌↔◌, length, map, sum, ℕ, false, true, Some, slice_get, slice_index, slice_index_or, [], IfOk, IsTrue};
 ghost use Rattle.optra_network.specs.Net.{IsStation, track_id};
 ghost use Rattle.std.specs.Option.{option_map};
 ghost use Rattle.optra_bid.specs.Specs.{IsPathOn};
-ghost use Rattle.optra_checker.specs.Reaches.{near_of, far_of, IsQuickest, IsLeastAlong, AreLeast, IsNear, IsWithoutFar, SkipsFar, AreAhead, levels_of, IsAhead, AreBehind, behind_of, WasTime, IsReach, IsReached, IsInTime};
+ghost use Rattle.optra_checker.specs.Reaches.{near_of, far_of, IsQuickest, IsLeastAlong, AreLeast, IsNear, IsWithoutFar, SkipsFar, first_of, place_after, AreLevels, levels_of, behind_of, from_origin, to_destination, IsAhead, WasTime, IsReach, IsReached, IsInTime};
 
 use crate::states::State;
+use crate::ways::kind_of;
 use optra_bid::{Bid, Stop};
 use optra_network::{Network, NoMemory, StationId, TrackId, TypeId};
 use std::alloc::Global;
@@ -14,8 +15,6 @@ use std::alloc::Global;
 /// to its destination.
 #[derive(Drop)]
 pub(crate) struct Reach {
-    pub from_origin: Vec<u16>,
-    pub to_destination: Vec<u16>,
     /// For each number of first stations, how many they are without the last ones to which no train
     /// of the bid comes.
     pub skips: Vec<u16>,
@@ -193,89 +192,67 @@ fn skip_far(
     Ok(skips)
 }
 
-/// A list of one level.
-fn one_level(alloc: Global, level: &[u16]) -> Result<Vec<Vec<u16>>, NoMemory>
-    ensures { IfOk result (λ levels. map (λ level. level.items) levels.items ≡ level.now ∷ []) }
+/// The end of the bid's walks from which minutes are counted: its destination going back, else its
+/// origin.
+fn first_end(net: &Network, bid: &Bid, back: bool) -> StationId
+    requires { IsPathOn net.now bid.now.path }
+    ensures first { result ≡ first_of back bid.now.path }
+    ensures there { IsStation net.now result }
 {
-    let first = level.to_vec(alloc)?;
-    let mut levels = Vec::new(alloc);
-    levels.push(first)?;
-    Ok(levels)
-}
-
-/// For each number of stops left, the least minutes from each station on to the destination by way
-/// of them.
-fn find_ahead(
-    alloc: Global,
-    net: &Network,
-    bid: &Bid,
-    to_destination: &[u16],
-) -> Result<Vec<Vec<u16>>, NoMemory>
-    requires path { IsPathOn net.now bid.now.path }
-    requires last { AreLeast net.now bid.now.path.kind true bid.now.path.destination 0
-        to_destination.now }
-    ensures { IfOk result (λ levels. AreAhead net.now bid.now.path (map (λ level. level.items)
-        levels.items) (length bid.now.path.stops)) }
-{
+    let _ = net;
     let path = &bid.path;
-    let most = too_long(bid);
-    let mut levels = one_level(alloc, to_destination)?;
-    let count = path.stops.len();
-    'stops: for left in 0..count {
-        let stop = path.stops[count - 1 - left];
-        let start = start_at(level_of(&levels, left), stop);
-        let level = least_minutes(alloc, net, path.kind, true, stop.station, start, most)?;
-        levels.push(level)?;
-    }
-    Ok(levels)
+    if back { path.destination } else { path.origin }
 }
 
-/// For each number of stops done, the least minutes from the origin to each station by way of them.
-fn find_behind(
-    alloc: Global,
-    net: &Network,
-    bid: &Bid,
-    from_origin: &[u16],
-) -> Result<Vec<Vec<u16>>, NoMemory>
+/// The stop behind so many, as counted from that end.
+fn stop_after(net: &Network, bid: &Bid, back: bool, passed: usize) -> Stop
     requires path { IsPathOn net.now bid.now.path }
-    requires first { AreLeast net.now bid.now.path.kind false bid.now.path.origin 0
-        from_origin.now }
-    ensures { IfOk result (λ levels. AreBehind net.now bid.now.path (map (λ level. level.items)
-        levels.items) (length bid.now.path.stops)) }
+    requires within { passed < length bid.now.path.stops }
+    ensures stop { slice_get bid.now.path.stops
+        (place_after back (length bid.now.path.stops) passed) ≡ Some result }
+    ensures there { IsStation net.now result.station }
 {
-    let path = &bid.path;
-    let most = too_long(bid);
-    let mut levels = one_level(alloc, from_origin)?;
-    let count = path.stops.len();
-    'stops: for done in 0..count {
-        let stop = path.stops[done];
-        let start = start_at(level_of(&levels, done), stop);
-        let level = least_minutes(alloc, net, path.kind, false, stop.station, start, most)?;
-        levels.push(level)?;
-    }
-    Ok(levels)
+    let _ = net;
+    let stops = stops_of(bid);
+    let place = if back {
+        stops.len() - 1 - passed
+    } else {
+        passed
+    };
+    stops[place]
 }
 
-/// The levels for the stops left, and those for the stops done.
+/// The stops of a bid.
+fn stops_of(bid: &Bid) -> &[Stop]
+    ensures { result.now ≡ bid.now.path.stops }
+{
+    &bid.path.stops
+}
+
+/// For each number of stops, the least minutes from the origin to each station by way of so many
+/// first ones; going back, from each station on to the destination by way of so many last ones.
 fn find_levels(
     alloc: Global,
     net: &Network,
     bid: &Bid,
-    from_origin: &[u16],
-    to_destination: &[u16],
-) -> Result<(Vec<Vec<u16>>, Vec<Vec<u16>>), NoMemory>
-    requires path { IsPathOn net.now bid.now.path }
-    requires from { AreLeast net.now bid.now.path.kind false bid.now.path.origin 0 from_origin.now }
-    requires on { AreLeast net.now bid.now.path.kind true bid.now.path.destination 0
-        to_destination.now }
-    ensures ahead { IfOk result (λ levels. AreAhead net.now bid.now.path (map (λ level. level.items)
-        levels.0.items) (length bid.now.path.stops)) }
-    ensures behind { IfOk result (λ levels. AreBehind net.now bid.now.path (map (λ level.
-        level.items) levels.1.items) (length bid.now.path.stops)) }
+    back: bool,
+) -> Result<Vec<Vec<u16>>, NoMemory>
+    requires { IsPathOn net.now bid.now.path }
+    ensures { IfOk result (λ levels. AreLevels net.now bid.now.path back (map (λ level. level.items)
+        levels.items) (length bid.now.path.stops)) }
 {
-    let ahead = find_ahead(alloc, net, bid, to_destination)?;
-    let behind = find_behind(alloc, net, bid, from_origin)?;
-    Ok((ahead, behind))
+    let kind = kind_of(bid);
+    let most = too_long(bid);
+    let end = first_end(net, bid, back);
+    let mut levels = Vec::new(alloc);
+    levels.push(least_minutes(alloc, net, kind, back, end, 0, most)?)?;
+    'stops: for passed in 0..stops_of(bid).len() {
+        let stop = stop_after(net, bid, back, passed);
+        let start = minutes_by(&levels, passed, stop.station).saturating_add(stop.min_dwell);
+        let level = least_minutes(alloc, net, kind, back, stop.station, start, most)?;
+        levels.push(level)?;
+    }
+    Ok(levels)
 }
 
 /// The minutes for so many stops.
@@ -286,12 +263,14 @@ fn level_of(levels: &[Vec<u16>], count: usize) -> &[u16]
     &levels[count]
 }
 
-/// The least minutes with a halt at the stop, from its beginning on or up to its end.
-fn start_at(level: &[u16], stop: Stop) -> u16
-    requires { stop.station.0 < length level.now }
-    ensures { result ≤ stop.min_dwell + slice_index level.now stop.station.0 }
+/// The minutes of a station by way of so many stops.
+pub(crate) fn minutes_by(levels: &[Vec<u16>], count: usize, station: StationId) -> u16
+    requires { station.0
+        < length (slice_index_or (map (λ level. level.items) levels.now) count []) }
+    ensures { result ≡ slice_index (slice_index_or (map (λ level. level.items) levels.now) count [])
+        station.0 }
 {
-    level[stop.station.0 as usize].saturating_add(stop.min_dwell)
+    level_of(levels, count)[station.0 as usize]
 }
 
 /// The least minutes between the bid's ends and each station.
@@ -299,21 +278,16 @@ pub(crate) fn make_reach(alloc: Global, net: &Network, bid: &Bid) -> Result<Reac
     requires { IsPathOn net.now bid.now.path }
     ensures { IfOk result (IsReach net.now bid.now.path) }
 {
-    let path = &bid.path;
-    let most = too_long(bid);
-    let from_origin = least_minutes(alloc, net, path.kind, false, path.origin, 0, most)?;
-    let to_destination = least_minutes(alloc, net, path.kind, true, path.destination, 0, most)?;
+    let ahead = find_levels(alloc, net, bid, true)?;
+    let behind = find_levels(alloc, net, bid, false)?;
     let skips = skip_far(
         alloc,
         bid,
         net.station_count(),
-        &from_origin,
-        &to_destination,
+        level_of(&behind, 0),
+        level_of(&ahead, 0),
     )?;
-    let (ahead, behind) = find_levels(alloc, net, bid, &from_origin, &to_destination)?;
     Ok(Reach {
-        from_origin,
-        to_destination,
         skips,
         ahead,
         behind,
@@ -323,26 +297,25 @@ pub(crate) fn make_reach(alloc: Global, net: &Network, bid: &Bid) -> Result<Reac
 impl Reach {
     /// Whether a train of the bid may be in the state, and from there still end its walk in time.
     pub(crate) fn has(&self, bid: &Bid, state: State) -> bool
-        requires from { state.station.0 < length self.now.from_origin.items }
-        requires on { state.station.0 < length self.now.to_destination.items }
+        requires from { state.station.0 < length (from_origin self.now) }
+        requires on { state.station.0 < length (to_destination self.now) }
         ensures { IsTrue result ↔ (IsReached bid.now.path self.now state
             × IsInTime bid.now.path self.now state) }
     {
-        let station = state.station.0 as usize;
         let minute = u32::from(state.minute);
-        let from = u32::from(self.from_origin[station]);
-        let on = u32::from(self.to_destination[station]);
+        let from = u32::from(minutes_by(&self.behind, 0, state.station));
+        let on = u32::from(minutes_by(&self.ahead, 0, state.station));
         u32::from(bid.path.depart.from) + from <= minute
             && minute + on <= u32::from(bid.path.arrive.to)
     }
 
     /// How many of so many first stations are left without the last ones that are far.
     pub(crate) fn without_far(&self, bid: &Bid, count: u16) -> u16
-        requires far { SkipsFar bid.now.path self.now.from_origin.items
-            self.now.to_destination.items self.now.skips.items }
-        requires count { count ≤ length self.now.from_origin.items }
-        ensures { IsWithoutFar bid.now.path self.now.from_origin.items self.now.to_destination.items
-            count result }
+        requires far { SkipsFar bid.now.path (from_origin self.now) (to_destination self.now)
+            self.now.skips.items }
+        requires count { count ≤ length (from_origin self.now) }
+        ensures { IsWithoutFar bid.now.path (from_origin self.now) (to_destination self.now) count
+            result }
     {
         let _ = bid;
         self.skips[count as usize]
@@ -350,29 +323,29 @@ impl Reach {
 
     /// Whether a walk may still end in time from the state that has the stops left that it has.
     pub(crate) fn is_ahead(&self, net: &Network, bid: &Bid, state: State) -> bool
-        requires ahead { AreAhead net.now bid.now.path (levels_of self.now)
+        requires ahead { AreLevels net.now bid.now.path true (levels_of self.now)
             (length bid.now.path.stops) }
         requires done { state.done ≤ length bid.now.path.stops }
         requires station { state.station.0 < length net.now.stations }
         ensures { IsTrue result ↔ IsAhead bid.now.path self.now state }
     {
         let _ = net;
-        let level = level_of(&self.ahead, bid.path.stops.len() - state.done as usize);
-        let on = u32::from(level[state.station.0 as usize]);
+        let left = stops_of(bid).len() - state.done as usize;
+        let on = u32::from(minutes_by(&self.ahead, left, state.station));
         u32::from(state.minute) + on <= u32::from(bid.path.arrive.to)
     }
 
     /// Whether there was time for a walk to come to the state by way of the stops that it has done.
     pub(crate) fn was_time(&self, net: &Network, bid: &Bid, state: State) -> bool
-        requires behind { AreBehind net.now bid.now.path (behind_of self.now)
+        requires behind { AreLevels net.now bid.now.path false (behind_of self.now)
             (length bid.now.path.stops) }
         requires done { state.done ≤ length bid.now.path.stops }
         requires station { state.station.0 < length net.now.stations }
         ensures { IsTrue result ↔ WasTime bid.now.path self.now state }
     {
         let _ = net;
-        let level = level_of(&self.behind, state.done as usize);
-        let from = u32::from(level[state.station.0 as usize]);
+        let done = state.done as usize;
+        let from = u32::from(minutes_by(&self.behind, done, state.station));
         u32::from(bid.path.depart.from) + from <= u32::from(state.minute)
     }
 }

@@ -1,9 +1,10 @@
 //! The best rests of states, in one dense table.
 ghost use Rattle.std.specs.Prelude.{◌≡◌, ◌+◌, ◌<◌, ◌≤◌, length, IfOk, IsTrue, OnOk, true, slice_index, slice_set, IfSome, pos, ◌≤ℤ◌};
 ghost use Rattle.optra_checker.specs.Places.{IsPlaced, IsSmall, places_of};
+ghost use Rattle.optra_checker.specs.Reaches.{from_origin, to_destination};
 ghost use Rattle.optra_checker.specs.Tables.{IsTable, is_early, rest_at, rest_in, rests_of, end_of};
 
-use crate::reach::Reach;
+use crate::reach::{Reach, minutes_by};
 use crate::states::{Layout, State};
 use crate::ways::Way;
 use optra_network::NoMemory;
@@ -57,8 +58,6 @@ impl RestTable {
         RestTable {
             layout: NO_PLACE,
             reach: Reach {
-                from_origin: Vec::new(alloc),
-                to_destination: Vec::new(alloc),
                 skips: Vec::new(alloc),
                 ahead: Vec::new(alloc),
                 behind: Vec::new(alloc),
@@ -71,8 +70,8 @@ impl RestTable {
     /// its only refusal.
     pub(crate) fn turn_to(&mut self, layout: Layout, reach: Reach) -> Result<(), NoMemory>
         requires small { IsSmall layout }
-        requires from { length reach.from_origin.items ≡ layout.stations }
-        requires on { length reach.to_destination.items ≡ layout.stations }
+        requires from { length (from_origin reach) ≡ layout.stations }
+        requires on { length (to_destination reach) ≡ layout.stations }
         ensures table { OnOk result (IsTable self.new) }
         ensures laid_out { OnOk result (self.new.layout ≡ layout) }
         ensures reach { OnOk result (self.new.reach ≡ reach) }
@@ -104,7 +103,7 @@ impl RestTable {
         if minute >= self.end() {
             return false;
         }
-        let on = u32::from(self.reach.to_destination[state.station.0 as usize]);
+        let on = u32::from(minutes_by(&self.reach.ahead, 0, state.station));
         minute + on <= self.end()
     }
 
@@ -113,12 +112,12 @@ impl RestTable {
         requires table { IsTable self.now }
         requires head { way.head.0 < self.now.layout.stations }
         ensures pass { IsTrue result → end_of self.now < way.pass
-            + slice_index self.now.reach.to_destination.items way.head.0 }
+            + slice_index (to_destination self.now.reach) way.head.0 }
         ensures halt { IsTrue result → end_of self.now < way.halt
-            + slice_index self.now.reach.to_destination.items way.head.0 }
+            + slice_index (to_destination self.now.reach) way.head.0 }
     {
         let arrival = way.pass.min(way.halt);
-        let on = u32::from(self.reach.to_destination[way.head.0 as usize]);
+        let on = u32::from(minutes_by(&self.reach.ahead, 0, way.head));
         self.end() < u32::from(arrival) + on
     }
 
@@ -140,7 +139,7 @@ impl RestTable {
     pub(crate) fn peek(&self, state: State) -> Option<i128> {
         let layout = self.layout;
         let station = state.station.0 as usize;
-        let on = u32::from(self.reach.to_destination.get(station).copied()?);
+        let on = u32::from(self.reach.ahead.first()?.get(station).copied()?);
         let end = u32::from(layout.first).wrapping_add(u32::from(layout.minutes));
         if state.minute < layout.first || u32::from(state.minute).wrapping_add(on) > end {
             return None;

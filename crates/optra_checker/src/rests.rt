@@ -151,14 +151,14 @@ fn wait_rest<W: Weighing>(
 }
 
 /// The stop that comes after so many.
-fn next_stop(bid: &Bid, done: u16) -> Option<Stop>
+pub(crate) fn next_stop(bid: &Bid, done: u16) -> Option<Stop>
     ensures { result ≡ slice_get bid.now.path.stops done }
 {
     bid.path.stops.get(done as usize).copied()
 }
 
 /// Whether the train halts right for the stop when it arrives by the way.
-fn may_halt(stop: Stop, way: Way) -> bool
+pub(crate) fn may_halt(stop: Stop, way: Way) -> bool
     ensures { IsTrue result ↔ IsAtStop stop way }
 {
     stop.station == way.head && stop.arrive.from <= way.halt && way.halt <= stop.arrive.to

@@ -4,13 +4,13 @@
 //! walk and what it is worth.
 
 use crate::rest_table::RestTable;
-use crate::rests::may_finish;
+use crate::rests::{may_finish, may_halt, next_stop};
 use crate::shares::{end_price, start_value, wait_price};
 use crate::states::State;
 use crate::table::make_start;
 use crate::ways::{Way, kind_of};
 use optra_bid::Bid;
-use optra_network::{Minute, Network, NoMemory, TrackId};
+use optra_network::{Network, NoMemory, TrackId};
 use optra_walk::{Action, Leg};
 use std::alloc::Global;
 
@@ -26,16 +26,6 @@ struct Step {
     next: Option<State>,
 }
 
-/// The step by the way to a state behind it, where the table has a rest from there.
-fn step_by(way: Way, action: Action, next: State, table: &RestTable, share: i64) -> Option<Step> {
-    let rest = table.peek(next)?;
-    Some(Step {
-        worth: rest.wrapping_sub(i128::from(share)),
-        leg: way.leg(action),
-        next: Some(next),
-    })
-}
-
 /// The one that is worth more, the first where both are worth the same.
 fn better(best: Option<Step>, step: Option<Step>) -> Option<Step> {
     match (best, step) {
@@ -45,25 +35,35 @@ fn better(best: Option<Step>, step: Option<Step>) -> Option<Step> {
     }
 }
 
-/// The state behind the way of a train that passes at its end.
-fn passed(way: Way) -> State {
-    State {
+/// The step by the way with the action at its end; none where it goes on and the table has no rest from there.
+fn step_by(table: &RestTable, bid: &Bid, way: Way, action: Action) -> Option<Step> {
+    let leg = way.leg(action);
+    let done = way.from.done;
+    let (minute, done, share) = match action {
+        Action::Pass => (way.pass, done, 0),
+        Action::Halt(dwell) => (way.halt.saturating_add(dwell), done.saturating_add(1), 0),
+        Action::Wait(dwell) => (way.halt.saturating_add(dwell), done, wait_price(bid, dwell)),
+        Action::Finish => {
+            let worth = i128::from(end_price(bid, way.halt)).wrapping_neg();
+            return Some(Step {
+                worth,
+                leg,
+                next: None,
+            });
+        }
+    };
+    let next = State {
         station: way.head,
-        minute: way.pass,
-        halted: false,
-        done: way.from.done,
-    }
-}
-
-/// The state behind the way of a train that halted at its end for so many minutes, with so many
-/// stops done.
-fn halted(way: Way, dwell: u16, done: u16) -> State {
-    State {
-        station: way.head,
-        minute: way.halt.saturating_add(dwell),
-        halted: true,
+        minute,
+        halted: !matches!(action, Action::Pass),
         done,
-    }
+    };
+    let worth = table.peek(next)?.wrapping_sub(i128::from(share));
+    Some(Step {
+        worth,
+        leg,
+        next: Some(next),
+    })
 }
 
 /// The way by the track, where the train may use it.
@@ -85,55 +85,27 @@ fn find_road(net: &Network, bid: &Bid, from: State, track: TrackId) -> Option<Wa
 
 /// The best step that halts at the next stop.
 fn halts(table: &RestTable, bid: &Bid, way: Way) -> Option<Step> {
-    let stop = bid.path.stops.get(way.from.done as usize).copied()?;
-    if stop.station != way.head || way.halt < stop.arrive.from || stop.arrive.to < way.halt {
+    let stop = next_stop(bid, way.from.done)?;
+    if !may_halt(stop, way) {
         return None;
     }
-    let done = way.from.done.saturating_add(1);
     let mut best = None;
     'dwells: for dwell in stop.min_dwell..stop.max_dwell.saturating_add(1) {
-        let next = halted(way, dwell, done);
-        best = better(best, step_by(way, Action::Halt(dwell), next, table, 0));
+        best = better(best, step_by(table, bid, way, Action::Halt(dwell)));
     }
     best
 }
 
-/// The best step that waits.
-fn waits(table: &RestTable, bid: &Bid, way: Way) -> Option<Step> {
-    let mut best = None;
+/// The best step that waits, or passes, or ends the walk.
+fn goes(table: &RestTable, bid: &Bid, way: Way) -> Option<Step> {
+    let mut best = step_by(table, bid, way, Action::Pass);
     'dwells: for dwell in 1..bid.path.wait_max.saturating_add(1) {
-        let next = halted(way, dwell, way.from.done);
-        let share = wait_price(bid, dwell);
-        best = better(best, step_by(way, Action::Wait(dwell), next, table, share));
+        best = better(best, step_by(table, bid, way, Action::Wait(dwell)));
     }
-    best
-}
-
-/// The step that finishes, where it may.
-fn finish(bid: &Bid, way: Way) -> Option<Step> {
     if !may_finish(bid, way) {
-        return None;
+        return best;
     }
-    Some(Step {
-        worth: i128::from(end_price(bid, way.halt)).wrapping_neg(),
-        leg: way.leg(Action::Finish),
-        next: None,
-    })
-}
-
-/// The best step by the track.
-fn road_step(
-    net: &Network,
-    bid: &Bid,
-    table: &RestTable,
-    from: State,
-    track: TrackId,
-) -> Option<Step> {
-    let way = find_road(net, bid, from, track)?;
-    let pass = step_by(way, Action::Pass, passed(way), table, 0);
-    let halt = halts(table, bid, way);
-    let wait = waits(table, bid, way);
-    better(better(pass, halt), better(wait, finish(bid, way)))
+    better(best, step_by(table, bid, way, Action::Finish))
 }
 
 /// The best step from the state.
@@ -143,16 +115,11 @@ fn best_step(net: &Network, bid: &Bid, table: &RestTable, from: State) -> Option
     }
     let mut best = None;
     'tracks: for track in net.out_tracks(from.station) {
-        let step = road_step(net, bid, table, from, *track);
-        best = better(best, step);
+        if let Some(way) = find_road(net, bid, from, *track) {
+            best = better(best, better(goes(table, bid, way), halts(table, bid, way)));
+        }
     }
     best
-}
-
-/// The start and the rest from it on together.
-fn start_worth(bid: &Bid, table: &RestTable, minute: Minute) -> Option<i128> {
-    let rest = table.peek(make_start(bid, minute))?;
-    Some(rest.wrapping_add(i128::from(start_value(bid, minute))))
 }
 
 /// The state in which the first of the best walks starts; none where there is no walk.
@@ -161,9 +128,11 @@ fn best_begin(bid: &Bid, table: &RestTable) -> Option<State> {
     let mut begin = None;
     let mut most = 0;
     'minutes: for minute in window.from..window.to.saturating_add(1) {
-        if let Some(worth) = start_worth(bid, table, minute) {
+        let start = make_start(bid, minute);
+        if let Some(rest) = table.peek(start) {
+            let worth = rest.wrapping_add(i128::from(start_value(bid, minute)));
             if begin.is_none() || most < worth {
-                begin = Some(make_start(bid, minute));
+                begin = Some(start);
                 most = worth;
             }
         }

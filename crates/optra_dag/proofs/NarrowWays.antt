@@ -1,14 +1,14 @@
 -- The sums of the nodes, by the arcs from the last one to the first, and the first best way by them.
 use Rattle.std.proofs.Common.{◌≡◌, ℕ, zero, suc, ◌+◌, ◌-◌, ◌*◌, ◌<◌, ◌≤◌, ◌⊎◌, inl, inr, Bool, true, false, List, [], ◌∷◌, ◌++◌, append_assoc, append-nil, length, get_or, set, refl, sym, ap, ◌∙◌, subst, arith, ℤ, pos, negsuc, neg_ℤ, ◌+ℤ◌, ◌≤ℤ◌, ◌<ℤ◌, get_or-set_other, get_or-set_same, length-set, w64, FitsSigned}
 use Rattle.std.proofs.lemmas.Bool.{cases_lt, cases_eq}
+use Rattle.std.proofs.lemmas.List.{get_or_past}
 use Rattle.std.proofs.Math.Nat.{mul-le-mul_left, eq-or-lt_of_le}
 use Rattle.std.proofs.lemmas.Int.{ints}
 use Rattle.optra_dag.specs.Paths.{Graph, IsPath, IsFirstBest, LeadsToEnd, from_of, to_of, weight_of, ComesFirst}
 use Rattle.optra_dag.specs.WaySums.{open_graph, plain_graph, StartsFrom}
-use Rattle.optra_dag.specs.Spans.{no_span, StandsIn, IsSpan}
+use Rattle.optra_dag.specs.Spans.{StandsIn, IsSpan, span_of}
 use Rattle.optra_dag.specs.NarrowSums.{far, IsWithin, IsFar, value_of, arc_value, sum_by, CanBeSummed, IsBestOf, LeavesFrom, IsBestFrom, IsFirstBy, empty_sum, AreEmptySums, AreBestFrom, IsReached, IsUnreached, IsSummed, reach_of, IsFirstWay, IsNarrow, HasSums, IsOver}
 use Rattle.optra_dag.specs.declared.Arc.{Arc}
-use Rattle.optra_dag.specs.declared.spans.Span.{Span}
 use Rattle.optra_dag.proofs.Ways.{nil_first, less_first, same_first, way_of_path, path_of_way}
 
 -- ---- numbers
@@ -78,9 +78,21 @@ not_low r z l f h = omega (arith, ints, f.low)
 one_more : (most y z : ℕ) → 1 + y ≤ z → most + most * y ≤ most * z
 one_more most y z l = let p : most * (1 + y) ≤ most * z = mul-le-mul_left most l in omega arith
 
+-- a node that is no end is none either where the path from node 0 may not be empty
+pub stays_shut : (ends : List Bool) (n : ℕ) → get_or ends n false ≡ false → get_or (set ends 0 false) n false ≡ false
+stays_shut ends n shut = by (cases_eq n 0)
+  where
+    by : (n ≡ 0) ⊎ (n ≡ 0 → ⊥) → get_or (set ends 0 false) n false ≡ false
+    by (inr off) = get_or-set_other ends 0 n false false off ∙ shut
+    by (inl e) = subst (λ i. get_or (set ends 0 false) i false ≡ false) (sym e) (first (cases_lt 0 (length ends)))
+      where
+        first : (0 < length ends) ⊎ (length ends ≤ 0) → get_or (set ends 0 false) 0 false ≡ false
+        first (inl l) = get_or-set_same ends 0 false false l
+        first (inr l) = get_or_past (set ends 0 false) 0 false (let s = length-set ends 0 false in omega arith)
+
 -- ---- the sums
 
-module _ (arcs : List Arc) (ends : List Bool) (spans : List Span) (allows : ℕ → Bool) (weight : ℕ → ℤ) (most : ℕ) (narrow : IsNarrow arcs ends spans allows weight most) where
+module _ (arcs : List Arc) (ends : List Bool) (starts : List ℕ) (allows : ℕ → Bool) (weight : ℕ → ℤ) (most : ℕ) (narrow : IsNarrow arcs ends starts allows weight most) where
   abbrev opened : Graph
   opened = open_graph arcs ends
 
@@ -152,14 +164,14 @@ module _ (arcs : List Arc) (ends : List Bool) (spans : List Span) (allows : ℕ 
   head_summed : (sums : List ℤ) (from k : ℕ) → k < length arcs → from ≤ from_of opened k + 1 → HasSums arcs ends allows weight most sums from → Summed sums (to_of opened k)
   head_summed sums from k lk l h = let u = up k lk in let b = to_small k lk in let n = nodes in h (to_of opened k) (omega arith) (omega arith)
 
-  span_at : (n : ℕ) → n < length ends → IsSpan arcs n (get_or spans n no_span)
-  span_at n l = narrow.kept.each n l
+  span_at : (n : ℕ) → n < length ends → IsSpan arcs n (span_of starts (length arcs) n)
+  span_at n l = narrow.started.each n
 
-  own_arc : (n k : ℕ) → n < length ends → StandsIn (get_or spans n no_span) k → k < length arcs
-  own_arc n k l s = let w = (span_at n l).within in let b : k < (get_or spans n no_span).stop = s.1 in omega arith
+  own_arc : (n k : ℕ) → n < length ends → StandsIn (span_of starts (length arcs) n) k → k < length arcs
+  own_arc n k l s = let w = (span_at n l).within in let b : k < (span_of starts (length arcs) n).stop = s.1 in omega arith
 
   pub can_be_summed : (sums : List ℤ) (from n : ℕ) → length sums ≡ length ends → n < length ends → from ≤ n + 1 → HasSums arcs ends allows weight most sums from
-      → (k : ℕ) → StandsIn (get_or spans n no_span) k → CanBeSummed arcs value sums k
+      → (k : ℕ) → StandsIn (span_of starts (length arcs) n) k → CanBeSummed arcs value sums k
   can_be_summed sums from n ls l lf h k s =
       let lk = own_arc n k l s in
       let e : from_of opened k ≡ n = (span_at n l).own k s in
@@ -214,7 +226,7 @@ module _ (arcs : List Arc) (ends : List Bool) (spans : List Span) (allows : ℕ 
   -- ---- the best sum of one node
 
   module _ (sums : List ℤ) (n : ℕ) (inside : n < length ends) (done : HasSums arcs ends allows weight most sums (n + 1)) (best : ℤ)
-      (is_best : IsBestOf (by_arc sums) (empty_sum (get_or (set ends 0 false) n false)) (get_or spans n no_span) best) where
+      (is_best : IsBestOf (by_arc sums) (empty_sum (get_or (set ends 0 false) n false)) (span_of starts (length arcs) n) best) where
     abbrev is_end : Bool
     is_end = get_or (set ends 0 false) n false
 
@@ -261,7 +273,7 @@ module _ (arcs : List Arc) (ends : List Bool) (spans : List Span) (allows : ℕ 
     node_summed : IsUnreached opened allows (reach n) n best ⊎ IsReached opened allows weight (reach n) n best
     node_summed = by is_best.one
       where
-        by : (best ≡ empty_sum is_end) ⊎ ((k : ℕ) × StandsIn (get_or spans n no_span) k × (by_arc sums k ≡ best)) → IsUnreached opened allows (reach n) n best ⊎ IsReached opened allows weight (reach n) n best
+        by : (best ≡ empty_sum is_end) ⊎ ((k : ℕ) × StandsIn (span_of starts (length arcs) n) k × (by_arc sums k ≡ best)) → IsUnreached opened allows (reach n) n best ⊎ IsReached opened allows weight (reach n) n best
         by (inl t) = by_empty is_end refl t
         by (inr t) = let lk = own_arc n t.0 inside t.1 in let e : from_of opened t.0 ≡ n = (span_at n inside).own t.0 t.1 in
             by_one t.0 lk e t.2 (shut_or_open sums t.0 lk (head t.0 lk e))
@@ -283,7 +295,7 @@ module _ (arcs : List Arc) (ends : List Bool) (spans : List Span) (allows : ℕ 
 
   -- a node whose arcs are all done
   whole_best : (sums : List ℤ) (k n : ℕ) → n < length ends → ((j : ℕ) → j < length arcs → from_of opened j ≡ n → k ≤ j)
-      → IsBestFrom arcs (by_arc sums) (empty_at_node n) k n (sum_at sums n) → IsBestOf (by_arc sums) (empty_at_node n) (get_or spans n no_span) (sum_at sums n)
+      → IsBestFrom arcs (by_arc sums) (empty_at_node n) k n (sum_at sums n) → IsBestOf (by_arc sums) (empty_at_node n) (span_of starts (length arcs) n) (sum_at sums n)
   whole_best sums k n inside late h = record {
     empty_most = h.empty_most;
     most = λ j s. let lj = own_arc n j inside s in let e = (span_at n inside).own j s in h.most j (late j lj e, lj, e);
@@ -291,13 +303,13 @@ module _ (arcs : List Arc) (ends : List Bool) (spans : List Span) (allows : ℕ 
   }
     where
       by : (sum_at sums n ≡ empty_at_node n) ⊎ ((j : ℕ) × LeavesFrom arcs k n j × (by_arc sums j ≡ sum_at sums n))
-          → (sum_at sums n ≡ empty_at_node n) ⊎ ((j : ℕ) × StandsIn (get_or spans n no_span) j × (by_arc sums j ≡ sum_at sums n))
+          → (sum_at sums n ≡ empty_at_node n) ⊎ ((j : ℕ) × StandsIn (span_of starts (length arcs) n) j × (by_arc sums j ≡ sum_at sums n))
       by (inl e) = inl e
       by (inr t) = inr (t.0, (span_at n inside).whole t.0 t.1.1 t.1.2, t.2)
 
   -- one more node
   more_summed : (sums : List ℤ) (n : ℕ) (inside : n < length ends) → HasSums arcs ends allows weight most sums (n + 1)
-      → IsBestOf (by_arc sums) (empty_at_node n) (get_or spans n no_span) (sum_at sums n) → HasSums arcs ends allows weight most sums n
+      → IsBestOf (by_arc sums) (empty_at_node n) (span_of starts (length arcs) n) (sum_at sums n) → HasSums arcs ends allows weight most sums n
   more_summed sums n inside done best m lm bm = by (cases_eq m n)
     where
       by : (m ≡ n) ⊎ (m ≡ n → ⊥) → Summed sums m
@@ -401,6 +413,48 @@ module _ (arcs : List Arc) (ends : List Bool) (spans : List Span) (allows : ℕ 
             (subst (λ z. IsBestFrom arcs (by_arc after) (empty_at_node left) a left z) (sym (get_or-set_same sums left r (pos 0) (let l = left_inside in omega arith))) here)
         by (inr off) = subst (λ z. IsBestFrom arcs (by_arc after) (empty_at_node n) a n z) (sym (get_or-set_other sums left n r (pos 0) off)) (others n inside off)
 
+  -- ---- arcs of nodes that are no ends
+
+  -- the arcs from k on are done; the node of the first of them is known, where there is one
+  abbrev IsAtNode : ℕ → ℕ → Type 0
+  IsAtNode k node = (k ≡ length arcs) ⊎ (from_of opened k ≡ node)
+
+  -- before an arc, the sum of its node is that of the node at hand, or far below
+  pub sum_before : (sums : List ℤ) (k a node : ℕ) → a + 1 ≡ k → a < length arcs → AreBestFrom arcs ends value sums k → IsAtNode k node
+      → get_or ends (from_of opened a) false ≡ false → (from_of opened a ≡ node → ⊥) → sum_at sums (from_of opened a) ≡ far
+  sum_before sums k a node e la best at shut off = by (best (from_of opened a) inside).one
+    where
+      inside : from_of opened a < length ends
+      inside = let u = up a la in let b = to_small a la in omega arith
+
+      none : (j : ℕ) → LeavesFrom arcs k (from_of opened a) j → IsAtNode k node → ⊥
+      none j l (inl t) = let f : k ≤ j = l.0 in let m : j < length arcs = l.1 in omega arith
+      none j l (inr t) =
+          let m : j < length arcs = l.1 in
+          let own : from_of opened j ≡ from_of opened a = l.2 in
+          let low = narrow.forward.sorted a k (omega arith) (let f : k ≤ j = l.0 in omega arith) in
+          let high = narrow.forward.sorted k j l.0 m in
+          off (omega arith)
+
+      is_shut : get_or (set ends 0 false) (from_of opened a) false ≡ false
+      is_shut = stays_shut ends (from_of opened a) shut
+
+      by : (sum_at sums (from_of opened a) ≡ empty_at_node (from_of opened a)) ⊎ ((j : ℕ) × LeavesFrom arcs k (from_of opened a) j × (by_arc sums j ≡ sum_at sums (from_of opened a))) → sum_at sums (from_of opened a) ≡ far
+      by (inl t) = t ∙ ap empty_sum is_shut
+      by (inr t) = absurd (none t.0 t.1 at)
+
+  pub before_is : (sums : List ℤ) (k a node : ℕ) (best r : ℤ) → a + 1 ≡ k → a < length arcs → AreBestFrom arcs ends value sums k → IsAtNode k node
+      → get_or ends (from_of opened a) false ≡ false → best ≡ sum_at sums node → (from_of opened a ≡ node → r ≡ best) → ((from_of opened a ≡ node → ⊥) → r ≡ far)
+      → r ≡ sum_at sums (from_of opened a)
+  before_is sums k a node best r e la done at shut is same other = by (cases_eq (from_of opened a) node)
+    where
+      by : (from_of opened a ≡ node) ⊎ (from_of opened a ≡ node → ⊥) → r ≡ sum_at sums (from_of opened a)
+      by (inl t) = same t ∙ is ∙ ap (sum_at sums) (sym t)
+      by (inr off) = other off ∙ sym (sum_before sums k a node e la done at shut off)
+
+  pub from_inside : (a : ℕ) → a < length arcs → from_of opened a < length ends
+  from_inside a la = let u = up a la in let b = to_small a la in omega arith
+
   -- ---- the path by the sums
 
   -- a way of the greatest sum begins with an arc that gives it, and goes on with a way of the greatest sum
@@ -408,7 +462,7 @@ module _ (arcs : List Arc) (ends : List Bool) (spans : List Span) (allows : ℕ 
     begun_by : IsOpen sums k
     gives : by_arc sums k ≡ sum_at sums n
     rest : weight_of weight r ≡ sum_at sums (to_of opened k)
-    stands : StandsIn (get_or spans n no_span) k
+    stands : StandsIn (span_of starts (length arcs) n) k
 
   -- the sum by an open arc is the sum of a way, and so at most the node's
   by_at_most : (sums : List ℤ) (n k : ℕ) → k < length arcs → from_of opened k ≡ n → Reached sums n → IsOpen sums k → by_arc sums k ≤ℤ sum_at sums n
@@ -435,15 +489,15 @@ module _ (arcs : List Arc) (ends : List Bool) (spans : List Span) (allows : ℕ 
 
   -- where the path doesn't end, an arc of the node gives its sum
   pub some_gives : (sums : List ℤ) (n : ℕ) → n < length ends → HasSums arcs ends allows weight most sums 0 → Reached sums n → (Over sums n → ⊥)
-      → (k : ℕ) × StandsIn (get_or spans n no_span) k × (by_arc sums k ≡ sum_at sums n)
+      → (k : ℕ) × StandsIn (span_of starts (length arcs) n) k × (by_arc sums k ≡ sum_at sums n)
   some_gives sums n l done h on = by h.way.0 h.way.1 h.way.2
     where
-      by : (p : List ℕ) → LeadsToEnd opened allows n p → weight_of weight p ≡ sum_at sums n → (k : ℕ) × StandsIn (get_or spans n no_span) k × (by_arc sums k ≡ sum_at sums n)
+      by : (p : List ℕ) → LeadsToEnd opened allows n p → weight_of weight p ≡ sum_at sums n → (k : ℕ) × StandsIn (span_of starts (length arcs) n) k × (by_arc sums k ≡ sum_at sums n)
       by [] leads e = absurd (on (leads, sym e))
       by (k ∷ r) leads e = let t = tight sums n k r l done h leads e in (k, t.stands, t.gives)
 
   module _ (sums : List ℤ) (n k : ℕ) (inside : n < length ends) (done : HasSums arcs ends allows weight most sums 0) (h : Reached sums n)
-      (first : IsFirstBy (by_arc sums) (get_or spans n no_span) (sum_at sums n) k) where
+      (first : IsFirstBy (by_arc sums) (span_of starts (length arcs) n) (sum_at sums n) k) where
     lk : k < length arcs
     lk = own_arc n k inside first.stands
 

@@ -3,7 +3,7 @@ use Rattle.std.specs.Prelude.{◌≡◌, ◌≢◌, ℕ, ◌*◌, ◌-◌, ◌<�
 use Rattle.std.specs.Int.{w64}
 use Rattle.optra_dag.specs.Paths.{Graph, no_arc, IsForward, LeadsToEnd, weight_of, ComesFirst}
 use Rattle.optra_dag.specs.WaySums.{open_graph, plain_graph}
-use Rattle.optra_dag.specs.Spans.{StandsIn, HaveSpans}
+use Rattle.optra_dag.specs.Spans.{StandsIn, AreStarts}
 use Rattle.optra_dag.specs.declared.Arc.{Arc}
 use Rattle.optra_dag.specs.declared.spans.Span.{Span}
 
@@ -108,10 +108,14 @@ pub record IsFirstWay (g : Graph) (allows : ℕ → Bool) (weight : ℕ → ℤ)
   pub greatest : (q : List ℕ) → LeadsToEnd g allows node q → weight_of weight q ≤ℤ total
   pub first : (q : List ℕ) → LeadsToEnd g allows node q → weight_of weight q ≡ total → ComesFirst p q
 
+-- the nodes that arcs leave are no ends
+abbrev pub LeaveNoEnd : List Arc → List Bool → Type 0
+LeaveNoEnd arcs ends = (k : ℕ) → k < length arcs → slice_index_or ends (slice_index_or arcs k no_arc).from false ≡ false
+
 -- the arcs lead forward, each node has its span of them, and no sum of theirs leaves 64 bits
-pub record IsNarrow (arcs : List Arc) (ends : List Bool) (spans : List Span) (allows : ℕ → Bool) (weight : ℕ → ℤ) (most : ℕ) : Type 0 where
+pub record IsNarrow (arcs : List Arc) (ends : List Bool) (starts : List ℕ) (allows : ℕ → Bool) (weight : ℕ → ℤ) (most : ℕ) : Type 0 where
   pub forward : IsForward (plain_graph arcs ends)
-  pub kept : HaveSpans arcs ends spans
+  pub started : AreStarts arcs starts
   pub weights : (k : ℕ) → k < length arcs → allows k ≡ true → IsWithin most (weight k)
   pub room : most * length ends ≤ 1152921504606846976
 

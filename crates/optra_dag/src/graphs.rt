@@ -1,8 +1,9 @@
-//! Graphs whose arcs lead forward, as two flat arrays.
+//! Graphs whose arcs lead forward, as flat arrays.
 ghost use Rattle.std.specs.Prelude.{◌≡◌, ℕ, ◌+◌, ◌-◌, ◌<◌, ◌≤◌, ◌^◌, [], ◌∷◌, ◌++◌, length, replicate, All, slice_set, IfOk, OnErr, OnOk, IfSome, true, false};
 ghost use Rattle.optra_dag.specs.Paths.{IsForward};
 
-use crate::spans::Span;
+use crate::arcs::Arcs;
+use crate::ends::Ends;
 use crate::{Arc, NoMemory};
 use std::alloc::Global;
 use std::marker::Model;
@@ -12,12 +13,13 @@ use std::marker::Model;
 /// the nodes that they leave.
 #[derive(Drop)]
 pub struct Dag {
-    pub(crate) arcs: Vec<Arc>,
+    pub(crate) arcs: Arcs,
     pub(crate) ends: Vec<bool>,
     /// No node before this one is an end.
     pub(crate) first_end: u32,
-    /// For each node its arcs.
-    pub(crate) spans: Vec<Span>,
+    /// For each node up to the last one that has arcs the number at which its arcs begin. They end where those of the
+    /// next node begin.
+    pub(crate) starts: Vec<u32>,
 }
 
 impl Model for Dag {
@@ -39,14 +41,14 @@ impl Dag {
         ensures { IfOk result (λ dag. (dag.arcs ≡ []) × (dag.ends ≡ replicate nodes false)) }
     {
         Ok(Dag {
-            arcs: Vec::new(alloc),
+            arcs: Arcs::new(alloc),
             ends: vec![in alloc; false; nodes as usize]?,
             first_end: nodes,
-            spans: vec![in alloc; Span::empty(); nodes as usize]?,
+            starts: Vec::with_capacity(alloc, nodes as usize)?,
         })
     }
 
-    /// Makes room for so many more arcs at once, and no more than that; the graph stays as it is.
+    /// Makes room for so many more arcs between nodes below 65,536 at once, no more than that; the graph stays as it is.
     pub fn reserve(&mut self, arcs: usize) -> Result<(), NoMemory>
         ensures { self.new ≡ self.old }
     {
@@ -66,11 +68,14 @@ impl Dag {
         ensures ends { self.new.ends ≡ self.old.ends }
         ensures err { OnErr result (self.new ≡ self.old) }
     {
-        let number = self.arcs.len();
-        self.arcs.push(Arc { from, to })?;
-        let span = self.spans[from as usize];
-        self.spans[from as usize] = span.with_last(number as u32);
-        Ok(number as u32)
+        let number = self.arcs.len() as u32;
+        let started = self.starts.len();
+        start_up_to(&mut self.starts, from, number)?;
+        if let Err(refused) = self.arcs.push(Arc { from, to }) {
+            self.starts.truncate(started);
+            return Err(refused);
+        }
+        Ok(number)
     }
 
     /// Makes the node an end.
@@ -83,6 +88,16 @@ impl Dag {
         self.first_end = self.first_end.min(node);
     }
 
+    /// Which nodes are ends, to be read.
+    pub(crate) fn ends(&self) -> Ends<'_>
+        ensures { result ≡ self.now.ends }
+    {
+        Ends {
+            flags: &self.ends,
+            first: self.first_end,
+        }
+    }
+
     /// The count of arcs. What every graph keeps is known here too.
     pub fn arcs(&self) -> u32
         ensures count { result ≡ length self.now.arcs }
@@ -90,4 +105,16 @@ impl Dag {
     {
         self.arcs.len() as u32
     }
+}
+
+/// Lets the nodes up to this one that have no start yet start at the arc of this number.
+fn start_up_to(starts: &mut Vec<u32>, node: u32, arc: u32) -> Result<(), NoMemory>
+    ensures ok { OnOk result (starts.new.items ≡ starts.old.items
+        ++ replicate (node + 1 - length starts.old.items) arc) }
+    ensures err { OnErr result (starts.new.items ≡ starts.old.items) }
+{
+    if node as usize >= starts.len() {
+        starts.resize(node as usize + 1, arc)?;
+    }
+    Ok(())
 }

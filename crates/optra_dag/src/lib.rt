@@ -3,9 +3,14 @@
 
 use std::alloc::AllocError;
 
+mod arc_slice;
+mod arcs;
 mod buffers;
+mod ends;
 mod graphs;
 mod narrow;
+mod narrow_arc;
+mod narrow_slice;
 mod searching;
 mod skipping;
 mod spans;

@@ -3,6 +3,7 @@ ghost use Rattle.std.specs.Prelude.{◌≡◌, ℕ, Bool, true, [], ◌+◌, ◌
 ghost use Rattle.optra_dag.specs.Paths.{IsPath, IsFirstBest, IsForward, IsWeight};
 ghost use Rattle.optra_dag.specs.WaySums.{open_graph, plain_graph, first_sum, first_sums, AreDone, Traces, LeadForward};
 
+use crate::arc_slice::ArcSlice;
 use crate::buffers::Buffers;
 use crate::graphs::Dag;
 use crate::{Arc, NoMemory};
@@ -72,13 +73,13 @@ pub fn first_best_in<W: Weight>(
     ensures none { IfOk result (λ answer. IfNone answer ((path : List ℕ) → IsPath dag.now
         (W.allows weight.now) path → ⊥)) }
 {
-    let arcs = &dag.arcs;
+    let arcs = dag.arcs.slice();
     let ends = &dag.ends;
     search(
         &mut buffers.sums,
         &mut buffers.next,
         &mut buffers.path,
-        arcs,
+        &arcs,
         ends,
         weight,
     )
@@ -88,7 +89,7 @@ fn search<W: Weight>(
     sums: &mut Vec<i128>,
     next: &mut Vec<u32>,
     path: &mut Vec<u32>,
-    arcs: &[Arc],
+    arcs: &ArcSlice<'_>,
     ends: &[bool],
     weight: &W,
 ) -> Result<Option<i128>, NoMemory>
@@ -159,7 +160,7 @@ fn wins(sum: i128, old: i128, next: u32) -> bool
 fn find_ways<W: Weight>(
     sums: &mut Vec<i128>,
     next: &mut Vec<u32>,
-    arcs: &[Arc],
+    arcs: &ArcSlice<'_>,
     ends: &[bool],
     weight: &W,
 )
@@ -177,7 +178,7 @@ fn find_ways<W: Weight>(
     while left > 0 {
         left -= 1;
         let number = left as u32;
-        let Arc { from, to } = arcs[left];
+        let Arc { from, to } = arcs.at(left);
         let rest = sums[to as usize];
         if rest == NO_WAY || !weight.allowed(number) {
             continue;
@@ -191,7 +192,7 @@ fn find_ways<W: Weight>(
 }
 
 /// The path from node 0 by the next arcs.
-fn path_by(path: &mut Vec<u32>, arcs: &[Arc], next: &[u32]) -> Result<(), NoMemory>
+fn path_by(path: &mut Vec<u32>, arcs: &ArcSlice<'_>, next: &[u32]) -> Result<(), NoMemory>
     requires some { 0 < length next.now }
     requires forward { LeadForward arcs.now (length next.now) }
     requires few { length arcs.now ≤ STOP }
@@ -203,7 +204,7 @@ fn path_by(path: &mut Vec<u32>, arcs: &[Arc], next: &[u32]) -> Result<(), NoMemo
     while next[node as usize] != STOP {
         let number = next[node as usize];
         path.push(number)?;
-        node = arcs[number as usize].to;
+        node = arcs.at(number as usize).to;
     }
     Ok(())
 }

@@ -1,5 +1,6 @@
 //! Where the arcs of one node stand among all arcs.
-ghost use Rattle.std.specs.Prelude.{◌≡◌, ◌+◌, ◌-◌, ◌<◌, ◌^◌, nat_lt, if◌then◌else◌};
+ghost use Rattle.std.specs.Prelude.{◌≡◌};
+ghost use Rattle.optra_dag.specs.Spans.{span_of};
 
 /// The arcs of one node, which stand together: those from `start` on, up to before `stop`. A node
 /// without arcs has an empty span.
@@ -10,30 +11,14 @@ pub(crate) struct Span {
 }
 
 impl Span {
-    /// The span of a node without arcs.
-    pub(crate) fn empty() -> Span
-        ensures start { result.start ≡ 0 }
-        ensures stop { result.stop ≡ 0 }
+    /// The span of a node among so many arcs, by the starts of the nodes.
+    pub(crate) fn of(starts: &[u32], arcs: u32, node: u32) -> Span
+        ensures { result ≡ span_of starts.now arcs node }
     {
-        Span { start: 0, stop: 0 }
-    }
-
-    /// The span with one more arc of the node, the last of all arcs.
-    pub(crate) fn with_last(self, arc: u32) -> Span
-        requires { arc < 2 ^ 32 - 1 }
-        ensures start { result.start ≡ (if nat_lt self.start self.stop then self.start else arc) }
-        ensures stop { result.stop ≡ arc + 1 }
-    {
-        if self.start < self.stop {
-            Span {
-                start: self.start,
-                stop: arc + 1,
-            }
-        } else {
-            Span {
-                start: arc,
-                stop: arc + 1,
-            }
+        let node = node as usize;
+        Span {
+            start: starts.get(node).copied().unwrap_or(arcs),
+            stop: starts.get(node + 1).copied().unwrap_or(arcs),
         }
     }
 }

@@ -260,14 +260,14 @@ pub record AreMoving (to : ℕ → ℤ) (first now : Levels) (k : ℕ) : Type 0 
   pub done : (n : ℕ) → n < length first.prices.items → (price_of now n ≡ to n) ⊎ IsLeft now.active.items k n
   pub left : (n : ℕ) → IsLeft now.active.items k n → price_of now n ≡ price_of first n
 
-pub moving_first : (to : ℕ → ℤ) (l : Levels) → IsLevels l → ((n : ℕ) → IsIdle l n → price_of l n ≡ to n) → AreMoving to l l 0
-moving_first to l is idle_stays = record {
-  count = refl;
-  done = λ n m. elim (is.covers n m) as (λ _. (price_of l n ≡ to n) ⊎ IsLeft l.active.items 0 n) [
+pub moving_first : (to : ℕ → ℤ) (first now : Levels) → IsLevels now → now.prices ≡ first.prices → ((n : ℕ) → IsIdle now n → price_of now n ≡ to n) → AreMoving to first now 0
+moving_first to first now is kept idle_stays = record {
+  count = ap (λ prices. length prices.items) kept;
+  done = λ n m. elim (is.covers n (subst (λ prices. n < length prices.items) (sym kept) m)) as (λ _. (price_of now n ≡ to n) ⊎ IsLeft now.active.items 0 n) [
     | inl idle ↦ inl (idle_stays n idle)
-    | inr has ↦ inr (all_left l.active.items n has)
+    | inr has ↦ inr (all_left now.active.items n has)
   ];
-  left = λ n left. refl;
+  left = λ n left. ap (λ prices. slice_index_or prices.items n (pos 0)) kept;
 }
 
 -- one more row has the price that it is to have

@@ -62,3 +62,4 @@ pub mod PlacedLemmas
 pub mod ShareLemmas
 pub mod AmountLemmas
 pub mod RunningLemmas
+pub mod ActiveOrderLemmas

@@ -1,10 +1,11 @@
 -- Narrow arcs, and after them the others, as the arcs that they stand for.
-use Rattle.std.proofs.Common.{◌≡◌, ℕ, ◌-◌, ◌≤◌, ◌<◌, Bool, List, [], ◌∷◌, ◌++◌, map, length, set, get_or, Some, slice_get, refl, sym, ap, ◌∙◌, subst, arith, ℤ, pos}
+use Rattle.std.proofs.Common.{◌≡◌, ℕ, ◌+◌, ◌-◌, ◌≤◌, ◌<◌, Bool, true, false, All, List, [], ◌∷◌, ◌++◌, map, length, set, get_or, Some, slice_get, refl, sym, ap, ◌∙◌, subst, arith, ℤ, pos}
 use Rattle.std.proofs.lemmas.List.{get_or-map, get_or_append_left, get_or-append_right, map-set, map-append, append-nil, append_assoc, set-append_left, set-append_right, length-map, length-append}
-use Rattle.std.proofs.lemmas.List.Elements.{All-append, All-cons, All-nil, All-tail, All-weaker}
+use Rattle.std.proofs.lemmas.List.Elements.{All-append, All-cons, All-get_or, All-nil, All-set, All-tail, All-weaker}
+use Rattle.std.proofs.lemmas.List.Sums.{sum_by-cons, sum_by-set, sum_by_push}
 use Rattle.std.proofs.lemmas.Option.{slice_get_read, slice_get_within, slice_get-get_or, get_or_from_slice_get}
 use Rattle.optra_prices.specs.ArcTerms.{ArcTerm}
-use Rattle.optra_prices.specs.NarrowArcs.{term_of, terms_of, AreNumbered, with_mark}
+use Rattle.optra_prices.specs.NarrowArcs.{term_of, terms_of, AreNumbered, AreOpen, AreListed, closed_one, closed_in, with_mark}
 use Rattle.optra_prices.specs.Tables.{Extends, no_arc}
 use Rattle.optra_prices.specs.declared.narrow_arc.NarrowArc.{NarrowArc}
 use Rattle.optra_prices.proofs.AdmitLemmas.{extends_longer}
@@ -59,6 +60,85 @@ pub numbered_more : (old new : List ℤ) (narrow : List NarrowArc) (arc : Narrow
 numbered_more old new narrow arc value extends are at =
     let P = λ (a : NarrowArc). a.value < length new in
     All-append P narrow (arc ∷ []) (numbered_kept old new narrow extends are) (All-cons P arc [] (slice_get_within new arc.value value at) (All-nil P))
+
+-- what is kept of the arcs, where more values have numbers
+pub listed_kept : (old new : List ℤ) (narrow : List NarrowArc) (groups closed : ℕ) → Extends old new → AreListed old narrow groups closed → AreListed new narrow groups closed
+listed_kept old new narrow groups closed extends are = record {
+  numbered = numbered_kept old new narrow extends are.numbered;
+  below = are.below;
+  closed_is = are.closed_is;
+}
+
+-- what is kept of the arcs, with one more
+pub listed_more : (old new : List ℤ) (narrow : List NarrowArc) (arc : NarrowArc) (value : ℤ) (groups more closed after : ℕ)
+    → Extends old new → AreListed old narrow groups closed → slice_get new arc.value ≡ Some value
+    → groups ≤ more → arc.group < more → after ≡ closed + closed_one arc.allowed
+    → AreListed new (narrow ++ arc ∷ []) more after
+listed_more old new narrow arc value groups more closed after extends are at all one is = record {
+  numbered = numbered_more old new narrow arc value extends are.numbered at;
+  below = All-append P narrow (arc ∷ []) (All-weaker (λ (a : NarrowArc). a.group < groups) P (λ a l. omega arith) narrow are.below) (All-cons P arc [] one (All-nil P));
+  closed_is = is ∙ ap (λ (n : ℕ). n + closed_one arc.allowed) are.closed_is ∙ sym (sum_by_push (λ (a : NarrowArc). closed_one a.allowed) narrow arc);
+}
+  where
+    P : NarrowArc → Type 0
+    P a = a.group < more
+
+-- how many may not be taken, where an arc is put in another's place
+closed_set : (narrow : List NarrowArc) (k : ℕ) (put arc : NarrowArc) → k < length narrow → arc ≡ get_or narrow k arc → closed_in (set narrow k put) + closed_one arc.allowed ≡ closed_in narrow + closed_one put.allowed
+closed_set narrow k put arc l is =
+    ap (λ (a : NarrowArc). closed_in (set narrow k put) + closed_one a.allowed) is ∙ sum_by-set (λ (a : NarrowArc). closed_one a.allowed) narrow k put arc l
+
+-- what is kept of the arcs, where one is marked
+pub listed_marked : (values : List ℤ) (narrow : List NarrowArc) (groups closed after k : ℕ) (mark : Bool) (arc : NarrowArc) → k < length narrow → arc ≡ get_or narrow k arc
+    → AreListed values narrow groups closed → after + closed_one arc.allowed ≡ closed + closed_one mark
+    → AreListed values (set narrow k (record { group = arc.group; value = arc.value; allowed = mark })) groups after
+listed_marked values narrow groups closed after k mark arc l is are moved = record {
+  numbered = All-set N narrow k marked (subst N (sym is) (All-get_or N narrow k arc l are.numbered)) are.numbered;
+  below = All-set P narrow k marked (subst P (sym is) (All-get_or P narrow k arc l are.below)) are.below;
+  closed_is =
+      let put = closed_set narrow k marked arc l is in
+      let was = are.closed_is in
+      omega arith;
+}
+  where
+    marked : NarrowArc
+    marked = record { group = arc.group; value = arc.value; allowed = mark }
+
+    N : NarrowArc → Type 0
+    N a = a.value < length values
+
+    P : NarrowArc → Type 0
+    P a = a.group < groups
+
+-- an arc that may not be taken is counted
+pub closed_least : (narrow : List NarrowArc) (k : ℕ) (arc : NarrowArc) → k < length narrow → arc ≡ get_or narrow k arc → closed_one arc.allowed ≤ closed_in narrow
+closed_least narrow k arc l is =
+    let put = closed_set narrow k (record { group = arc.group; value = arc.value; allowed = true }) arc l is in
+    omega arith
+
+-- no more arcs are counted than there are
+pub closed_most : (narrow : List NarrowArc) → closed_in narrow ≤ length narrow
+closed_most [] = omega arith
+closed_most (arc ∷ narrow) =
+    let cons = sum_by-cons (λ (a : NarrowArc). closed_one a.allowed) arc narrow in
+    let rest = closed_most narrow in
+    let one = one_most arc.allowed in
+    omega arith
+  where
+    one_most : (allowed : Bool) → closed_one allowed ≤ 1
+    one_most true = omega arith
+    one_most false = omega arith
+
+-- where none is counted, all may be taken
+pub none_closed : (narrow : List NarrowArc) → closed_in narrow ≡ 0 → AreOpen narrow
+none_closed [] none = All-nil (λ (a : NarrowArc). a.allowed ≡ true)
+none_closed (arc ∷ narrow) none =
+    let cons = sum_by-cons (λ (a : NarrowArc). closed_one a.allowed) arc narrow in
+    All-cons (λ (a : NarrowArc). a.allowed ≡ true) arc narrow (open_one arc.allowed (omega arith)) (none_closed narrow (omega arith))
+  where
+    open_one : (allowed : Bool) → closed_one allowed ≡ 0 → allowed ≡ true
+    open_one true e = refl
+    open_one false e = absurd (omega arith)
 
 -- the arcs stay as they are
 same_terms : (old new : List ℤ) (narrow : List NarrowArc) → Extends old new → AreNumbered old narrow → map (term_of new) narrow ≡ map (term_of old) narrow

@@ -6,6 +6,7 @@ ghost use Rattle.optra_prices.specs.Tables.{allows_by, narrow_weight_by, no_arc}
 use crate::arc_term::ArcTerm;
 use crate::narrow_arc::NarrowArc;
 use crate::narrow_weights::NarrowWeights;
+use crate::open_weights::OpenWeights;
 use optra_dag::FAR;
 use std::marker::Model;
 
@@ -15,18 +16,22 @@ pub(crate) struct ArcSlice<'a> {
     pub(crate) narrow: &'a [NarrowArc],
     pub(crate) values: &'a [i64],
     pub(crate) wide: &'a [ArcTerm],
+    /// The narrow arcs touch groups below this one.
+    pub(crate) groups: usize,
+    /// So many narrow arcs may not be taken.
+    pub(crate) closed: usize,
 }
 
 impl<'a> Model for ArcSlice<'a> {
     ghost use Rattle.std.specs.Prelude.{List};
     ghost use Rattle.optra_prices.specs.ArcTerms.{ArcTerm};
-    ghost use Rattle.optra_prices.specs.NarrowArcs.{terms_of, AreNumbered};
+    ghost use Rattle.optra_prices.specs.NarrowArcs.{terms_of, AreListed};
 
     ghost Value = { List ArcTerm };
 
     ghost view = { λ a. terms_of a.values.now a.narrow.now a.wide.now };
 
-    ghost invariant = { λ a. AreNumbered a.values.now a.narrow.now };
+    ghost invariant = { λ a. AreListed a.values.now a.narrow.now a.groups a.closed };
 }
 
 impl<'a> ArcSlice<'a> {
@@ -101,14 +106,28 @@ impl<'a> ArcSlice<'a> {
         self.values[arc.value as usize].wrapping_sub(price)
     }
 
-    /// The arcs at prices of groups, where all of them are narrow.
+    /// The arcs at prices of groups, where all of them are narrow and all groups have a price.
     pub(crate) fn narrow_weights(&self, grouped: &'a [i64]) -> Option<NarrowWeights<'a>>
         ensures { IfSome result (λ weights. weights ≡ priced_arcs self.now grouped.now) }
     {
-        if !self.wide.is_empty() {
+        if !self.wide.is_empty() || grouped.len() < self.groups {
             return None;
         }
         Some(NarrowWeights {
+            arcs: self.narrow,
+            values: self.values,
+            grouped,
+        })
+    }
+
+    /// As [`ArcSlice::narrow_weights`], where all arcs may be taken as well.
+    pub(crate) fn open_weights(&self, grouped: &'a [i64]) -> Option<OpenWeights<'a>>
+        ensures { IfSome result (λ weights. weights ≡ priced_arcs self.now grouped.now) }
+    {
+        if !self.wide.is_empty() || grouped.len() < self.groups || self.closed > 0 {
+            return None;
+        }
+        Some(OpenWeights {
             arcs: self.narrow,
             values: self.values,
             grouped,

@@ -1,6 +1,6 @@
 //! The arcs of a bid's graph with what each adds and touches, in few bytes, since searches read them one after the other.
-ghost use Rattle.std.specs.Prelude.{◌≡◌, ◌<◌, [], ◌∷◌, ◌++◌, Some, IfOk, IfSome, OnOk, length, slice_get, slice_index_or, slice_set};
-ghost use Rattle.optra_prices.specs.NarrowArcs.{with_mark};
+ghost use Rattle.std.specs.Prelude.{◌≡◌, ◌+◌, ◌^◌, ◌<◌, ◌≤◌, [], ◌∷◌, ◌++◌, Some, IfOk, IfSome, OnOk, length, slice_get, slice_index_or, slice_set};
+ghost use Rattle.optra_prices.specs.NarrowArcs.{closed_one, with_mark};
 ghost use Rattle.optra_prices.specs.Tables.{Extends, no_arc};
 
 use crate::arc_slice::ArcSlice;
@@ -21,18 +21,22 @@ pub(crate) struct Arcs {
     /// The values of narrow arcs, by number. One may stand more than once.
     values: Vec<i64>,
     wide: Vec<ArcTerm>,
+    /// The narrow arcs touch groups below this one.
+    groups: usize,
+    /// So many narrow arcs may not be taken.
+    closed: usize,
 }
 
 impl Model for Arcs {
     ghost use Rattle.std.specs.Prelude.{List};
     ghost use Rattle.optra_prices.specs.ArcTerms.{ArcTerm};
-    ghost use Rattle.optra_prices.specs.NarrowArcs.{terms_of, AreNumbered};
+    ghost use Rattle.optra_prices.specs.NarrowArcs.{terms_of, AreListed};
 
     ghost Value = { List ArcTerm };
 
     ghost view = { λ a. terms_of a.values.items a.narrow.items a.wide.items };
 
-    ghost invariant = { λ a. AreNumbered a.values.items a.narrow.items };
+    ghost invariant = { λ a. AreListed a.values.items a.narrow.items a.groups a.closed };
 }
 
 /// The number of a value that was entered lately.
@@ -80,6 +84,24 @@ fn narrowed(number: usize, term: &ArcTerm) -> Option<NarrowArc>
     })
 }
 
+/// A bound on the groups of arcs, with one more arc.
+fn groups_with(groups: usize, group: u32) -> usize
+    ensures all { groups ≤ result }
+    ensures one { group < result }
+{
+    groups.max(group as usize + 1)
+}
+
+/// How many arcs may not be taken, once the mark of one is another one.
+fn closed_after(closed: usize, before: bool, allowed: bool) -> usize
+    requires counted { closed_one before ≤ closed }
+    requires few { closed < 2 ^ 63 }
+    ensures { result + closed_one before ≡ closed + closed_one allowed }
+{
+    let others = if before { closed } else { closed - 1 };
+    if allowed { others } else { others + 1 }
+}
+
 impl Arcs {
     /// No arcs, with room for so many.
     pub(crate) fn with_room(alloc: Global, count: usize) -> Result<Arcs, NoMemory>
@@ -91,6 +113,8 @@ impl Arcs {
             narrow,
             values: Vec::new(alloc),
             wide: Vec::new(alloc),
+            groups: 0,
+            closed: 0,
         })
     }
 
@@ -104,7 +128,11 @@ impl Arcs {
         }
         let number = number_of(&mut self.values, term.value())?;
         match narrowed(number, &term) {
-            Some(arc) => self.narrow.push(arc)?,
+            Some(arc) => {
+                self.narrow.push(arc)?;
+                self.groups = groups_with(self.groups, arc.group);
+                self.closed = closed_after(self.closed, true, arc.allowed);
+            }
             None => self.wide.push(term)?,
         }
         Ok(())
@@ -118,6 +146,7 @@ impl Arcs {
     {
         let count = self.narrow.len();
         if k < count {
+            self.closed = closed_after(self.closed, self.narrow[k].allowed, allowed);
             self.narrow[k].allowed = allowed;
         } else {
             self.wide[k - count].allow(allowed);
@@ -132,6 +161,8 @@ impl Arcs {
             narrow: &self.narrow,
             values: &self.values,
             wide: &self.wide,
+            groups: self.groups,
+            closed: self.closed,
         }
     }
 }

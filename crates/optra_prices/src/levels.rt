@@ -228,6 +228,17 @@ fn next_price_at(levels: &Levels, number: usize, by: i64) -> i64
     )
 }
 
+/// Puts the active rows in ascending order. Rows that follow each other mostly share groups, so that what is read for one
+/// is at hand for the next.
+fn sort_active(levels: &mut Levels)
+    requires { IsLevels levels.old }
+    ensures levels { IsLevels levels.new }
+    ensures prices { levels.new.prices ≡ levels.old.prices }
+    ensures rest { KeepsUses levels.old levels.new }
+{
+    levels.active.sort_unstable();
+}
+
 /// Gives each active row its next price by a step of this length; the price of each other row stays at 0.
 pub(crate) fn move_prices(
     levels: &mut Levels,
@@ -245,6 +256,7 @@ pub(crate) fn move_prices(
     ensures grouped { OnOk result (columns.new.grouped ≡ columns.old.grouped) }
     ensures rest { OnOk result (KeepsUses levels.old levels.new) }
 {
+    sort_active(levels);
     let mut k = 0;
     'rows: while k < levels.active.len() {
         let price = next_price_at(levels, levels.active[k], by);

@@ -41,6 +41,7 @@ mod narrow_weights;
 mod next_prices;
 mod numbering;
 mod numbers;
+mod open_weights;
 pub mod overfull;
 mod owning;
 pub mod parts;

@@ -3,7 +3,7 @@ use crate::narrow_arc::NarrowArc;
 use optra_dag::{FAR, NarrowWeight};
 use std::marker::Model;
 
-/// Narrow arcs, whose values are known by number, and the prices of the groups that they touch.
+/// Narrow arcs, whose values are known by number, and the prices of the groups that they touch. Each of these has one.
 #[derive(Drop)]
 pub(crate) struct NarrowWeights<'a> {
     pub(crate) arcs: &'a [NarrowArc],
@@ -13,13 +13,13 @@ pub(crate) struct NarrowWeights<'a> {
 
 impl<'a> Model for NarrowWeights<'a> {
     ghost use Rattle.std.specs.Prelude.{[]};
-    ghost use Rattle.optra_prices.specs.NarrowArcs.{PricedArcs, priced_arcs, terms_of, AreNumbered};
+    ghost use Rattle.optra_prices.specs.NarrowArcs.{PricedArcs, priced_arcs, terms_of, ArePriced};
 
     ghost Value = { PricedArcs };
 
     ghost view = { λ w. priced_arcs (terms_of w.values.now w.arcs.now []) w.grouped.now };
 
-    ghost invariant = { λ w. AreNumbered w.values.now w.arcs.now };
+    ghost invariant = { λ w. ArePriced w.values.now w.arcs.now w.grouped.now };
 }
 
 impl NarrowWeight for NarrowWeights<'_> {
@@ -33,11 +33,10 @@ impl NarrowWeight for NarrowWeights<'_> {
     ghost weight = { λ w k. narrow_weight_by w.arcs w.grouped k };
 
     fn of(&self, arc: u32) -> i64 {
-        let arc = self.arcs[arc as usize];
+        let arc = &self.arcs[arc as usize];
         if !arc.allowed {
             return FAR;
         }
-        let price = self.grouped.get(arc.group as usize).copied().unwrap_or(0);
-        self.values[arc.value as usize].wrapping_sub(price)
+        self.values[arc.value as usize].wrapping_sub(self.grouped[arc.group as usize])
     }
 }

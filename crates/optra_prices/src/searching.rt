@@ -81,7 +81,8 @@ fn most_of(values: i64, prices: i64) -> u64
     (values + prices) as u64
 }
 
-/// The first best path, in 64 bits: by the narrow arcs alone where no others are.
+/// The first best path, in 64 bits: by the narrow arcs alone where no others are, and with no look at whether they may be
+/// taken where all may.
 fn narrow_sum(
     buffers: &mut Buffers,
     dag: &Dag,
@@ -97,6 +98,9 @@ fn narrow_sum(
     ensures none { IfOk result (λ answer. IfNone answer ((path : List ℕ)
         → IsPath dag.now (allows_by weights.now.arcs) path → ⊥)) }
 {
+    if let Some(open) = weights.arcs.open_weights(weights.grouped) {
+        return narrow_best_in(buffers, dag, &open, most);
+    }
     match weights.arcs.narrow_weights(weights.grouped) {
         Some(narrow) => narrow_best_in(buffers, dag, &narrow, most),
         None => narrow_best_in(buffers, dag, weights, most),

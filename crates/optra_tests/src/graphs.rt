@@ -2,7 +2,7 @@
 ghost use Rattle.std.specs.Prelude.{◌≡◌, All};
 ghost use Rattle.optra_bid.specs.Specs.{IsPathOn};
 
-use crate::instances::{Check, PLAIN, Rows, check_read};
+use crate::instances::{Check, PLAIN, Rows, check_read, same};
 use optra_bid::Bid;
 use optra_dag::{Weight, first_best};
 use optra_graph::{Builds, FreshGraphs, Graphs, TimeGraph, build};
@@ -84,13 +84,13 @@ fn check(
     want: (u32, Option<Minute>),
 ) -> Result<(), NoMemory> {
     let (arcs, departure) = want;
-    assert_eq!(rt; graph.dag().arcs(), arcs);
+    same(rt, &graph.dag().arcs(), &arcs);
     match first_walk(rt.alloc(), graph)? {
         Some(walk) => {
             assert!(rt; follows(inst.net, bid, &walk.legs));
-            assert_eq!(rt; walk.legs.first().map(|leg| leg.depart), departure);
+            same(rt, &walk.legs.first().map(|leg| leg.depart), &departure);
         }
-        None => assert_eq!(rt; departure, None),
+        None => same(rt, &departure, &None),
     }
     Ok(())
 }
@@ -104,7 +104,7 @@ fn check_built(rt: &(impl Abort + AllocGlobal), inst: Instance<'_>) -> Result<()
         let graph = build(rt.alloc(), inst.net, bid, &mut builds)?;
         check(rt, inst, bid, &graph, *want)?;
     }
-    assert_eq!(rt; builds.count(), 9);
+    same(rt, &builds.count(), &9);
     Ok(())
 }
 
@@ -132,7 +132,19 @@ fn check_fresh(rt: &(impl Abort + AllocGlobal), inst: Instance<'_>) -> Result<()
 {
     let mut graphs = FreshGraphs::new(inst.net);
     check_served(rt, inst, &mut graphs)?;
-    assert_eq!(rt; graphs.builds(), 9);
+    same(rt, &graphs.builds(), &9);
+    Ok(())
+}
+
+/// A store that holds nothing builds the graph of the first bid.
+fn check_store(rt: &impl Abort, store: &mut GraphStore<'_>, bid: &Bid) -> Result<(), NoMemory>
+    requires { IsPathOn store.old.network bid.now.path }
+{
+    assert!(rt; !store.holds(bid));
+    let arcs = store.graph_for(bid)?.dag().arcs();
+    same(rt, &arcs, &GRAPHS[0].0);
+    assert!(rt; store.holds(bid));
+    same(rt, &store.builds(), &1);
     Ok(())
 }
 
@@ -144,11 +156,21 @@ fn check_asked(rt: &(impl Abort + AllocGlobal), inst: Instance<'_>) -> Result<()
         return Ok(());
     };
     let mut store = GraphStore::new(rt.alloc(), inst.net)?;
-    assert!(rt; !store.holds(bid));
-    let arcs = store.graph_for(bid)?.dag().arcs();
-    assert_eq!(rt; arcs, GRAPHS[0].0);
-    assert!(rt; store.holds(bid));
-    assert_eq!(rt; store.builds(), 1);
+    let checked = check_store(rt, &mut store, bid);
+    drop(store);
+    checked
+}
+
+/// The graphs that a store serves are built once each.
+fn check_stored(
+    rt: &(impl Abort + AllocGlobal),
+    inst: Instance<'_>,
+    store: &mut GraphStore<'_>,
+) -> Result<(), NoMemory>
+    requires { All (λ bid. IsPathOn store.old.network bid.path) inst.bids.now }
+{
+    check_served(rt, inst, store)?;
+    same(rt, &store.builds(), &9);
     Ok(())
 }
 
@@ -157,9 +179,9 @@ fn check_kept(rt: &(impl Abort + AllocGlobal), inst: Instance<'_>) -> Result<(),
     requires { All (λ bid. IsPathOn inst.net.now bid.path) inst.bids.now }
 {
     let mut store = GraphStore::new(rt.alloc(), inst.net)?;
-    check_served(rt, inst, &mut store)?;
-    assert_eq!(rt; store.builds(), 9);
-    Ok(())
+    let checked = check_stored(rt, inst, &mut store);
+    drop(store);
+    checked
 }
 
 struct Counted;

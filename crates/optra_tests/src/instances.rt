@@ -8,6 +8,7 @@ use optra_network::Network;
 use optra_tables::{NetFiles, ReadError, read_bids, read_network, version};
 use optra_walk::{Instance, Walk, follows};
 use std::alloc::{AllocError, Global};
+use std::fmt::Debug;
 use std::process::Abort;
 use std::test::Fail;
 
@@ -115,10 +116,15 @@ fn bids(alloc: Global, net: &Network, rows: &Rows) -> Result<Vec<Bid>, ReadError
     read_bids(alloc, net, bids.as_bytes(), stops.as_bytes())
 }
 
+/// A value is as it has to be. A call costs a proof a third of what an assertion that is written out costs.
+pub fn same<T: PartialEq + Debug>(rt: &impl Abort, found: &T, want: &T) {
+    assert_eq!(rt; *found, *want);
+}
+
 /// What is asked of a network and its bids.
 ///
-/// A function that owns a network is dear to prove, and the dearer the more it does. So one function owns each that is
-/// read, and lends it to a check.
+/// A function at whose end a network goes is dear to prove, and the dearer the more it does. So one function owns each
+/// that is read, lends it to a check, and hands it to `drop`.
 pub trait Check {
     fn check<R: Abort + AllocGlobal>(&self, rt: &R, inst: Instance<'_>) -> Result<(), Fail>;
 }
@@ -141,7 +147,9 @@ pub fn check_read<C: Check>(
     check: &C,
 ) -> Result<(), Fail> {
     let net = network(rt.alloc(), rows)?;
-    check_bids(rt, &net, rows, check)
+    let checked = check_bids(rt, &net, rows, check);
+    drop(net);
+    checked
 }
 
 /// Whether there is an entry for each bid, and each that is there is a walk of its bid.

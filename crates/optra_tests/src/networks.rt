@@ -1,5 +1,5 @@
 //! What a network says of its tables, and when two uses of a track are in conflict.
-use crate::instances::{Check, PLAIN, Rows, check_read};
+use crate::instances::{Check, PLAIN, Rows, check_read, same};
 use optra_network::{Network, StationId, TrackId, TrackUse, TypeId, conflict};
 use optra_walk::Instance;
 use std::process::Abort;
@@ -59,39 +59,39 @@ static LEAST: [(u16, u16, Option<u16>); 5] = [
 ];
 
 fn check_tracks(rt: &impl Abort, net: &Network) {
-    assert_eq!(rt; net.track_count(), 4);
+    same(rt, &net.track_count(), &4);
     for (place, (name, tail, head)) in TRACKS.iter().enumerate() {
         let track = TrackId(place as u16);
-        assert_eq!(rt; net.track_id(name), Some(track));
+        same(rt, &net.track_id(name), &Some(track));
         assert!(rt; track.0 < net.track_count());
-        assert_eq!(rt; net.track_name(track), *name);
-        assert_eq!(rt; net.tail(track), StationId(*tail));
-        assert_eq!(rt; net.head(track), StationId(*head));
+        same(rt, &net.track_name(track), name);
+        same(rt, &net.tail(track), &StationId(*tail));
+        same(rt, &net.head(track), &StationId(*head));
     }
-    assert_eq!(rt; net.track_id("A"), None);
+    same(rt, &net.track_id("A"), &None);
 }
 
 fn check_stations(rt: &impl Abort, net: &Network) {
-    assert_eq!(rt; net.station_count(), 3);
+    same(rt, &net.station_count(), &3);
     for (place, (name, out)) in OUT.iter().enumerate() {
         let station = StationId(place as u16);
-        assert_eq!(rt; net.station_id(name), Some(station));
+        same(rt, &net.station_id(name), &Some(station));
         assert!(rt; station.0 < net.station_count());
-        assert_eq!(rt; net.station_name(station), *name);
-        assert_eq!(rt; net.out_tracks(station), *out);
+        same(rt, &net.station_name(station), name);
+        same(rt, &net.out_tracks(station), out);
     }
-    assert_eq!(rt; net.station_id("ab"), None);
+    same(rt, &net.station_id("ab"), &None);
 }
 
 fn check_types(rt: &impl Abort, net: &Network) {
-    assert_eq!(rt; net.type_count(), 3);
+    same(rt, &net.type_count(), &3);
     for (place, name) in ["ic", "re", "fr"].iter().enumerate() {
         let kind = TypeId(place as u16);
-        assert_eq!(rt; net.type_id(name), Some(kind));
+        same(rt, &net.type_id(name), &Some(kind));
         assert!(rt; kind.0 < net.type_count());
-        assert_eq!(rt; net.type_name(kind), *name);
+        same(rt, &net.type_name(kind), name);
     }
-    assert_eq!(rt; net.type_id("B"), None);
+    same(rt, &net.type_id("B"), &None);
 }
 
 fn check_minutes(rt: &impl Abort, net: &Network) {

@@ -1,6 +1,7 @@
 //! First best paths over one small graph, worked by hand.
 ghost use Rattle.std.specs.Prelude.{◌≡◌, ◌<◌, ◌≤◌, pos, IfOk, length, not, nat_eq, if◌then◌else◌};
 
+use crate::instances::same;
 use optra_dag::{Buffers, Dag, NoMemory, Weight, first_best, first_best_in};
 use std::alloc::Global;
 use std::process::Abort;
@@ -72,15 +73,15 @@ fn check_paths(
     let tolls = Tolls { closed, dear };
     match &first_best(rt.alloc(), dag, &tolls)? {
         Some((total, arcs)) => {
-            assert_eq!(rt; Some(*total), sum);
-            assert_eq!(rt; arcs.as_slice(), path);
+            same(rt, &Some(*total), &sum);
+            same(rt, &arcs.as_slice(), &path);
         }
-        None => assert_eq!(rt; sum, None),
+        None => same(rt, &sum, &None),
     }
     let again = first_best_in(buffers, dag, &tolls)?;
-    assert_eq!(rt; again, sum);
+    same(rt, &again, &sum);
     if sum.is_some() {
-        assert_eq!(rt; buffers.path(), path);
+        same(rt, &buffers.path(), &path);
     }
     Ok(())
 }

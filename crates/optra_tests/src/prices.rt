@@ -2,6 +2,7 @@
 //! its departure on, so both bids of one minute pay five times the price of a minute, and only one of them can run.
 ghost use Rattle.std.specs.Prelude.{◌≡◌, [], IfOk, All, Contains, length};
 ghost use Rattle.optra_node.specs.Nodes.{IsNode};
+ghost use Rattle.optra_prices.specs.Keepings.{AreKeptAt};
 ghost use Rattle.optra_prices.specs.Steps.{AreProper};
 ghost use Rattle.optra_rows.specs.Headways.{headway_rows};
 ghost use Rattle.optra_rows.specs.TouchedLemmas.{row_cmp};
@@ -16,9 +17,9 @@ use optra_prices::deads::dead;
 use optra_prices::duals::dual;
 use optra_prices::keeping::{bring_to, dual_over, keep_arcs};
 use optra_prices::overfull::overfull_rows;
-use optra_prices::{Dead, Dual, price_path, step};
+use optra_prices::{ArcTables, Dead, Dual, price_path, step};
 use optra_rows::{HRow, HeadwayRows};
-use optra_walk::{Instance, Walk};
+use optra_walk::{Instance, RowFamily, Walk};
 use std::alloc::Global;
 use std::process::Abort;
 use std::test::Fail;
@@ -377,6 +378,28 @@ fn prices_rise_and_fall_by_the_replies(rt: HostRuntime) -> Result<(), Fail> {
     check_read(&rt, &ONE_MINUTE, &Path)
 }
 
+/// The rows that the replies at these prices overfill, by tables that are at the node. A function at whose end tables
+/// go is dear to prove, so one hands them to `drop`.
+fn overfilled_at<F: RowFamily>(
+    alloc: Global,
+    inst: Instance<'_>,
+    rows: &F,
+    node: &Node,
+    prices: &Prices<F::Row>,
+    kept: ArcTables<'_, F::Row>,
+) -> Result<Vec<F::Row>, NoMemory>
+    requires node { IsNode inst.net.now (length inst.bids.now) node.now }
+    requires prices { AreProper F.Row.cmp (F.rows_of rows.now inst.net.now) prices.now }
+    requires kept { AreKeptAt F.Row.cmp inst.net.now (F.rows_of rows.now inst.net.now)
+        (F.rows_used rows.now inst.net.now) inst.bids.now node.now kept }
+{
+    let (mut kept, dual) = dual_over(alloc, inst, rows, node, kept, prices)?;
+    drop(dual);
+    let listed = overfull_rows(alloc, inst, rows, node, &mut kept);
+    drop(kept);
+    listed
+}
+
 /// The rows that the replies at no prices overfill at the root, ascending.
 fn overfilled<G: Graphs>(
     alloc: Global,
@@ -388,11 +411,13 @@ fn overfilled<G: Graphs>(
 {
     let rows = HeadwayRows::new();
     let root = Node::root(alloc);
-    let mut kept = keep_arcs(alloc, inst, graphs, &rows)?;
-    bring_to(alloc, inst, &rows, &root, &mut kept)?;
     let zero = no_prices(alloc);
-    let (mut kept, _dual) = dual_over(alloc, inst, &rows, &root, kept, &zero)?;
-    let mut listed = overfull_rows(alloc, inst, &rows, &root, &mut kept)?;
+    let mut kept = keep_arcs(alloc, inst, graphs, &rows)?;
+    if let Err(error) = bring_to(alloc, inst, &rows, &root, &mut kept) {
+        drop(kept);
+        return Err(error);
+    }
+    let mut listed = overfilled_at(alloc, inst, &rows, &root, &zero, kept)?;
     listed.sort_unstable();
     Ok(listed)
 }

@@ -6,7 +6,7 @@ ghost use Rattle.optra_walk.specs.Families.{total_of};
 ghost use Rattle.optra_rows.specs.TouchedLemmas.{row_cmp};
 
 use crate::decisions::AB;
-use crate::instances::{Check, PAIRS, PLAIN, Rows, check_read};
+use crate::instances::{Check, PAIRS, PLAIN, Rows, check_read, same};
 use optra_network::{Network, NoMemory, TrackId, TrackUse, TypeId, conflict};
 use optra_rows::HRow::{Pair, Window};
 use optra_rows::{Both, Either, HRow, HeadwayRows, Load};
@@ -92,15 +92,27 @@ static USES: [(Case, [u32; 3]); 8] = [
     (At(6), [0, 0, 1]),
 ];
 
+/// The three trains.
+static TRAINS: [(TypeId, u16); 3] = [(X, 0), (Y, 3), (Z, 6)];
+
+/// The uses of a row by the three trains.
+fn check_uses(rt: &impl Abort, net: &Network, case: Case, uses: &[u32; 3]) {
+    let row = row_of(case);
+    for ((kind, depart), want) in TRAINS.iter().zip(uses) {
+        assert_eq!(rt;
+            used(rt, net, *kind, *depart, row),
+            *want,
+            "{depart} at {case:?}"
+        );
+    }
+}
+
 struct Uses;
 
 impl Check for Uses {
     fn check<R: Abort + AllocGlobal>(&self, rt: &R, inst: Instance<'_>) -> Result<(), Fail> {
         for (case, uses) in &USES {
-            let row = row_of(*case);
-            assert_eq!(rt; used(rt, inst.net, X, 0, row), uses[0], "x at {case:?}");
-            assert_eq!(rt; used(rt, inst.net, Y, 3, row), uses[1], "y at {case:?}");
-            assert_eq!(rt; used(rt, inst.net, Z, 6, row), uses[2], "z at {case:?}");
+            check_uses(rt, inst.net, *case, uses);
         }
         Ok(())
     }
@@ -225,18 +237,19 @@ fn meet(rt: &impl Abort, net: &Network, depart: u16) -> bool {
     conflict(net, x, y)
 }
 
+/// The two share a row, and are in conflict, from 98 to 106.
+fn check_shared(rt: &impl Abort, net: &Network, depart: u16) {
+    let expected = depart > 97 && depart < 107;
+    assert_eq!(rt; share(rt, net, depart), expected, "rows at {depart}");
+    assert_eq!(rt; meet(rt, net, depart), expected, "conflict at {depart}");
+}
+
 struct Shared;
 
 impl Check for Shared {
     fn check<R: Abort + AllocGlobal>(&self, rt: &R, inst: Instance<'_>) -> Result<(), Fail> {
         for depart in 92..=108 {
-            let expected = depart > 97 && depart < 107;
-            assert_eq!(rt; share(rt, inst.net, depart), expected, "rows at {depart}");
-            assert_eq!(rt;
-                meet(rt, inst.net, depart),
-                expected,
-                "conflict at {depart}"
-            );
+            check_shared(rt, inst.net, depart);
         }
         Ok(())
     }
@@ -313,18 +326,28 @@ fn touched_of_both(rt: &impl Abort, net: &Network, k: u32) -> Option<Either<HRow
     doubled().touched(net, X, leg(0), k)
 }
 
+/// The row of both families at a place.
+fn check_touched(rt: &impl Abort, net: &Network, k: u32, want: Option<Either<HRow, HRow>>) {
+    same(rt, &touched_of_both(rt, net, k), &want);
+}
+
+/// A row of the second family takes one use.
+fn check_last(rt: &impl Abort, net: &Network, row: Either<HRow, HRow>) {
+    assert!(rt; doubled().is_row(net, row));
+    same(rt, &doubled().cap(net, row), &1);
+}
+
 struct SecondFamily;
 
 impl Check for SecondFamily {
     fn check<R: Abort + AllocGlobal>(&self, rt: &R, inst: Instance<'_>) -> Result<(), Fail> {
         let first = Either::First(row_of(At(0)));
         let second = Either::Second(row_of(Two(0, X, 6, Z)));
-        assert_eq!(rt; touched_of_both(rt, inst.net, 0), Some(first));
-        assert_eq!(rt; touched_of_both(rt, inst.net, 19), Some(second));
-        assert_eq!(rt; touched_of_both(rt, inst.net, 20), None);
+        check_touched(rt, inst.net, 0, Some(first));
+        check_touched(rt, inst.net, 19, Some(second));
+        check_touched(rt, inst.net, 20, None);
         assert!(rt; first < second);
-        assert!(rt; doubled().is_row(inst.net, second));
-        assert_eq!(rt; doubled().cap(inst.net, second), 1);
+        check_last(rt, inst.net, second);
         Ok(())
     }
 }

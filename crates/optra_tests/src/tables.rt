@@ -3,7 +3,7 @@ ghost use Rattle.std.specs.Prelude.{map};
 ghost use Rattle.optra_network.specs.Names.{AllDiffer};
 ghost use Rattle.optra_bid.specs.Instances.{IsInstance};
 
-use crate::instances::{Check, PLAIN, Rows, check_read};
+use crate::instances::{Check, PLAIN, Rows, check_read, same};
 use optra_bid::Bid;
 use optra_network::{Network, NoMemory};
 use optra_tables::{ReadError, bids_text, read_bids, stops_text, version};
@@ -77,8 +77,8 @@ impl Check for WrittenAgain {
     fn check<R: Abort + AllocGlobal>(&self, rt: &R, inst: Instance<'_>) -> Result<(), Fail> {
         for (bids, stops) in BIDS.iter().zip(&STOPS) {
             let [bids_bytes, stops_bytes] = written(rt.alloc(), inst.net, bids, stops)?;
-            assert_eq!(rt; bids_bytes.as_slice(), BIDS[1].as_bytes());
-            assert_eq!(rt; stops_bytes.as_slice(), STOPS[1].as_bytes());
+            same(rt, &bids_bytes.as_slice(), &BIDS[1].as_bytes());
+            same(rt, &stops_bytes.as_slice(), &STOPS[1].as_bytes());
         }
         Ok(())
     }
@@ -93,14 +93,14 @@ fn bids_are_written_and_read_again(rt: HostRuntime) -> Result<(), Fail> {
 fn check_copies(rt: &impl Abort, alloc: Global, bids: &[Bid]) -> Result<(), NoMemory> {
     for (place, bid) in bids.iter().enumerate() {
         let copy = bid.copied(alloc)?;
-        assert_eq!(rt; copy.name.text(), bid.name.text());
-        assert_eq!(rt; copy.bidder.text(), bid.bidder.text());
-        assert_eq!(rt; copy.money, bid.money);
+        same(rt, &copy.name.text(), &bid.name.text());
+        same(rt, &copy.bidder.text(), &bid.bidder.text());
+        same(rt, &copy.money, &bid.money);
         for (other_place, other) in bids.iter().enumerate() {
-            assert_eq!(rt; copy.same_path(other), place == other_place);
+            same(rt, &copy.same_path(other), &(place == other_place));
         }
         let name = bid.name.copied(alloc)?;
-        assert_eq!(rt; name.text(), bid.name.text());
+        same(rt, &name.text(), &bid.name.text());
     }
     Ok(())
 }

@@ -1,5 +1,5 @@
 //! Legs, walks and their values, walk order, and conflicts between uses, worked by hand.
-use crate::instances::{Check, Rows, check_read};
+use crate::instances::{Check, Rows, check_read, same};
 use optra_bid::Bid;
 use optra_network::{Cents, Minute, Network, TrackId, TrackUse, TypeId, conflict};
 use optra_walk::{Action, Instance, Leg, arrival, follows, next_depart, value, walk_order};
@@ -73,14 +73,14 @@ fn check_legs(
 ) {
     for (kind, from_halt, action, arrives, goes_on) in rows {
         let leg = leg(AB, 100, *from_halt, *action);
-        assert_eq!(rt; arrival(net, *kind, leg), *arrives);
-        assert_eq!(rt; next_depart(net, *kind, leg), *goes_on);
+        same(rt, &arrival(net, *kind, leg), arrives);
+        same(rt, &next_depart(net, *kind, leg), goes_on);
     }
 }
 
 fn check_headways(rt: &impl Abort, net: &Network, rows: &[(Minute, TypeId, Minute, bool)]) {
     for (slow, kind, time, want) in rows {
-        assert_eq!(rt; in_conflict(net, *slow, *kind, *time), Some(*want));
+        same(rt, &in_conflict(net, *slow, *kind, *time), &Some(*want));
     }
 }
 
@@ -88,16 +88,17 @@ fn check_order(rt: &impl Abort, rows: &[(Minute, TrackId, Action, Ordering)]) {
     for (depart, track, action, want) in rows {
         let a = [leg(AB, 2, true, Action::Halt(30))];
         let b = [leg(*track, *depart, true, *action)];
-        assert_eq!(rt; walk_order(&a, &b), *want);
+        same(rt, &walk_order(&a, &b), want);
     }
 }
 
 /// One leg from A to B, which runs 14 minutes, by its departure.
 fn check_one_leg(rt: &impl Abort, net: &Network, bid: &Bid, rows: &[(Minute, Option<Cents>)]) {
     for (minute, want) in rows {
-        assert_eq!(rt;
-            worth(net, bid, &[leg(AB, *minute, true, Action::Finish)]),
-            *want
+        same(
+            rt,
+            &worth(net, bid, &[leg(AB, *minute, true, Action::Finish)]),
+            want,
         );
     }
 }
@@ -111,7 +112,7 @@ fn check_two_legs(rt: &impl Abort, net: &Network, bid: &Bid, rows: &[(TwoLegs, O
             leg(AB, *depart, *from_halt, *action),
             leg(BC, *then, *then_from_halt, Action::Finish),
         ];
-        assert_eq!(rt; worth(net, bid, &legs), *want);
+        same(rt, &worth(net, bid, &legs), want);
     }
 }
 
@@ -193,9 +194,9 @@ fn check_walks(rt: &impl Abort, inst: Instance<'_>) {
     check_one_leg(rt, net, span, &SPAN);
     check_two_legs(rt, net, free, &FREE);
     check_two_legs(rt, net, halt, &HALT);
-    assert_eq!(rt; worth(net, b_then_a, &THERE_AND_BACK), Some(181));
-    assert_eq!(rt; worth(net, a_then_b, &THERE_AND_BACK), None);
-    assert_eq!(rt; worth(net, b_alone, &THERE_AND_BACK), None);
+    same(rt, &worth(net, b_then_a, &THERE_AND_BACK), &Some(181));
+    same(rt, &worth(net, a_then_b, &THERE_AND_BACK), &None);
+    same(rt, &worth(net, b_alone, &THERE_AND_BACK), &None);
 }
 
 fn legs_and_headways(rt: &impl Abort, net: &Network) {

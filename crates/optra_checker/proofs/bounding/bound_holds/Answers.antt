@@ -11,14 +11,5 @@ returns g c =
     let told = subst (λ z. IsTrue c.is_stated.result ↔ (c.in_ok-greatest.greatest ≡ Some z)) (to_z-of_z w64 c.args.stated fits) c.is_stated.ensures in
     stated_is net (g.F.RowFamily.rows_of c.args.rows.now net) c.args.inst.bids.now c.args.tree.now c.in_ok-greatest.greatest c.args.stated c.is_stated.result c.in_ok-greatest.ensures told
 
-pub greatest_bound-requires-clause-whole : goal.greatest_bound-requires-clause-whole
-greatest_bound-requires-clause-whole g c = c.requires.whole
-
-pub greatest_bound-requires-clause-items : goal.greatest_bound-requires-clause-items
-greatest_bound-requires-clause-items g c = c.requires.items
-
-pub greatest_bound-requires-clause-splits : goal.greatest_bound-requires-clause-splits
-greatest_bound-requires-clause-splits g c = c.requires.splits
-
-pub greatest_bound-requires-clause-prices : goal.greatest_bound-requires-clause-prices
-greatest_bound-requires-clause-prices g c = c.requires.prices
+pub greatest_bound-requires : goal.greatest_bound-requires
+greatest_bound-requires g c = c.requires

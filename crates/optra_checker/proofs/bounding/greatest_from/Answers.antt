@@ -35,9 +35,9 @@ item_bound-requires-clause-watches g c =
     let bids = c.args.inst.bids.now in
     let rows = g.F.RowFamily.rows_of c.args.rows.now net in
     let node = c.items.room.decisions.items in
-    let frees = c.args.known.frees.now in
-    let known = c.requires.watches in
-    let watches = map (option_map (λ (w : Vec g.row.F-Row.Denot Global). w.items)) c.args.known.watches.now in
+    let frees = c.args.known.now.frees.now in
+    let known = c.requires.known.watched in
+    let watches = map (option_map (λ (w : Vec g.row.F-Row.Denot Global). w.items)) c.args.known.now.watches.now in
     let ways = c.items.invariant.at c.items-test.true in
     let less = watches_less rows bids known.loads (yes_load rows bids node) (λ row none. open_load rows bids row c.args.tree.now c.items.item-index node (to_come node) ways (known.split row none)) frees watches known.are in
     subst (λ (w : Summed g.row.F.Denot). AreWatches (g.F.RowFamily.rows_of w.family w.net) w.bids (yes_load (g.F.RowFamily.rows_of w.family w.net) w.bids w.node) frees watches)
@@ -50,15 +50,15 @@ item_bound-requires-clause-instance g c =
 pub item_bound-requires-clause-formed : goal.item_bound-requires-clause-formed
 item_bound-requires-clause-formed g c =
     let cmp = g.F.Row.Ord.cmp in
-    let here = all_here (IsFormedItem cmp c.args.inst.net.now (length c.args.inst.bids.now)) c.args.tree.now c.items.item-index c.item-item.result c.items-test.true c.item-item.is c.requires.items in
+    let here = all_here (IsFormedItem cmp c.args.inst.net.now (length c.args.inst.bids.now)) c.args.tree.now c.items.item-index c.item-item.result c.items-test.true c.item-item.is c.requires.tree.items in
     subst (λ (w : Summed g.row.F.Denot). IsFormedItem cmp w.net (length w.bids) c.item-item.result) (sym c.of-node.ensures) here
 
 pub item_bound-requires-clause-frees : goal.item_bound-requires-clause-frees
-item_bound-requires-clause-frees g c = subst (λ (w : Summed g.row.F.Denot). AreFree w.net w.bids c.args.known.frees.now) (sym c.of-node.ensures) c.requires.frees
+item_bound-requires-clause-frees g c = subst (λ (w : Summed g.row.F.Denot). AreFree w.net w.bids c.args.known.now.frees.now) (sym c.of-node.ensures) c.requires.known.best
 
 pub item_bound-requires-clause-prices : goal.item_bound-requires-clause-prices
 item_bound-requires-clause-prices g c =
-    let here = all_here (HasPrices (g.F.RowFamily.rows_of c.args.rows.now c.args.inst.net.now)) c.args.tree.now c.items.item-index c.item-item.result c.items-test.true c.item-item.is c.requires.prices in
+    let here = all_here (HasPrices (g.F.RowFamily.rows_of c.args.rows.now c.args.inst.net.now)) c.args.tree.now c.items.item-index c.item-item.result c.items-test.true c.item-item.is c.requires.tree.prices in
     subst (λ (w : Summed g.row.F.Denot). HasPrices (g.F.RowFamily.rows_of w.family w.net) c.item-item.result) (sym c.of-node.ensures) here
 
 pub pass-requires-clause-room : goal.pass-requires-clause-room
@@ -66,12 +66,12 @@ pass-requires-clause-room g c = c.items.invariant.kept
 
 pub pass-requires-clause-formed : goal.pass-requires-clause-formed
 pass-requires-clause-formed g c =
-    all_here (IsFormedItem g.F.Row.Ord.cmp c.args.inst.net.now (length c.args.inst.bids.now)) c.args.tree.now c.items.item-index c.item-item.result c.items-test.true c.item-item.is c.requires.items
+    all_here (IsFormedItem g.F.Row.Ord.cmp c.args.inst.net.now (length c.args.inst.bids.now)) c.args.tree.now c.items.item-index c.item-item.result c.items-test.true c.item-item.is c.requires.tree.items
 
 pub pass-requires-clause-undecided : goal.pass-requires-clause-undecided
 pass-requires-clause-undecided g c =
     let v = c.items.room.decisions.items in
-    here_of_all c.args.tree.now c.items.item-index c.item-item.result v c.items-test.true c.item-item.is c.items.invariant.at (λ (p : List Decision × Item g.row.F-Row.Denot). SplitsUndecided p.0 p.1) c.requires.splits
+    here_of_all c.args.tree.now c.items.item-index c.item-item.result v c.items-test.true c.item-item.is c.items.invariant.at (λ (p : List Decision × Item g.row.F-Row.Denot). SplitsUndecided p.0 p.1) c.requires.tree.splits
 
 pub items-preserved : goal.items-preserved
 items-preserved g c =
@@ -91,7 +91,7 @@ items-preserved g c =
     let P = IsGreatestOf net rows bids in
     record {
       kept = c.in_ok-pass.ensures.room;
-      at = at_more tree i item v c.items-test.true c.item-item.is at c.requires.whole next c.in_ok-pass.ensures.next;
+      at = at_more tree i item v c.items-test.true c.item-item.is at c.requires.tree.whole next c.in_ok-pass.ensures.next;
       so_far = subst (P (placed root (take (i + 1) tree))) (sym c.greater-greatest.ensures) (subst (λ ps. P ps (greater_of c.items.greatest c.in_ok-cents.cents)) (sym (place_is tree i item v c.items-test.true c.item-item.is at)) more);
     }
 

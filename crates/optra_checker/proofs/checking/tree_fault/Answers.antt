@@ -32,18 +32,13 @@ leaves_hold-requires-clause-items g c =
 pub leaves_hold-requires-clause-splits : goal.leaves_hold-requires-clause-splits
 leaves_hold-requires-clause-splits g c = c.in_ok-splits_hold.ensures.0 c.if-not-branch.false
 
-pub bound_holds-requires-clause-whole : goal.bound_holds-requires-clause-whole
-bound_holds-requires-clause-whole g c = subst IsTree (sym c.items-tree.ensures) c.requires.formed.whole
-
-pub bound_holds-requires-clause-items : goal.bound_holds-requires-clause-items
-bound_holds-requires-clause-items g c =
-    subst (All (IsFormedItem g.F.Row.Ord.cmp c.args.inst.net.now (length c.args.inst.bids.now))) (sym c.items-tree.ensures) c.requires.formed.items
-
-pub bound_holds-requires-clause-splits : goal.bound_holds-requires-clause-splits
-bound_holds-requires-clause-splits g c = c.in_ok-splits_hold.ensures.0 c.if-not-branch.false
-
-pub bound_holds-requires-clause-prices : goal.bound_holds-requires-clause-prices
-bound_holds-requires-clause-prices g c = c.prices_hold.ensures.0 c.if-not-prices_hold.false
+pub bound_holds-requires : goal.bound_holds-requires
+bound_holds-requires g c = record {
+  whole = subst IsTree (sym c.items-tree.ensures) c.requires.formed.whole;
+  items = subst (All (IsFormedItem g.F.Row.Ord.cmp c.args.inst.net.now (length c.args.inst.bids.now))) (sym c.items-tree.ensures) c.requires.formed.items;
+  splits = c.in_ok-splits_hold.ensures.0 c.if-not-branch.false;
+  prices = c.prices_hold.ensures.0 c.if-not-prices_hold.false;
+}
 
 pub returns-then-not-branch-2 : goal.returns-then-not-branch-2
 returns-then-not-branch-2 g c =

@@ -1,4 +1,4 @@
-use Rattle.std.proofs.Common.{◌≡◌, ◌+◌, ◌≤◌, ◌∙◌, Some, slice_get, length, sym, arith}
+use Rattle.std.proofs.Common.{◌≡◌, ◌+◌, ◌≤◌, ◌∙◌, Some, slice_get, length, refl, sym, arith}
 use Rattle.optra_walk.specs.Families.{total_of}
 use Rattle.optra_node.proofs.LeastLemmas.{none_past}
 use Rattle.optra_node.proofs.RaiseLemmas.{raised_all, raised_more, still}
@@ -87,3 +87,12 @@ returns-clause-within g c =
     let added = raised_all cmp g.met.F.Row.Ord.total g.met.F.RowFamily.tells_apart used lists.ascending uses (total_of cmp c.args.totals.now) lists.used
     (total_of cmp c.loop-k.totals) c.loop-k.k past c.loop-k.invariant.raised in
     fits_all rows cmp (total_of cmp c.args.totals.now) (total_of cmp c.loop-k.totals) uses used c.loop-k.k c.loop-k.fits lists past c.requires.within added c.loop-k.invariant.fit
+
+pub loop-k-init : goal.loop-k-init
+loop-k-init g c = record {
+  raised = record { done = λ j row l. absurd (omega (arith, l)); rest = λ q none. refl };
+  fit = (λ t j row l. absurd (omega (arith, l)), λ all. refl);
+}
+
+pub loop-k-smaller : goal.loop-k-smaller
+loop-k-smaller g c = omega (arith, c.loop-k-test.true)

@@ -11,3 +11,12 @@ returns g c =
     let rows = g.F.RowFamily.rows_of node.family node.net in
     subst (λ (r : Bool). IsTrue r ↔ IsSomeAnd (slice_get node.bids c.args.bid) (IsStuck node.net rows node.bids node.node c.args.bid)) (sym (flip c.is_none.result (is_some c.offer_of.result) c.is_none.ensures))
     (stuck_at node.net rows node.bids node.node c.deref-2.result.now c.args.bid c.offer_of.result c.requires.bid c.offer_of.ensures.best)
+
+pub best_found-requires-clause-bid : goal.best_found-requires-clause-bid
+best_found-requires-clause-bid g c = c.requires.bid
+
+pub offer_of-requires-clause-bid : goal.offer_of-requires-clause-bid
+offer_of-requires-clause-bid g c = c.requires.bid
+
+pub offer_of-requires-clause-size : goal.offer_of-requires-clause-size
+offer_of-requires-clause-size g c = c.in_ok-best.ensures.size

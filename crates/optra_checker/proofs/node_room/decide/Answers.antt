@@ -1,4 +1,4 @@
-use Rattle.std.proofs.Common.{length}
+use Rattle.std.proofs.Common.{length, arith}
 use Rattle.optra_checker.proofs.IndexLemmas.{own_within, yes_within, buckets_count}
 use Rattle.optra_checker.proofs.OpenLemmas.{open_push}
 use Rattle.optra_checker.proofs.node_room.decide.Goals as goal
@@ -27,3 +27,6 @@ put-requires-clause-yes g c = yes_within (length c.args.inst.bids.now) c.args.ro
 
 pub put-requires-clause-buckets : goal.put-requires-clause-buckets
 put-requires-clause-buckets g c = buckets_count (length c.args.inst.bids.now) c.args.room.now.decisions.items c.args.room.now.index c.requires.room.indexed
+
+pub add_decision-requires-clause-room : goal.add_decision-requires-clause-room
+add_decision-requires-clause-room g c row = let few = c.requires.room.few row in omega (arith, few)

@@ -14,3 +14,9 @@ returns-in-Split-clause-next g c =
     let no : Decision = decide_not c.in-Split.bid c.in-Split.leg in
     on_ok_weaker c.decide.result
     (λ is. inr (ap (λ item. children node item ++ to_come node) c.in-Split.is ∙ ap (λ n. n ∷ (node ++ no ∷ []) ∷ to_come node) (sym is) ∙ split_opens node next yes is refl)) c.decide.ensures.more
+
+pub decide-requires-clause-room : goal.decide-requires-clause-room
+decide-requires-clause-room g c = c.requires.room
+
+pub turn-requires : goal.turn-requires
+turn-requires g c = c.requires.room

@@ -1,4 +1,5 @@
-use Rattle.std.proofs.Common.{sym, ◌∙◌, inr}
+use Rattle.std.proofs.Common.{◌∷◌, [], length, refl, sym, ap, ◌∙◌, inr, arith}
+use Rattle.std.proofs.lemmas.List.{length-append}
 use Rattle.optra_checker.proofs.ToComeLemmas.{no_leaves_none, yes_leaves_no}
 use Rattle.std.proofs.lemmas.Result.{on_ok_weaker}
 use Rattle.optra_checker.proofs.node_room.turn.Goals as goal
@@ -19,3 +20,25 @@ back-preserved g c = record {
   kept = c.undo-last.ensures.room;
   to_come_is = sym (no_leaves_none c.back.room.decisions.items c.undo-last.new.room.decisions.items c.undo-last.result c.undo-last.ensures.last c.if-last.false) ∙ c.back.invariant.to_come_is;
 }
+
+pub back-init : goal.back-init
+back-init g c = record { kept = c.requires; to_come_is = refl }
+
+pub back-smaller : goal.back-smaller
+back-smaller g c =
+    let before = c.undo-last.new.room.decisions.items in
+    let last = ap length c.undo-last.ensures.last in
+    let one = length-append before (c.undo-last.result ∷ []) in
+    omega (arith, last, one)
+
+pub undo-last-requires-clause-room : goal.undo-last-requires-clause-room
+undo-last-requires-clause-room g c = c.back.invariant.kept
+
+pub decide-requires-clause-room : goal.decide-requires-clause-room
+decide-requires-clause-room g c = c.undo-last.ensures.room
+
+pub decide-requires-clause-formed : goal.decide-requires-clause-formed
+decide-requires-clause-formed g c = let formed = c.undo-last.ensures.formed in record { in_range = formed.in_range; formed = formed.formed }
+
+pub decide-requires-clause-undecided : goal.decide-requires-clause-undecided
+decide-requires-clause-undecided g c = c.undo-last.ensures.undecided

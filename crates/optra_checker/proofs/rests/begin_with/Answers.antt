@@ -33,3 +33,6 @@ returns-in_err-rest-clause-asks g c = c.requires.asks
 
 pub returns-in_err-cost-clause-asks : goal.returns-in_err-cost-clause-asks
 returns-in_err-cost-clause-asks g c = c.in_err-cost.ensures.asks
+
+pub leg_cost-requires-clause-track : goal.leg_cost-requires-clause-track
+leg_cost-requires-clause-track g c = c.requires.track

@@ -1,4 +1,4 @@
-use Rattle.std.proofs.Common.{ℕ, ap, ◌∙◌, arith, slice_set}
+use Rattle.std.proofs.Common.{ℕ, refl, ap, ◌∙◌, arith, slice_set}
 use Rattle.std.proofs.lemmas.Option.{IfSome_then}
 use Rattle.optra_checker.specs.Tables.{rests_of}
 use Rattle.optra_checker.proofs.AtLemmas.{not_both}
@@ -48,3 +48,24 @@ returns-clause-asks g c = c.spot_rest-rest.ensures.asks
 
 pub returns-then-not-was_time-clause-asks : goal.returns-then-not-was_time-clause-asks
 returns-then-not-was_time-clause-asks g c = c.requires.asks
+
+pub was_time-requires-clause-behind : goal.was_time-requires-clause-behind
+was_time-requires-clause-behind g c = c.requires.filled.reach.behind
+
+pub place-requires-clause-small : goal.place-requires-clause-small
+place-requires-clause-small g c = c.requires.filled.is_table.small
+
+pub place-requires-clause-placed : goal.place-requires-clause-placed
+place-requires-clause-placed g c = c.requires.placed
+
+pub returns-clause-layout : goal.returns-clause-layout
+returns-clause-layout g c = c.put.ensures.layout
+
+pub returns-clause-reach : goal.returns-clause-reach
+returns-clause-reach g c = c.put.ensures.reach
+
+pub returns-then-not-was_time-clause-layout : goal.returns-then-not-was_time-clause-layout
+returns-then-not-was_time-clause-layout g c = refl
+
+pub returns-then-not-was_time-clause-reach : goal.returns-then-not-was_time-clause-reach
+returns-then-not-was_time-clause-reach g c = refl

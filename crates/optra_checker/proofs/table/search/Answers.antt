@@ -1,5 +1,5 @@
 -- The table is turned to the bid's layout and reach, which fit one another.
-use Rattle.std.proofs.Common.{◌∙◌, sym, subst}
+use Rattle.std.proofs.Common.{◌∙◌, sym, subst, arith}
 use Rattle.optra_checker.specs.Asks.{AreAsked}
 use Rattle.optra_checker.specs.Reaches.{IsReach}
 use Rattle.optra_checker.specs.Settings.{IsSetting}
@@ -10,10 +10,10 @@ pub turn_to-requires-clause-small : goal.turn_to-requires-clause-small
 turn_to-requires-clause-small g c = c.make_layout.ensures.small
 
 pub turn_to-requires-clause-from : goal.turn_to-requires-clause-from
-turn_to-requires-clause-from g c = c.in_ok-reach.ensures.from.len ∙ sym c.make_layout.ensures.laid.stations
+turn_to-requires-clause-from g c = c.in_ok-reach.ensures.behind.len 0 (omega arith) ∙ sym c.make_layout.ensures.laid.stations
 
 pub turn_to-requires-clause-on : goal.turn_to-requires-clause-on
-turn_to-requires-clause-on g c = c.in_ok-reach.ensures.on.len ∙ sym c.make_layout.ensures.laid.stations
+turn_to-requires-clause-on g c = c.in_ok-reach.ensures.ahead.len 0 (omega arith) ∙ sym c.make_layout.ensures.laid.stations
 
 pub fill-requires-clause-table : goal.fill-requires-clause-table
 fill-requires-clause-table g c = c.in_ok-turn_to.ensures.table

@@ -1,3 +1,5 @@
+use Rattle.std.proofs.Common.{slice_get}
+use Rattle.optra_checker.proofs.FreeLemmas.{free_size}
 use Rattle.optra_checker.proofs.terms.best_at.Goals as goal
 
 pub stays_free-requires-clause-free : goal.stays_free-requires-clause-free
@@ -29,3 +31,8 @@ stays_free-requires-clause-bid g c = c.requires.bid
 
 pub best_found-requires-clause-bid : goal.best_found-requires-clause-bid
 best_found-requires-clause-bid g c = c.requires.bid
+
+pub returns-then-stays_free-clause-size : goal.returns-then-stays_free-clause-size
+returns-then-stays_free-clause-size g c =
+    let node = c.args.node.now in
+    free_size node.net (slice_get node.bids c.args.bid) c.args.free.now c.requires.free

@@ -1,12 +1,13 @@
-use Rattle.std.proofs.Common.{sym, subst, rules}
+use Rattle.std.proofs.Common.{slice_get, sym, subst, rules}
 use Rattle.std.specs.Prelude.{FitsSigned, option_map}
 use Rattle.std.specs.Int.{w128}
 use Rattle.std.proofs.lemmas.Int.{to_z-of_z}
 use Rattle.optra_network.specs.Net.{IsProper}
 use Rattle.optra_node.specs.Duals.{IsGreatest, IsOffer}
 use Rattle.optra_node.specs.Nodes.{kind_at}
-use Rattle.optra_checker.proofs.FreeLemmas.{free_usable, stays_best}
-use Rattle.optra_checker.proofs.LeafLemmas.{best_no}
+use Rattle.optra_checker.specs.Weights.{IsWorthSize}
+use Rattle.optra_checker.proofs.FreeLemmas.{free_size, free_usable, stays_best}
+use Rattle.optra_checker.proofs.LeafLemmas.{best_no, size_above}
 use Rattle.optra_checker.proofs.WatchLemmas.{let_be_free, no_yes}
 use Rattle.optra_checker.proofs.terms.offer_at.Goals as goal
 
@@ -56,3 +57,11 @@ best_at-requires-clause-bid g c = c.requires.bid
 
 pub is_let_be-requires : goal.is_let_be-requires
 is_let_be-requires g c = c.requires.bid
+
+pub returns-then-is_let_be-clause-size : goal.returns-then-is_let_be-clause-size
+returns-then-is_let_be-clause-size g c =
+    let node = c.args.node.now in
+    let free = c.args.free.now in
+    let fits : FitsSigned w128 c.or_zero.result = search rules in
+    let small = free_size node.net (slice_get node.bids c.args.bid) free c.requires.free in
+    subst IsWorthSize (sym (to_z-of_z w128 c.or_zero.result fits)) (size_above free.best c.or_zero.result small c.or_zero.ensures.reached)

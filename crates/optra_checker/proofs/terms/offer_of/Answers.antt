@@ -4,7 +4,8 @@ use Rattle.std.specs.Int.{w128}
 use Rattle.std.proofs.lemmas.Int.{to_z-of_z}
 use Rattle.optra_network.specs.Net.{IsProper}
 use Rattle.optra_node.specs.Duals.{IsGreatest, IsOffer}
-use Rattle.optra_checker.proofs.LeafLemmas.{best_yes, best_no}
+use Rattle.optra_checker.specs.Weights.{IsWorthSize}
+use Rattle.optra_checker.proofs.LeafLemmas.{best_yes, best_no, size_above}
 use Rattle.optra_checker.proofs.terms.offer_of.Goals as goal
 
 pub returns-then-has_yes-clause-best : goal.returns-then-has_yes-clause-best
@@ -29,3 +30,8 @@ returns-else-has_yes-clause-best g c b at =
 
 pub returns-then-has_yes-clause-size : goal.returns-then-has_yes-clause-size
 returns-then-has_yes-clause-size g c = c.requires.size
+
+pub returns-else-has_yes-clause-size : goal.returns-else-has_yes-clause-size
+returns-else-has_yes-clause-size g c =
+    let fits : FitsSigned w128 c.or_zero-least.result = search rules in
+    subst IsWorthSize (sym (to_z-of_z w128 c.or_zero-least.result fits)) (size_above c.args.best c.or_zero-least.result c.requires.size c.or_zero-least.ensures.reached)

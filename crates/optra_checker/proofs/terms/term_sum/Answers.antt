@@ -1,4 +1,4 @@
-use Rattle.std.proofs.Common.{◌+◌, ◌<◌, IfSome, Vec, Global, sym, ap, subst, arith, length}
+use Rattle.std.proofs.Common.{◌≡◌, ◌+◌, ◌<◌, IfSome, Vec, Global, sym, ap, subst, arith, length}
 use Rattle.std.specs.Prelude.{option_map}
 use Rattle.std.proofs.lemmas.List.{length-map}
 use Rattle.std.proofs.lemmas.Int.{ints}
@@ -87,3 +87,16 @@ offer_at-requires-clause-bid g c = let l = c.bids-test.true in let same = ap len
 
 pub plus-sum-requires-clause-best : goal.plus-sum-requires-clause-best
 plus-sum-requires-clause-best g c = c.in_ok-best.ensures.size
+
+pub bids-smaller : goal.bids-smaller
+bids-smaller g c = omega (arith, c.bids-test.true)
+
+pub returns-clause-terms : goal.returns-clause-terms
+returns-clause-terms g c =
+    let node = c.args.node.now in
+    let rows = g.F.RowFamily.rows_of node.family node.net in
+    let end = c.bids.auto.bid-end in
+    let past = c.bids-test.false in
+    let same = ap length c.inst.ensures.bids in
+    let all : c.bids.bid ≡ length node.bids = omega (arith, end, past, same) in
+    subst (λ n. AreTerms node.net rows node.bids node.node c.args.prices.now n c.bids.sum) all c.bids.invariant.terms

@@ -13,7 +13,7 @@ arcs-preserved g c =
     let w : FitsSigned w64 c.of.result = search rules in
     let rest : FitsSigned w64 (get_or c.args.sums.now (get_or c.args.arcs.now c.arcs.k no_arc).to (pos 0)) = search rules in
     let want : FitsSigned w64 c.args.sum = search rules in
-    let off = simp to_z-of_z at c.arcs-test.true in
+    let off = simp to_z-of_z at (rw c.at.ensures at c.arcs-test.true) in
     let from = c.arcs.invariant.from in
     record {
       from = omega arith;
@@ -32,7 +32,7 @@ returns g c =
     let sum : FitsSigned w64 (c.of.result +ℤ get_or c.args.sums.now (get_or c.args.arcs.now c.arcs.k no_arc).to (pos 0)) =
     subst (λ z. FitsSigned w64 (z +ℤ get_or c.args.sums.now (get_or c.args.arcs.now c.arcs.k no_arc).to (pos 0))) (sym v) at.fits in
     let want : FitsSigned w64 c.args.sum = search rules in
-    let on = simp to_z-of_z at c.arcs-test.false in
+    let on = simp to_z-of_z at (rw c.at.ensures at c.arcs-test.false) in
     let passed = simp to_z-of_z at c.arcs.invariant.passed in
     first_by _ _ c.args.span c.arcs.k (c.arcs.invariant.from, omega (arith, stands.1.0, stands.1.1)) (sym e ∙ sym (to_z-of_z sum) ∙ ap (to_z w64) on ∙ to_z-of_z want)
     passed

@@ -8,9 +8,9 @@ pub returns-then-sum-lt-LEAST-clause-none : goal.returns-then-sum-lt-LEAST-claus
 returns-then-sum-lt-LEAST-clause-none g c =
     let sum : FitsSigned w64 (get_or c.sweep.new.sums 0 (pos 0)) = search rules in
     let low = simp to_z-of_z at c.if-sum-lt-LEAST.true in
-    no_path c.args.arcs.now c.args.ends.now c.args.spans.now _ _ c.args.most c.requires.narrow c.sweep.new.sums _ refl c.sweep.ensures.summed (is_below _ _ low)
+    no_path c.args.arcs.now c.args.ends.now c.args.starts.now _ _ c.args.most c.requires.narrow c.sweep.new.sums _ refl c.sweep.ensures.summed (is_below _ _ low)
 
 pub returns-clause-best : goal.returns-clause-best
 returns-clause-best g c =
     let sum : FitsSigned w64 (get_or c.sweep.new.sums 0 (pos 0)) = search rules in
-    simp to_z-of_z (first_best c.args.arcs.now c.args.ends.now c.args.spans.now _ _ c.args.most c.requires.narrow c.sweep.new.sums _ c.trace.new.path.items refl c.in_ok-trace.ensures)
+    simp to_z-of_z (first_best c.args.arcs.now c.args.ends.now c.args.starts.now _ _ c.args.most c.requires.narrow c.sweep.new.sums _ c.trace.new.path.items refl c.in_ok-trace.ensures)

@@ -15,7 +15,7 @@ loop-left-preserved-then-rest g c =
       sums = c.loop-left.invariant.sums;
       next = c.loop-left.invariant.next;
       few = omega arith;
-      done = skip_at c.args.arcs.now c.args.ends.now _ _ c.requires.forward _ _ c.loop-left.left (c.loop-left.left - 1) c.index-rest.result.now (omega arith) (omega arith) c.loop-left.invariant.sums c.index-rest.ensures
+      done = skip_at c.args.arcs.now c.args.ends.now _ _ c.requires.forward _ _ c.loop-left.left (c.loop-left.left - 1) c.index-rest.result.now (omega arith) (omega arith) c.loop-left.invariant.sums (rw c.at-from.ensures at c.index-rest.ensures)
           (elim c.then-rest.branch [
             | then-rest-via-then-rest w ↦ inr (sym (to_z-of_z rest) ∙ ap (to_z w128) w.if-rest.true)
             | then-rest-via-else-rest+then-not-allowed w ↦ inl (sym w.allowed.ensures ∙ w.if-not-allowed.true)
@@ -29,7 +29,7 @@ overflow_add-sum g c =
     let rest : FitsSigned w128 c.index-rest.result.now = search rules in
     simp to_z-of_z
     (alive_sum c.args.arcs.now c.args.ends.now _ _ c.requires.forward _ _ c.loop-left.left (c.loop-left.left - 1) c.of.result c.index-rest.result.now (omega arith) (omega arith) c.loop-left.invariant.sums
-    (c.requires.weights (c.loop-left.left - 1) (omega arith)) c.of.ensures c.index-rest.ensures (λ e. c.if-rest.false (ap (of_z w128) e)) c.loop-left.invariant.done)
+    (c.requires.weights (c.loop-left.left - 1) (omega arith)) c.of.ensures (rw c.at-from.ensures at c.index-rest.ensures) (λ e. c.if-rest.false (ap (of_z w128) e)) c.loop-left.invariant.done)
 
 pub loop-left-preserved-then-wins : goal.loop-left-preserved-then-wins
 loop-left-preserved-then-wins g c =
@@ -39,15 +39,15 @@ loop-left-preserved-then-wins g c =
     let alive : c.index-rest.result.now ≡ negsuc 170141183460469231731687303715884105727 → ⊥ = λ e. c.if-rest.false (ap (of_z w128) e) in
     let sum : FitsSigned w128 (c.of.result +ℤ c.index-rest.result.now) =
     alive_sum c.args.arcs.now c.args.ends.now _ _ c.requires.forward _ _ c.loop-left.left (c.loop-left.left - 1) c.of.result c.index-rest.result.now (omega arith) (omega arith) c.loop-left.invariant.sums
-    (c.requires.weights (c.loop-left.left - 1) (omega arith)) c.of.ensures c.index-rest.ensures alive c.loop-left.invariant.done in
+    (c.requires.weights (c.loop-left.left - 1) (omega arith)) c.of.ensures (rw c.at-from.ensures at c.index-rest.ensures) alive c.loop-left.invariant.done in
     let wins = simp to_z-of_z at (c.wins.ensures.0 c.if-wins.true) in
     record {
       sums = length-set _ _ _ ∙ c.loop-left.invariant.sums;
       next = length-set _ _ _ ∙ c.loop-left.invariant.next;
       few = omega arith;
-      done = simp to_z-of_z (take_at c.args.arcs.now c.args.ends.now _ _ c.requires.forward _ _ c.loop-left.left (c.loop-left.left - 1) c.of.result c.index-rest.result.now c.index.result.now c.index-in-loop-left.result.now
+      done = rw c.at-from.ensures (simp to_z-of_z (take_at c.args.arcs.now c.args.ends.now _ _ c.requires.forward _ _ c.loop-left.left (c.loop-left.left - 1) c.of.result c.index-rest.result.now c.index.result.now c.index-in-loop-left.result.now
           (omega arith) (omega arith) c.loop-left.invariant.sums c.loop-left.invariant.next (c.requires.weights (c.loop-left.left - 1) (omega arith)) c.of.ensures
-          (sym c.allowed.ensures ∙ c.if-not-allowed.false) c.index-rest.ensures alive c.index.ensures c.index-in-loop-left.ensures wins c.loop-left.invariant.done);
+          (sym c.allowed.ensures ∙ c.if-not-allowed.false) (rw c.at-from.ensures at c.index-rest.ensures) alive (rw c.at-from.ensures at c.index.ensures) (rw c.at-from.ensures at c.index-in-loop-left.ensures) wins c.loop-left.invariant.done));
     }
 
 pub loop-left-preserved : goal.loop-left-preserved
@@ -58,7 +58,7 @@ loop-left-preserved g c =
     let alive : c.index-rest.result.now ≡ negsuc 170141183460469231731687303715884105727 → ⊥ = λ e. c.if-rest.false (ap (of_z w128) e) in
     let sum : FitsSigned w128 (c.of.result +ℤ c.index-rest.result.now) =
     alive_sum c.args.arcs.now c.args.ends.now _ _ c.requires.forward _ _ c.loop-left.left (c.loop-left.left - 1) c.of.result c.index-rest.result.now (omega arith) (omega arith) c.loop-left.invariant.sums
-    (c.requires.weights (c.loop-left.left - 1) (omega arith)) c.of.ensures c.index-rest.ensures alive c.loop-left.invariant.done in
+    (c.requires.weights (c.loop-left.left - 1) (omega arith)) c.of.ensures (rw c.at-from.ensures at c.index-rest.ensures) alive c.loop-left.invariant.done in
     let wins = simp to_z-of_z at c.wins.ensures.1 in
     record {
       sums = c.loop-left.invariant.sums;
@@ -66,7 +66,7 @@ loop-left-preserved g c =
       few = omega arith;
       done = lose_at c.args.arcs.now c.args.ends.now _ _ c.requires.forward _ _ c.loop-left.left (c.loop-left.left - 1) c.of.result c.index-rest.result.now c.index.result.now c.index-in-loop-left.result.now
           (omega arith) (omega arith) c.loop-left.invariant.sums c.loop-left.invariant.next (c.requires.weights (c.loop-left.left - 1) (omega arith)) c.of.ensures
-          c.index-rest.ensures alive c.index.ensures c.index-in-loop-left.ensures (λ h. let t = wins h in let f = c.if-wins.false in cc) c.loop-left.invariant.done;
+          (rw c.at-from.ensures at c.index-rest.ensures) alive (rw c.at-from.ensures at c.index.ensures) (rw c.at-from.ensures at c.index-in-loop-left.ensures) (λ h. let t = wins h in let f = c.if-wins.false in cc) c.loop-left.invariant.done;
     }
 
 pub loop-left-init : goal.loop-left-init
@@ -76,8 +76,8 @@ loop-left-init g c =
       sums = grind (arith, common_steps);
       next = grind (arith, common_steps);
       few = omega arith;
-      done = start_at c.args.arcs.now c.args.ends.now _ _ c.requires.forward _ _
-          (λ n l. ap (λ (xs : List ℕ). get_or xs n 4294967295) next ∙ get_or-replicate _ _ _ _ l) c.requires.sums;
+      done = rw c.len-left.ensures (start_at c.args.arcs.now c.args.ends.now _ _ c.requires.forward _ _
+          (λ n l. ap (λ (xs : List ℕ). get_or xs n 4294967295) next ∙ get_or-replicate _ _ _ _ l) c.requires.sums);
     }
 
 pub returns-clause-done : goal.returns-clause-done

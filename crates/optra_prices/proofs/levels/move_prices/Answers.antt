@@ -1,9 +1,9 @@
 use Rattle.std.proofs.Common.{◌≡◌, ◌<◌, ◌≤◌, ℕ, List, length, refl, sym, ap, ◌∙◌, subst, arith, rules, to_z, of_z}
-use Rattle.std.specs.Prelude.{ℤ, pos, ◌≤ℤ◌, slice_index, FitsSigned}
+use Rattle.std.specs.Prelude.{ℤ, pos, ◌≤ℤ◌, slice_index, slice_index_or, FitsSigned}
 use Rattle.std.specs.Int.{w64}
 use Rattle.std.proofs.lemmas.Int.{ints, to_z-of_z}
 use Rattle.std.proofs.lemmas.List.{get_or_read}
-use Rattle.optra_prices.specs.Columns.{IsColumns}
+use Rattle.optra_prices.specs.Columns.{IsColumns, PricesAllButDue}
 use Rattle.optra_prices.specs.Levels.{next_at, price_of, use_of, capacity_of}
 use Rattle.optra_prices.specs.Steps.{next_price}
 use Rattle.optra_prices.proofs.HoldLemmas.{next_idle}
@@ -17,13 +17,19 @@ rows-init c =
     let fits : FitsSigned w64 c.args.by = search rules in
     let whole = to_z-of_z w64 c.args.by fits in
     let one : pos 1 ≤ℤ by = let low = c.requires.by.0 in omega (arith, ints) in
+    let now = c.sort_active.new.levels in
+    let sorted = c.sort_active.ensures in
+    let same = sorted.rest in
     record {
-      levels = c.requires.levels;
+      levels = sorted.levels;
       columns = c.requires.columns;
-      due = c.requires.due;
-      moving = moving_first (next_at by old) old c.requires.levels (λ n idle. idle.0 ∙ sym (ap (λ (z : ℤ). next_price by z (use_of old n) (capacity_of old n)) idle.0 ∙ next_idle by (use_of old n) (capacity_of old n) one idle.1));
+      due = subst (λ prices. PricesAllButDue prices.items c.args.columns.now) (sym sorted.prices) c.requires.due;
+      moving = moving_first (next_at by old) old now sorted.levels sorted.prices (λ n idle.
+          let free = ap (λ prices. slice_index_or prices.items n (pos 0)) (sym sorted.prices) ∙ idle.0 in
+          let few = subst (λ (us : List ℕ). slice_index us n ≤ capacity_of old n) same.uses (subst (λ (cs : List ℕ). use_of now n ≤ slice_index cs n) same.capacities idle.1) in
+          idle.0 ∙ sym (ap (λ (z : ℤ). next_price by z (use_of old n) (capacity_of old n)) free ∙ next_idle by (use_of old n) (capacity_of old n) one few));
       grouped = refl;
-      rest = record { uses = refl; capacities = refl };
+      rest = same;
     }
 
 pub rows-preserved : goal.rows-preserved

@@ -9,7 +9,7 @@ rows-init c = record {
   levels = c.requires.levels;
   columns = c.requires.columns;
   due = c.requires.due;
-  moving = moving_first (λ n. pos 0) c.args.levels.now c.requires.levels (λ n idle. idle.0);
+  moving = moving_first (λ n. pos 0) c.args.levels.now c.args.levels.now c.requires.levels refl (λ n idle. idle.0);
   grouped = refl;
   rest = record { uses = refl; capacities = refl };
 }

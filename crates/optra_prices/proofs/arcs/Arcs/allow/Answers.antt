@@ -2,7 +2,7 @@ use Rattle.std.proofs.Common.{◌≡◌, ◌<◌, ◌∙◌, length, sym, ap, su
 use Rattle.optra_prices.specs.ArcTerms.{ArcTerm}
 use Rattle.optra_prices.specs.NarrowArcs.{with_mark}
 use Rattle.optra_prices.specs.Tables.{no_arc}
-use Rattle.optra_prices.proofs.NarrowArcLemmas.{marks_narrow, marks_wide, same_arc, within_wide}
+use Rattle.optra_prices.proofs.NarrowArcLemmas.{closed_most, marks_narrow, marks_wide, same_arc, within_wide}
 use Rattle.optra_prices.proofs.arcs.Arcs.allow.Goals as goal
 
 pub returns-then-k-count : goal.returns-then-k-count
@@ -21,3 +21,10 @@ returns-else-k-count c =
     let within = within_wide i.values.items i.narrow.items i.wide.items c.len-count.result c.args.k long c.if-k-count.false (subst (λ (xs : List ArcTerm). c.args.k < length xs) (sym c.self.view_is) c.requires) in
     marks_wide i.values.items i.narrow.items i.wide.items c.len-count.result c.args.k c.args.allowed arc c.allow.new.self long c.if-k-count.false within c.index_mut-else-k-count.ensures.value marked
     ∙ ap (λ (xs : List ArcTerm). set xs c.args.k (with_mark (get_or xs c.args.k no_arc) c.args.allowed)) c.self.view_is
+
+pub closed_after-self-inside-requires-clause-few : goal.closed_after-self-inside-requires-clause-few
+closed_after-self-inside-requires-clause-few c =
+    let i = c.self.inside in
+    let is = c.self.invariant.closed_is in
+    let most = closed_most i.narrow.items in
+    omega (arith, i.narrow.ok.0)

@@ -3,7 +3,7 @@ use Rattle.std.proofs.Common.{rules, arith, ap, sym, subst, length-set, ◌-◌,
 use Rattle.optra_dag.specs.Paths.{no_arc}
 use Rattle.optra_dag.proofs.NarrowLoops.{value_by, max_is}
 use Rattle.optra_dag.proofs.NarrowWays.{fits_next, best_next, all_summed}
-use Rattle.optra_dag.proofs.narrow.sweep.Goals as goal
+use Rattle.optra_dag.proofs.narrow.sweep_any.Goals as goal
 
 pub overflow_add-sum : goal.overflow_add-sum
 overflow_add-sum g c =
@@ -12,8 +12,8 @@ overflow_add-sum g c =
     let v = value_by (g.W.NarrowWeight.allows c.args.weight.now (c.arcs.left - 1)) (g.W.NarrowWeight.weight c.args.weight.now (c.arcs.left - 1)) c.of.result c.of.ensures.allowed c.of.ensures.other in
     let w : FitsSigned w64 c.of.result = search rules in
     let rest : FitsSigned w64 (get_or c.arcs.sums (get_or c.args.arcs.now (c.arcs.left - 1) no_arc).to (pos 0)) = search rules in
-    let fits = fits_next c.args.arcs.now c.args.ends.now c.args.spans.now _ _ c.args.most c.requires.narrow c.arcs.sums c.arcs.left (c.arcs.left - 1) (omega arith) (omega arith) c.arcs.invariant.best in
-    simp to_z-of_z (subst (λ z. FitsSigned w64 (z +ℤ get_or c.arcs.sums (get_or c.args.arcs.now (c.arcs.left - 1) no_arc).to (pos 0))) (sym v) fits)
+    let fits = fits_next c.args.arcs.now c.args.ends.now c.args.starts.now _ _ c.args.most c.requires.narrow c.arcs.sums c.arcs.left (c.arcs.left - 1) (omega arith) (omega arith) c.arcs.invariant.best in
+    rw c.at-from.ensures (simp to_z-of_z (subst (λ z. FitsSigned w64 (z +ℤ get_or c.arcs.sums (get_or c.args.arcs.now (c.arcs.left - 1) no_arc).to (pos 0))) (sym v) fits))
 
 pub arcs-preserved : goal.arcs-preserved
 arcs-preserved g c =
@@ -23,24 +23,24 @@ arcs-preserved g c =
     let w : FitsSigned w64 c.of.result = search rules in
     let rest : FitsSigned w64 (get_or c.arcs.sums (get_or c.args.arcs.now (c.arcs.left - 1) no_arc).to (pos 0)) = search rules in
     let old : FitsSigned w64 (get_or c.arcs.sums (get_or c.args.arcs.now (c.arcs.left - 1) no_arc).from (pos 0)) = search rules in
-    let fits = fits_next c.args.arcs.now c.args.ends.now c.args.spans.now _ _ c.args.most c.requires.narrow c.arcs.sums c.arcs.left (c.arcs.left - 1) (omega arith) (omega arith) c.arcs.invariant.best in
+    let fits = fits_next c.args.arcs.now c.args.ends.now c.args.starts.now _ _ c.args.most c.requires.narrow c.arcs.sums c.arcs.left (c.arcs.left - 1) (omega arith) (omega arith) c.arcs.invariant.best in
     let sum : FitsSigned w64 (c.of.result +ℤ get_or c.arcs.sums (get_or c.args.arcs.now (c.arcs.left - 1) no_arc).to (pos 0)) =
     subst (λ z. FitsSigned w64 (z +ℤ get_or c.arcs.sums (get_or c.args.arcs.now (c.arcs.left - 1) no_arc).to (pos 0))) (sym v) fits in
     let e = ap (λ z. z +ℤ get_or c.arcs.sums (get_or c.args.arcs.now (c.arcs.left - 1) no_arc).to (pos 0)) v in
     let new : FitsSigned w64 c.max.result = search rules in
-    let value = simp to_z-of_z at c.max.ensures.value in
-    let self = simp to_z-of_z at c.max.ensures.self_bound in
-    let other = simp to_z-of_z at c.max.ensures.other_bound in
+    let value = simp to_z-of_z at (rw c.at-from.ensures at c.max.ensures.value) in
+    let self = simp to_z-of_z at (rw c.at-from.ensures at c.max.ensures.self_bound) in
+    let other = simp to_z-of_z at (rw c.at-from.ensures at c.max.ensures.other_bound) in
     let which = max_is (get_or c.arcs.sums (get_or c.args.arcs.now (c.arcs.left - 1) no_arc).from (pos 0))
     (c.of.result +ℤ get_or c.arcs.sums (get_or c.args.arcs.now (c.arcs.left - 1) no_arc).to (pos 0)) c.max.result value in
     record {
       long = length-set _ _ _ ∙ c.arcs.invariant.long;
       few = omega arith;
-      best = simp to_z-of_z (best_next c.args.arcs.now c.args.ends.now c.args.spans.now _ _ c.args.most c.requires.narrow c.arcs.sums c.arcs.left (c.arcs.left - 1) c.max.result
-          (omega arith) (omega arith) c.arcs.invariant.long c.arcs.invariant.best self (rw e at other) (rw e at which));
+      best = rw c.at-from.ensures (simp to_z-of_z (best_next c.args.arcs.now c.args.ends.now c.args.starts.now _ _ c.args.most c.requires.narrow c.arcs.sums c.arcs.left (c.arcs.left - 1) c.max.result
+          (omega arith) (omega arith) c.arcs.invariant.long c.arcs.invariant.best self (rw e at other) (rw e at which)));
     }
 
 pub returns-clause-summed : goal.returns-clause-summed
 returns-clause-summed g c =
     let none = c.arcs-test.false in
-    all_summed c.args.arcs.now c.args.ends.now c.args.spans.now _ _ c.args.most c.requires.narrow c.arcs.sums c.arcs.left 0 (omega arith) (λ j l f. omega arith) c.arcs.invariant.best
+    all_summed c.args.arcs.now c.args.ends.now c.args.starts.now _ _ c.args.most c.requires.narrow c.arcs.sums c.arcs.left 0 (omega arith) (λ j l f. omega arith) c.arcs.invariant.best

@@ -3,7 +3,7 @@ use Rattle.std.proofs.Common.{◌≡◌, ◌∙◌, ◌++◌, ◌∷◌, [], ℕ
 use Rattle.std.proofs.lemmas.List.{map-append}
 use Rattle.std.proofs.lemmas.Grind.{replicate_next}
 use Rattle.optra_node.specs.declared.Decision.{Decision}
-use Rattle.optra_checker.proofs.own_lists.empty_lists.Goals as goal
+use Rattle.optra_checker.proofs.decision_index.empty_lists.Goals as goal
 
 pub lists-init : goal.lists-init
 lists-init c = ap (map (λ (list : Vec Decision Global). list.items)) c.new-lists.ensures.items

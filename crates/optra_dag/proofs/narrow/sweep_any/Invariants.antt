@@ -1,7 +1,7 @@
 -- The sums of all nodes by the arcs from this one on are there.
 use Rattle.std.proofs.Common.{◌≡◌, ◌≤◌, length}
 use Rattle.optra_dag.specs.NarrowSums.{arc_value, AreBestFrom}
-use Rattle.optra_dag.proofs.narrow.sweep.Given as goal
+use Rattle.optra_dag.proofs.narrow.sweep_any.Given as goal
 
 abbrev pub invariant-arcs : goal.invariant-arcs
 invariant-arcs g l = record {

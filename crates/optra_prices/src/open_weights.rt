@@ -1,0 +1,40 @@
+//! What narrow arcs that may all be taken weigh at prices of groups, lent to a search in 64 bits.
+use crate::narrow_arc::NarrowArc;
+use optra_dag::NarrowWeight;
+use std::marker::Model;
+
+/// Narrow arcs that may all be taken, whose values are known by number, and the prices of the groups that they touch. Each
+/// of these has one.
+#[derive(Drop)]
+pub(crate) struct OpenWeights<'a> {
+    pub(crate) arcs: &'a [NarrowArc],
+    pub(crate) values: &'a [i64],
+    pub(crate) grouped: &'a [i64],
+}
+
+impl<'a> Model for OpenWeights<'a> {
+    ghost use Rattle.std.specs.Prelude.{[]};
+    ghost use Rattle.optra_prices.specs.NarrowArcs.{PricedArcs, priced_arcs, terms_of, ArePriced, AreOpen};
+
+    ghost Value = { PricedArcs };
+
+    ghost view = { λ w. priced_arcs (terms_of w.values.now w.arcs.now []) w.grouped.now };
+
+    ghost invariant = { λ w. ArePriced w.values.now w.arcs.now w.grouped.now × AreOpen w.arcs.now };
+}
+
+impl NarrowWeight for OpenWeights<'_> {
+    ghost use Rattle.std.specs.Prelude.{length};
+    ghost use Rattle.optra_prices.specs.Tables.{allows_by, narrow_weight_by};
+
+    ghost asked = { λ w. length w.arcs };
+
+    ghost allows = { λ w k. allows_by w.arcs k };
+
+    ghost weight = { λ w k. narrow_weight_by w.arcs w.grouped k };
+
+    fn of(&self, arc: u32) -> i64 {
+        let arc = &self.arcs[arc as usize];
+        self.values[arc.value as usize].wrapping_sub(self.grouped[arc.group as usize])
+    }
+}
