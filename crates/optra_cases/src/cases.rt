@@ -20,6 +20,8 @@ pub struct Case {
 pub enum Step {
     Load(HeldFile),
     Run(Run),
+    /// A run with these words, over a shelf and pens that never fail.
+    RunNever(Vec<String>),
 }
 
 #[derive(Drop)]
@@ -53,7 +55,7 @@ pub struct PenRules {
 }
 
 /// The limit and the room where a sheet names none.
-const AMPLE: u64 = 1_000_000;
+pub const AMPLE: u64 = 1_000_000;
 
 impl PenRules {
     /// Those of a pen that never fails.
@@ -120,6 +122,12 @@ impl Case {
         Ok(())
     }
 
+    /// Runs with these words over a shelf and pens that never fail.
+    pub fn run_never(&mut self, words: Vec<String>) -> Result<(), AllocError> {
+        self.steps.push(Step::RunNever(words))?;
+        Ok(())
+    }
+
     pub fn has_run(&self) -> bool {
         self.steps.iter().any(|step| step.is_run())
     }
@@ -140,11 +148,11 @@ impl Step {
     fn loads(&self, name: &str) -> bool {
         match self {
             Step::Load(file) => file.name.as_str() == name,
-            Step::Run(_) => false,
+            Step::Run(_) | Step::RunNever(_) => false,
         }
     }
 
     fn is_run(&self) -> bool {
-        matches!(self, Step::Run(_))
+        matches!(self, Step::Run(_) | Step::RunNever(_))
     }
 }

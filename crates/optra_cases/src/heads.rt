@@ -21,6 +21,7 @@ pub fn apply(
         }
         ["run"] => case.run(alloc, owned(alloc, &section.body)?)?,
         ["run", words @ ..] => case.run(alloc, owned(alloc, words)?)?,
+        ["never", words @ ..] => case.run_never(owned(alloc, words)?)?,
         ["shelf", rule, values @ ..] => set_shelf(alloc, &mut case.shelf, rule, values)?,
         ["out", rule, values @ ..] => set_pen(alloc, &mut case.out, rule, values)?,
         ["err", rule, values @ ..] => set_pen(alloc, &mut case.err, rule, values)?,

@@ -1,11 +1,9 @@
-//! Real files and writers, of which no clause can say what they hold; puts on the shelf in memory; and the shelf and the pen
-//! that never fail.
+//! Real files and writers, of which no clause can say what they hold; puts on the shelf in memory; and the shelf that never
+//! fails.
 use optra_outside::{
-    FolderShelf, MemoryDisk, MemoryShelf, NeverPen, NeverShelf, Pen, PenFailed, Shelf, ShelfError,
-    StdPen,
+    FolderShelf, MemoryShelf, NeverShelf, Pen, PenFailed, Shelf, ShelfError, StdPen,
 };
-use optra_top::run;
-use std::alloc::{AllocError, Global};
+use std::alloc::Global;
 use std::io::{ErrorKind, Write};
 use std::process::Abort;
 use std::test::Fail;
@@ -159,80 +157,6 @@ fn a_shelf_in_memory(rt: HostRuntime) -> Result<(), Fail> {
     let alloc = rt.alloc();
     let mut shelf = MemoryShelf::new(alloc, 4, 138, vec![in alloc; 5, 3]?)?;
     check_calls(&rt, &mut shelf, &CALLS)
-}
-
-/// The files of one bid.
-static FILES: [(&str, &str); 7] = [
-    ("net/stations.csv", "station\nA\nB\n"),
-    ("net/tracks.csv", "track,from,to\nab,A,B\n"),
-    ("net/types.csv", "type\nic\n"),
-    (
-        "net/running.csv",
-        "track,type,pass_pass,pass_halt,halt_pass,halt_halt\nab,ic,10,10,10,10\n",
-    ),
-    (
-        "net/headways.csv",
-        "track,first,second,minutes\nab,ic,ic,5\n",
-    ),
-    (
-        "bids.csv",
-        "bid,bidder,type,origin,destination,depart_from,depart_ideal,depart_to,arrive_from,arrive_ideal,arrive_to,base,early_depart,late_depart,early_arrive,late_arrive,travel,wait,wait_max\nb1,ann,ic,A,B,0,2,10,0,12,60,1000,10,20,0,0,0,0,0\n",
-    ),
-    (
-        "stops.csv",
-        "bid,station,min_dwell,max_dwell,arrive_from,arrive_to\n",
-    ),
-];
-
-/// Two bids for one minute.
-static BIDS_FOR_ONE_MINUTE: &str =
-    "bid,bidder,type,origin,destination,depart_from,depart_ideal,depart_to,arrive_from,arrive_ideal,arrive_to,base,early_depart,late_depart,early_arrive,late_arrive,travel,wait,wait_max\nb1,ann,ic,A,B,2,2,2,0,12,60,1000,0,0,0,0,0,0,0\nb2,bob,ic,A,B,2,2,2,0,12,60,1000,0,0,0,0,0,0,0\n";
-
-/// The words of a plan whose certificate is put.
-fn words(alloc: Global) -> Result<Vec<String>, Fail> {
-    let mut words = Vec::new(alloc);
-    for word in "plan --net net --bids bids.csv --stops stops.csv --cert c.csv".split(' ') {
-        words.push(String::from_str(alloc, word)?)?;
-    }
-    Ok(words)
-}
-
-/// The status of a run over the shelf, with an output and an error line that never fail.
-fn status_over(alloc: Global, words: &[String], shelf: &mut NeverShelf) -> Result<u8, AllocError> {
-    let mut disk = MemoryDisk::new(alloc, 0, Vec::new(alloc))?;
-    Ok(run(
-        alloc,
-        words,
-        shelf,
-        &mut NeverPen::new(),
-        &mut NeverPen::new(),
-        &mut disk,
-    ))
-}
-
-/// Runs over an empty shelf, with the files of one bid, and with two bids.
-fn check_runs(
-    rt: &(impl Abort + AllocGlobal),
-    words: &[String],
-    shelf: &mut NeverShelf,
-) -> Result<(), Fail> {
-    let alloc = rt.alloc();
-    assert_eq!(rt; status_over(alloc, words, shelf)?, 6);
-    for (name, content) in &FILES {
-        shelf.load(name, content.as_bytes())?;
-    }
-    assert_eq!(rt; status_over(alloc, words, shelf)?, 0);
-    shelf.load("bids.csv", BIDS_FOR_ONE_MINUTE.as_bytes())?;
-    assert_eq!(rt; status_over(alloc, words, shelf)?, 0);
-    Ok(())
-}
-
-#[test]
-fn a_plan_over_what_never_fails(rt: HostRuntime) -> Result<(), Fail> {
-    let alloc = rt.alloc();
-    let words = words(alloc)?;
-    let mut shelf = NeverShelf::new(alloc, 1000);
-    check_runs(&rt, &words, &mut shelf)
 }
 
 #[test]
