@@ -56,7 +56,7 @@ def runs(names):
                 cases[name] = files
             elif words[0] == "like":
                 files.update(cases[words[1]])
-            elif words[0] == "run":
+            elif words[0] in ("run", "never"):
                 yield name, words[1:] or body, dict(files)
             elif words[0] == "absent":
                 files.pop(words[1], None)
