@@ -1,7 +1,7 @@
 //! What the heads of a sheet mean.
 use crate::cases::{Case, PenRules, ShelfRules};
 use crate::faults::Wrong;
-use crate::sheets::Section;
+use crate::sections::Section;
 use crate::texts::{escaped, joined, numbered, plain, repeated};
 use indexmap::IndexMap;
 use std::alloc::{AllocError, Global};

@@ -12,6 +12,7 @@ mod faults;
 mod heads;
 mod performing;
 mod printing;
+mod sections;
 mod sheets;
 mod texts;
 mod watched_shelf;
