@@ -63,10 +63,6 @@ module _ (w : Weights) (net : Net) (bid : Bid) where
         (time_after net bid.path table.reach h.reach s after leg few move is_after time) early;
   }
 
-  -- a state from which a walk can't end in time
-  pub late_rest : (reach : Reach) (s : State) → IsReach net bid.path reach → (IsInTime bid.path reach s → ⊥) → IsBestRest w net bid s AnyLeg None
-  late_rest reach s is late = record { greatest = λ n c. late (rest_in_time net bid.path reach is s (c.0 ∷ c.1) c.3.rest); size = tt }
-
   -- a state from which the stops that are left take too long
   pub ahead_rest : (reach : Reach) (s : State) → IsReach net bid.path reach → s.done ≤ length bid.path.stops → (IsAhead bid.path reach s → ⊥) → IsBestRest w net bid s AnyLeg None
   ahead_rest reach s is few late = record { greatest = λ n c. late (rest_ahead net bid.path reach is s (c.0 ∷ c.1) few c.3.rest); size = tt }

@@ -116,21 +116,6 @@ module _ {R : Type 0} (net : Net) (rows : Rows R) (bids : List Bid) (node : List
       by (inl z) = false≢true (sym z.0 ∙ stuck.yes)
       by (inr w) = stuck.none w.0 w.1
 
-  -- a bid is stuck exactly where it has no offer
-  pub stuck_tested : (number : ℕ) (bid : Bid) (best : Option ℤ) (r : Bool) → slice_get bids number ≡ Some bid → IsBestOffer net rows bids node prices number bid best → r ≡ not (is_some best)
-      → IsTrue r ↔ IsSomeAnd (slice_get bids number) (λ b. IsStuck net rows bids node number b)
-  stuck_tested number bid best r at is e = by best is e
-    where
-      there : IsStuck net rows bids node number bid → IsSomeAnd (slice_get bids number) (λ b. IsStuck net rows bids node number b)
-      there s = subst (λ o. IsSomeAnd o (λ b. IsStuck net rows bids node number b)) (sym at) s
-
-      here : IsSomeAnd (slice_get bids number) (λ b. IsStuck net rows bids node number b) → IsStuck net rows bids node number bid
-      here s = subst (λ o. IsSomeAnd o (λ b. IsStuck net rows bids node number b)) at s
-
-      by : (best : Option ℤ) → IsBestOffer net rows bids node prices number bid best → r ≡ not (is_some best) → IsTrue r ↔ IsSomeAnd (slice_get bids number) (λ b. IsStuck net rows bids node number b)
-      by None s e = ((λ _. there s), (λ _. e))
-      by (Some n) g e = ((λ t. absurd (false≢true (sym e ∙ t))), (λ s. absurd (not_stuck number bid n g (here s))))
-
   pub terms_none : AreTerms net rows bids node prices 0 (Some (pos 0))
   terms_none = record {
     terms = [];

@@ -17,20 +17,6 @@ level_there (x ∷ xs) zero k l = omega arith
 level_there (x ∷ xs) (suc n) k l = let i = level_there xs n k l in omega (arith, i)
 
 module _ (net : Net) (path : Path) (back : Bool) where
-  -- by way of no stop
-  pub levels_first : (first : List ℕ) → AreLeast net path.kind back (first_of back path) 0 first → AreLevels net path back (first ∷ []) 0
-  levels_first first least = record {
-    count = omega arith;
-    len = λ passed few. ap length (only passed few) ∙ least.len;
-    each = λ passed few n l. subst (λ xs. IsLeastAlong net path.kind back xs (track_id n)) (sym (only passed few)) (least.each n l);
-    first = least.first;
-    halt = λ passed stop there few. absurd (omega (arith, few));
-  }
-    where
-      only : (passed : ℕ) → passed ≤ 0 → slice_index_or (first ∷ []) passed [] ≡ first
-      only zero few = refl
-      only (suc passed) few = absurd (omega (arith, few))
-
   -- by way of one stop more
   pub levels_more : (levels : List (List ℕ)) (passed start : ℕ) (stop : Stop) (more : List ℕ) → slice_get path.stops (place_after back (length path.stops) passed) ≡ Some stop
       → AreLeast net path.kind back stop.station start more → start ≤ stop.min_dwell + slice_index (slice_index_or levels passed []) stop.station.0

@@ -16,7 +16,6 @@ pub mod RestLemmas
 pub mod HorizonLemmas
 pub mod IndexLemmas
 pub mod WayLemmas
-pub mod WatchLemmas
 pub mod BestLemmas
 pub mod MoveLemmas
 pub mod TrackLemmas
@@ -33,4 +32,5 @@ pub mod AheadLemmas
 pub mod LevelLemmas
 pub mod VerdictLemmas
 pub mod FreeLemmas
+pub mod BestWalkLemmas
 pub mod ProductLemmas

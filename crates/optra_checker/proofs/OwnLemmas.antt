@@ -1,6 +1,6 @@
 -- A list with one element written, and a bid's own decisions.
-use Rattle.std.proofs.Common.{◌≡◌, ◌≢◌, ℕ, ◌<◌, Bool, true, false, cond, List, [], ◌∷◌, length, set, Some, slice_get, refl, ap, ◌∙◌, arith}
-use Rattle.std.specs.Prelude.{nat_eq, ◌||◌, ◌&&◌}
+use Rattle.std.proofs.Common.{◌≡◌, ◌≢◌, ℕ, zero, suc, ◌<◌, Bool, true, false, cond, List, [], ◌∷◌, length, get_or, set, Some, slice_get, refl, ap, ◌∙◌, arith}
+use Rattle.std.specs.Prelude.{All, nat_eq, ◌||◌, ◌&&◌}
 use Rattle.std.specs.List.{list_any}
 use Rattle.std.proofs.lemmas.Bool.Decides.{nat_tests}
 use Rattle.std.proofs.lemmas.List.{length-set, get_or-set_same, get_or-set_other}
@@ -37,3 +37,17 @@ own_yes number (d ∷ node) = by d.yes (nat_eq d.bid number) refl (own_yes numbe
     by true false y rest = rest
     by false true y rest = grind (arith, y, rest)
     by false false y rest = rest
+
+-- no decision is for a bid that has none of its own
+pub none_own : (number : ℕ) (node : List Decision) → decisions_for node number ≡ [] → All (λ d. d.bid ≡ number → ⊥) node
+none_own number [] e = λ k d l. absurd (omega arith)
+none_own number (d ∷ node) e = by (nat_eq d.bid number) refl e (none_own number node)
+  where
+    other : (k : ℕ) (x : Decision) → nat_eq d.bid number ≡ false → All (λ d. d.bid ≡ number → ⊥) node → k < length (d ∷ node) → (get_or (d ∷ node) k x).bid ≡ number → ⊥
+    other zero x ne rest l same = absurd (grind (arith, nat_tests))
+    other (suc k) x ne rest l same = rest k x (omega arith) same
+
+    by : (b : Bool) → nat_eq d.bid number ≡ b → cond b (d ∷ decisions_for node number) (decisions_for node number) ≡ [] → (decisions_for node number ≡ [] → All (λ d. d.bid ≡ number → ⊥) node)
+        → All (λ d. d.bid ≡ number → ⊥) (d ∷ node)
+    by true same e rest = cc
+    by false ne e rest = λ k x l. other k x ne (rest e) l

@@ -16,9 +16,6 @@ less_or_same (suc s) (suc n) l = up (less_or_same s n (omega (arith, l)))
     up (inr e) = inr (ap suc e)
 
 module _ (path : Path) (from on : List ℕ) where
-  pub without_none : IsWithoutFar path from on 0 0
-  without_none = record { fewer = omega arith; far = λ s l m near. absurd (omega (arith, m)) }
-
   pub without_near : (n left : ℕ) → left ≡ n + 1 → IsWithoutFar path from on (n + 1) left
   without_near n left is = record { fewer = omega (arith, is); far = λ s l m near. absurd (omega (arith, is, l, m)) }
 

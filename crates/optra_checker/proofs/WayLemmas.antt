@@ -35,10 +35,6 @@ pub run_some : (o : Option Times) (a b : Bool) (m : ℕ) → option_map (minutes
 run_some None a b m e = cc
 run_some (Some times) a b m e = refl
 
-pub run_none : (o : Option Times) (a b : Bool) → option_map (minutes_by a b) o ≡ None → IsSome o → ⊥
-run_none None a b e h = cc
-run_none (Some times) a b e h = cc
-
 -- the arrival is the departure plus the running time
 pub run_arrival : (o : Option Times) (a b : Bool) (m depart : ℕ) → option_map (minutes_by a b) o ≡ Some m → option_map (λ times. depart + minutes_by a b times) o ≡ Some (depart + m)
 run_arrival None a b m depart e = cc

@@ -11,9 +11,6 @@ use Rattle.optra_node.specs.declared.Item.TheVariants.{Split, NoWalk, Forced, Pr
 use Rattle.optra_node.specs.Duals.{PriceList}
 use Rattle.optra_node.specs.Trees.{IsTree, places}
 use Rattle.optra_node.specs.Certificates.{IsBoundOf, IsWithin, IsFormedItem, SplitsUndecided, HasPrices}
-use Rattle.optra_checker.specs.declared.frees.Free.{Free}
-use Rattle.optra_checker.specs.Frees.{AreFree}
-use Rattle.optra_checker.specs.Watches.{AreTreeWatches}
 
 -- the item has no prices
 abbrev pub IsUnpriced : {R : Type 0} → Item R → Type 0
@@ -43,8 +40,3 @@ pub record IsSoundTree {R : Type 0} (cmp : R → R → Ordering) (net : Net) (ro
   pub items : All (IsFormedItem cmp net (length bids)) tree
   pub splits : All (λ p. SplitsUndecided p.0 p.1) (places tree)
   pub prices : All (HasPrices rows) tree
-
--- the best walks of the bids, and the rows that are watched for them in the tree
-pub record AreKnown {R : Type 0} (net : Net) (rows : Rows R) (bids : List Bid) (tree : List (Item R)) (frees : List Free) (watches : List (Option (List R))) : Type 0 where
-  pub best : AreFree net bids frees
-  pub watched : AreTreeWatches rows bids tree frees watches

@@ -19,6 +19,6 @@ pub mod Bounds
 pub mod Reaches
 pub mod Asks
 pub mod Frees
-pub mod Watches
+pub mod BestWalks
 pub mod Loaded
 pub mod Keyed

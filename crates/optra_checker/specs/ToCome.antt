@@ -1,8 +1,9 @@
 -- The nodes that are still to come when the items of a tree are gone through one after the other. A yes decision of the
 -- open node is of a split whose no part is still to come; a no decision leaves nothing behind.
-use Rattle.std.specs.Prelude.{◌≡◌, ◌⊎◌, ℕ, ◌<◌, List, [], ◌∷◌, ◌++◌, length, take, cond}
+use Rattle.std.specs.Prelude.{◌≡◌, ◌⊎◌, ℕ, ◌<◌, ◌≤◌, true, List, [], ◌∷◌, ◌++◌, length, take, cond, IsSomeAnd, slice_get}
 use Rattle.optra_node.specs.declared.Decision.{Decision}
 use Rattle.optra_node.specs.declared.Item.{Item}
+use Rattle.optra_node.specs.declared.Item.TheVariants.{Split, NoWalk, Forced, Priced}
 use Rattle.optra_node.specs.Trees.{decide_not, root, open_after}
 
 -- the nodes still to come after decisions that stand behind others, the nearest first
@@ -26,3 +27,14 @@ IsNextWay ways next = (ways ≡ []) ⊎ (ways ≡ open_with next)
 -- before an item of a tree, its node is open
 abbrev pub IsAt : {R : Type 0} → List (Item R) → ℕ → List Decision → Type 0
 IsAt tree i node = i < length tree → open_after root (take i tree) ≡ open_with node
+
+-- the decision at the place is a yes
+abbrev pub IsYesAt : List Decision → ℕ → Type 0
+IsYesAt node k = IsSomeAnd (slice_get node k) (λ d. d.yes ≡ true)
+
+-- so many first decisions of the node stay after the item: all after a split, and those before a yes decision after a leaf
+abbrev pub AreKept : {R : Type 0} → List Decision → Item R → ℕ → Type 0
+AreKept node (Split bid leg) k = k ≤ length node
+AreKept node (NoWalk bid) k = (k ≡ 0) ⊎ IsYesAt node k
+AreKept node (Forced row) k = (k ≡ 0) ⊎ IsYesAt node k
+AreKept node (Priced prices) k = (k ≡ 0) ⊎ IsYesAt node k

@@ -1,21 +1,20 @@
 //! Whether the stated bound is the greatest bound of the leaves with prices.
-ghost use Rattle.std.specs.Prelude.{◌≡◌, ◌↔◌, [], IsTrue, IfOk, Some, length, map, option_map};
+ghost use Rattle.std.specs.Prelude.{◌≡◌, ◌↔◌, [], IsTrue, IfOk, OnOk, Some, ◌≤◌, length, take};
 ghost use Rattle.optra_bid.specs.Instances.{IsInstance};
 ghost use Rattle.optra_node.specs.Trees.{places};
 ghost use Rattle.optra_node.specs.Certificates.{IsFormedItem, HasPrices, IsGreatestBound};
-ghost use Rattle.optra_node.specs.Nodes.{yes_load};
-ghost use Rattle.optra_checker.specs.Frees.{AreFree};
-ghost use Rattle.optra_checker.specs.Watches.{AreWatches};
-ghost use Rattle.optra_checker.specs.Bounds.{AreKnown, IsItemBound, IsGreatestOf, IsSoundTree};
+ghost use Rattle.optra_checker.specs.BestWalks.{AreAllBest, AreAllBestAt};
+ghost use Rattle.optra_checker.specs.Bounds.{IsItemBound, IsGreatestOf, IsSoundTree};
 ghost use Rattle.optra_checker.specs.Opens.{IsRoom};
 
-use crate::frees::{Free, find_frees};
+use crate::all_best::{bring_all, leave_all};
+use crate::best_walks::BestWalks;
+use crate::frees::find_frees;
 use crate::node_room::{NodeRoom, pass, root_room};
 use crate::open_node::OpenNode;
 use crate::rest_table::RestTable;
 use crate::rests::greater;
 use crate::terms::leaf_bound;
-use crate::watches::find_watches;
 use optra_network::{Cents, NoMemory};
 use optra_node::{Item, Prices};
 use optra_walk::{Instance, RowFamily};
@@ -28,49 +27,71 @@ fn entries<R>(prices: &Prices<R>) -> &[(R, i64)]
     &prices.entries
 }
 
-/// The bound of a leaf with prices, in whole cents; none of any other item.
+/// The bound of a leaf with prices, in whole cents; none of any other item. The bids' best walks are
+/// brought to a leaf with prices, and to a split, below which they serve. `NoMemory` is its only
+/// refusal.
 fn item_bound<F: RowFamily>(
     alloc: Global,
     node: &OpenNode<'_, F>,
     item: &Item<F::Row>,
-    frees: &[Free],
-    watches: &[Option<Vec<F::Row>>],
+    walks: &mut [BestWalks],
     table: &mut RestTable,
 ) -> Result<Option<i128>, NoMemory>
     requires instance { IsInstance node.now.net node.now.bids }
-    requires frees { AreFree node.now.net node.now.bids frees.now }
-    requires watches { AreWatches (F.rows_of node.now.family node.now.net) node.now.bids
-        (yes_load (F.rows_of node.now.family node.now.net) node.now.bids node.now.node) frees.now
-        (map (option_map (λ w. w.items)) watches.now) }
     requires formed { IsFormedItem F.Row.cmp node.now.net (length node.now.bids) item.now }
     requires prices { HasPrices (F.rows_of node.now.family node.now.net) item.now }
-    ensures { IfOk result (IsItemBound node.now.net (F.rows_of node.now.family node.now.net)
+    requires walks { AreAllBestAt F.rows_of F.rows_used node.now walks.old }
+    ensures walks { OnOk result (AreAllBestAt F.rows_of F.rows_used node.now walks.new) }
+    ensures bound { IfOk result (IsItemBound node.now.net (F.rows_of node.now.family node.now.net)
         node.now.bids node.now.node item.now) }
 {
     match item {
         Item::Priced { prices } => {
-            let cents = leaf_bound(alloc, node, entries(prices), frees, watches, table)?;
+            let cents = leaf_bound(alloc, node, entries(prices), walks, table)?;
             Ok(Some(cents))
         }
-        Item::Split { .. } | Item::NoWalk { .. } | Item::Forced { .. } => Ok(None),
+        Item::Split { .. } => {
+            bring_all(alloc, node, walks, table)?;
+            Ok(None)
+        }
+        Item::NoWalk { .. } | Item::Forced { .. } => Ok(None),
     }
 }
 
-/// The best walks of the bids, and the rows that are watched for them.
-#[derive(Drop)]
-struct Known<'a, R> {
-    frees: &'a [Free],
-    watches: &'a [Option<Vec<R>>],
+/// As [`item_bound`], of the item of the node that the room has. The best walks are turned to the
+/// node of the decisions that stay after it.
+fn bound_of<F: RowFamily>(
+    alloc: Global,
+    node: &OpenNode<'_, F>,
+    item: &Item<F::Row>,
+    walks: &mut [BestWalks],
+    depth: usize,
+    table: &mut RestTable,
+) -> Result<Option<i128>, NoMemory>
+    requires instance { IsInstance node.now.net node.now.bids }
+    requires formed { IsFormedItem F.Row.cmp node.now.net (length node.now.bids) item.now }
+    requires prices { HasPrices (F.rows_of node.now.family node.now.net) item.now }
+    requires depth { depth ≤ length node.now.node }
+    requires walks { AreAllBestAt F.rows_of F.rows_used node.now walks.old }
+    ensures walks { OnOk result (AreAllBest node.now.net (F.rows_of node.now.family node.now.net)
+        (F.rows_used node.now.family node.now.net) node.now.bids (take depth node.now.node)
+        walks.new) }
+    ensures bound { IfOk result (IsItemBound node.now.net (F.rows_of node.now.family node.now.net)
+        node.now.bids node.now.node item.now) }
+{
+    let cents = item_bound(alloc, node, item, walks, table)?;
+    leave_all(node, walks, depth);
+    Ok(cents)
 }
 
-/// As [`greatest_over`], from the root on, which the room has.
+/// As [`greatest_bound`], from the root on, which the room has.
 fn greatest_from<F: RowFamily>(
     alloc: Global,
     room: &mut NodeRoom<F::Row>,
     inst: Instance<'_>,
     rows: &F,
     tree: &[Item<F::Row>],
-    known: &Known<'_, F::Row>,
+    walks: &mut [BestWalks],
     table: &mut RestTable,
 ) -> Result<Option<i128>, NoMemory>
     requires room { IsRoom F.Row.cmp inst.net.now (F.rows_of rows.now inst.net.now) inst.bids.now
@@ -78,65 +99,41 @@ fn greatest_from<F: RowFamily>(
     requires root { room.old.decisions.items ≡ [] }
     requires tree { IsSoundTree F.Row.cmp inst.net.now (F.rows_of rows.now inst.net.now)
         inst.bids.now tree.now }
-    requires known { AreKnown inst.net.now (F.rows_of rows.now inst.net.now) inst.bids.now tree.now
-        known.now.frees.now (map (option_map (λ w. w.items)) known.now.watches.now) }
+    requires walks { AreAllBest inst.net.now (F.rows_of rows.now inst.net.now)
+        (F.rows_used rows.now inst.net.now) inst.bids.now [] walks.old }
     ensures { IfOk result (IsGreatestOf inst.entry.net.now (F.rows_of rows.now inst.entry.net.now)
         inst.entry.bids.now (places tree.now)) }
 {
     let mut greatest = None;
     'items: for item in tree {
         let node = OpenNode::of(inst, rows, room);
-        let cents = item_bound(alloc, &node, item, known.frees, known.watches, table)?;
+        let depth = node.depth_after(item);
+        let cents = bound_of(alloc, &node, item, walks, depth, table)?;
         greatest = greater(greatest, cents);
         pass(room, inst, rows, item)?;
     }
     Ok(greatest)
 }
 
-/// As [`greatest_bound`], with what is known of the bids at hand.
-fn greatest_over<F: RowFamily>(
-    alloc: Global,
-    inst: Instance<'_>,
-    rows: &F,
-    tree: &[Item<F::Row>],
-    known: &Known<'_, F::Row>,
-    table: &mut RestTable,
-) -> Result<Option<i128>, NoMemory>
-    requires tree { IsSoundTree F.Row.cmp inst.net.now (F.rows_of rows.now inst.net.now)
-        inst.bids.now tree.now }
-    requires known { AreKnown inst.net.now (F.rows_of rows.now inst.net.now) inst.bids.now tree.now
-        known.now.frees.now (map (option_map (λ w. w.items)) known.now.watches.now) }
-    ensures { IfOk result (IsGreatestOf inst.entry.net.now (F.rows_of rows.now inst.entry.net.now)
-        inst.entry.bids.now (places tree.now)) }
-{
-    let mut room = root_room(alloc, inst, rows)?;
-    let greatest = greatest_from(alloc, &mut room, inst, rows, tree, known, table);
-    drop(room);
-    greatest
-}
-
-/// As [`greatest_bound`], with the best walks of the bids at hand.
+/// As [`greatest_bound`], with the best walks at the root at hand.
 fn greatest_by<F: RowFamily>(
     alloc: Global,
     inst: Instance<'_>,
     rows: &F,
     tree: &[Item<F::Row>],
-    frees: &[Free],
+    walks: &mut [BestWalks],
     table: &mut RestTable,
 ) -> Result<Option<i128>, NoMemory>
     requires tree { IsSoundTree F.Row.cmp inst.net.now (F.rows_of rows.now inst.net.now)
         inst.bids.now tree.now }
-    requires frees { AreFree inst.net.now inst.bids.now frees.now }
+    requires walks { AreAllBest inst.net.now (F.rows_of rows.now inst.net.now)
+        (F.rows_used rows.now inst.net.now) inst.bids.now [] walks.old }
     ensures { IfOk result (IsGreatestOf inst.entry.net.now (F.rows_of rows.now inst.entry.net.now)
         inst.entry.bids.now (places tree.now)) }
 {
-    let watches = find_watches(alloc, inst, rows, tree, frees)?;
-    let known = Known {
-        frees,
-        watches: &watches,
-    };
-    let greatest = greatest_over(alloc, inst, rows, tree, &known, table);
-    drop(watches);
+    let mut room = root_room(alloc, inst, rows)?;
+    let greatest = greatest_from(alloc, &mut room, inst, rows, tree, walks, table);
+    drop(room);
     greatest
 }
 
@@ -154,9 +151,9 @@ fn greatest_bound<F: RowFamily>(
     ensures { IfOk result (IsGreatestOf inst.entry.net.now (F.rows_of rows.now inst.entry.net.now)
         inst.entry.bids.now (places tree.now)) }
 {
-    let frees = find_frees(alloc, inst, table)?;
-    let greatest = greatest_by(alloc, inst, rows, tree, &frees, table);
-    drop(frees);
+    let mut walks = find_frees(alloc, inst, rows, table)?;
+    let greatest = greatest_by(alloc, inst, rows, tree, &mut walks, table);
+    drop(walks);
     greatest
 }
 

@@ -1,38 +1,25 @@
 //! The best walks of bids where nothing is decided, nothing is used and nothing has a price.
 //!
-//! Such a walk that a node still allows, at no price, is the best that the node allows. So most
-//! bids need no search at most leaves.
-ghost use Rattle.std.specs.Prelude.{◌≡◌, ◌↔◌, IfOk, IsTrue, Some, pos, ◌*ℤ◌};
+//! Such a walk that a node still allows, at no price, is the best that the node allows.
+ghost use Rattle.std.specs.Prelude.{◌≡◌, ◌∷◌, [], All, IfOk, IsTrue};
 ghost use Rattle.optra_bid.specs.Specs.{IsPathOn};
-ghost use Rattle.optra_walk.specs.Values.{IsValue, value_of};
-ghost use Rattle.optra_walk.specs.Walks.{IsWalk};
-ghost use Rattle.optra_checker.specs.Frees.{IsFree, AreFree, Attains};
+ghost use Rattle.optra_walk.specs.Families.{IsUsable};
+ghost use Rattle.optra_checker.specs.BestWalks.{AreAllBest};
+ghost use Rattle.optra_checker.specs.Frees.{Attains, IsFree};
+ghost use Rattle.optra_checker.specs.Loaded.{KeepsOff};
 
+use crate::best_walk::{BestWalk, attains};
+use crate::best_walks::BestWalks;
+use crate::loaded::keeps_off;
 use crate::rest_table::RestTable;
 use crate::table::search;
-use crate::tracing::trace;
+use crate::tracing::{EveryLeg, trace};
 use crate::ways::kind_of;
 use crate::weighing::Weighing;
 use optra_bid::Bid;
-use optra_network::{Cents, Minute, Network, NoMemory, TypeId};
-use optra_walk::{Instance, Leg, follows, value};
+use optra_network::{Minute, Network, NoMemory, TypeId};
+use optra_walk::{Instance, Leg, RowFamily};
 use std::alloc::Global;
-
-/// A bid's best walk where nothing is decided, used or priced.
-#[derive(Drop)]
-pub(crate) struct Free {
-    /// What it is worth, in thousandths of a cent; `None` where the bid has no walk.
-    pub best: Option<i128>,
-    /// The legs of one, or none where none is at hand.
-    pub legs: Vec<Leg>,
-}
-
-/// The legs that are at hand.
-pub(crate) fn legs_of(free: &Free) -> &[Leg]
-    ensures { result.now ≡ free.now.legs.items }
-{
-    &free.legs
-}
 
 /// A walk may have every start and every leg of the type, at no cost.
 #[derive(Drop)]
@@ -59,76 +46,93 @@ impl<'a> Weighing for FreeWeights<'a> {
     }
 }
 
-/// The value of a walk in thousandths of a cent.
-fn thousandths(cents: Cents) -> i128
-    requires { IsValue cents }
-    ensures { result ≡ pos 1000 *ℤ cents }
+/// Whether no leg alone uses a row above its capacity.
+fn fit_alone<F: RowFamily>(net: &Network, rows: &F, kind: TypeId, legs: &[Leg]) -> bool
+    requires { All (IsUsable net.now kind) legs.now }
+    ensures { IsTrue result → All (KeepsOff F.Row.cmp (F.rows_of rows.now net.now) kind [])
+        legs.now }
 {
-    i128::from(cents) * 1000
-}
-
-/// What a walk is worth, in thousandths of a cent.
-fn worth(net: &Network, bid: &Bid, legs: &[Leg]) -> i128
-    requires { IsWalk net.now bid.now.path legs.now }
-    ensures { result ≡ pos 1000 *ℤ value_of net.now bid.now.path bid.now.money legs.now }
-{
-    thousandths(value(net, bid, legs))
-}
-
-/// Whether there is a number and it is this one.
-fn is_number(best: Option<i128>, number: i128) -> bool
-    ensures { IsTrue result ↔ (best ≡ Some number) }
-{
-    match best {
-        Some(best) => best == number,
-        None => false,
+    'legs: for leg in legs {
+        if !keeps_off(net, rows, &[], kind, *leg) {
+            return false;
+        }
     }
+    true
 }
 
-/// Whether the legs are a walk of the bid that is worth as much.
-fn attains(net: &Network, bid: &Bid, best: Option<i128>, legs: &[Leg]) -> bool
-    ensures { IsTrue result → Attains net.now bid.now best legs.now }
+/// Whether the legs are a walk of the bid that is worth as much, of which no leg alone uses a row
+/// above its capacity.
+fn are_free<F: RowFamily>(
+    net: &Network,
+    rows: &F,
+    bid: &Bid,
+    worth: Option<i128>,
+    legs: &[Leg],
+) -> bool
+    ensures walk { IsTrue result → Attains net.now bid.now worth legs.now }
+    ensures fits { IsTrue result → All (KeepsOff F.Row.cmp (F.rows_of rows.now net.now)
+        bid.now.path.kind []) legs.now }
 {
-    if !follows(net, bid, legs) {
+    if !attains(net, bid, worth, legs) {
         return false;
     }
-    is_number(best, worth(net, bid, legs))
+    net.laws();
+    fit_alone(net, rows, kind_of(bid), legs)
 }
 
-/// The best of all walks of a bid.
-fn find_free(
+/// The best of all walks of a bid. `NoMemory` is its only refusal.
+fn find_free<F: RowFamily>(
     alloc: Global,
     net: &Network,
+    rows: &F,
     bid: &Bid,
     table: &mut RestTable,
-) -> Result<Free, NoMemory>
+) -> Result<BestWalk, NoMemory>
     requires { IsPathOn net.now bid.now.path }
-    ensures { IfOk result (IsFree net.now bid.now) }
+    ensures { IfOk result (IsFree F.Row.cmp net.now (F.rows_of rows.now net.now) bid.now) }
 {
     let weights = FreeWeights {
         net,
         kind: kind_of(bid),
     };
-    let best = search(alloc, net, bid, &weights, table)?;
-    let mut legs = trace(alloc, net, bid, table)?;
-    if !attains(net, bid, best, &legs) {
+    let worth = search(alloc, net, bid, &weights, table)?;
+    let mut legs = trace(alloc, net, bid, &EveryLeg, table)?;
+    if !are_free(net, rows, bid, worth, &legs) {
         legs = Vec::new(alloc);
     }
-    Ok(Free { best, legs })
+    Ok(BestWalk {
+        depth: 0,
+        worth,
+        legs,
+    })
 }
 
-/// The best of all walks of each bid.
-pub(crate) fn find_frees(
+/// The best walk of a bid at the root alone.
+fn walks_of(alloc: Global, free: BestWalk) -> Result<BestWalks, NoMemory>
+    ensures kept { IfOk result (λ walks. walks.kept.items ≡ free ∷ []) }
+    ensures held { IfOk result (λ walks. walks.held ≡ 0) }
+{
+    let mut kept = Vec::new(alloc);
+    kept.push(free)?;
+    Ok(BestWalks { kept, held: 0 })
+}
+
+/// The best walks of all bids at the root, which has no decision. `NoMemory` is its only refusal.
+pub(crate) fn find_frees<F: RowFamily>(
     alloc: Global,
     inst: Instance<'_>,
+    rows: &F,
     table: &mut RestTable,
-) -> Result<Vec<Free>, NoMemory>
-    ensures { IfOk result (λ frees. AreFree inst.entry.net.now inst.entry.bids.now frees.items) }
+) -> Result<Vec<BestWalks>, NoMemory>
+    ensures { IfOk result (λ walks. AreAllBest inst.entry.net.now (F.rows_of rows.now
+        inst.entry.net.now) (F.rows_used rows.now inst.entry.net.now) inst.entry.bids.now []
+        walks.items) }
 {
-    let mut frees = Vec::new(alloc);
+    let mut all = Vec::new(alloc);
     'bids: for bid in inst.bids {
-        let free = find_free(alloc, inst.net, bid, table)?;
-        frees.push(free)?;
+        let free = find_free(alloc, inst.net, rows, bid, table)?;
+        let walks = walks_of(alloc, free)?;
+        all.push(walks)?;
     }
-    Ok(frees)
+    Ok(all)
 }

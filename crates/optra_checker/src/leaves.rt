@@ -5,10 +5,11 @@ ghost use Rattle.optra_node.specs.Trees.{IsTree, places};
 ghost use Rattle.optra_node.specs.Certificates.{IsFormedItem, SplitsUndecided, EndsDead};
 ghost use Rattle.optra_checker.specs.Opens.{IsRoom};
 
+use crate::leaf_search::best_found;
 use crate::node_room::{NodeRoom, pass, root_room};
 use crate::open_node::OpenNode;
 use crate::rest_table::RestTable;
-use crate::terms::{best_found, offer_of};
+use crate::terms::offer_of;
 use optra_network::NoMemory;
 use optra_node::Item;
 use optra_walk::{Instance, RowFamily};

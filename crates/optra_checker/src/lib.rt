@@ -6,23 +6,29 @@
 //! earns the stated revenue, and that no choice that keeps the rule earns more than the stated
 //! bound: [`optra_node::bound_holds`].
 //!
-//! A bid's greatest offer at a leaf is found in two steps. Once a check, [`frees`] finds the best
-//! of all walks of each bid, where nothing is decided, used or priced, and keeps the legs of one.
-//! At a leaf that still allows that walk, at no price, nothing is better, so its few legs are all
-//! that is asked of. Only where the leaf doesn't, [`table`] searches the bid's walks by a table
-//! over minutes, stations and stops done, that is filled once from late to early: only where and
-//! when a train of the bid may be, and in room that stays from search to search.
+//! A bid's greatest offer at a leaf is seldom searched. Once a check, [`frees`] finds the best of all
+//! walks of each bid, where nothing is decided, used or priced, and keeps the legs of one. Where a
+//! split no longer allows them, the best walk that it allows is found, which serves the nodes below
+//! ([`best_walks`]). At a leaf that still allows the walk, at no price, nothing is better. Only where
+//! the leaf doesn't, [`table`] searches the bid's walks by a table over minutes, stations and stops
+//! done, that is filled once from late to early: only where and when a train of the bid may be, and
+//! in room that stays from search to search.
 #![tactic(auto)]
 
 use optra_network::Cents;
 
+mod all_best;
 mod asks;
+mod best_walk;
+mod best_walks;
 mod bounding;
 mod checking;
 mod decision_index;
+mod decision_rows;
 mod fitting;
 mod frees;
 mod leaf_prices;
+mod leaf_search;
 mod leaf_weights;
 mod leaves;
 mod loaded;
@@ -35,12 +41,12 @@ mod rests;
 mod shares;
 mod splitting;
 mod states;
+mod staying;
 mod table;
 mod taking;
 mod terms;
 mod tracing;
 mod walks;
-mod watches;
 mod ways;
 mod weighing;
 

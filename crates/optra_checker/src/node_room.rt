@@ -1,10 +1,10 @@
 //! The decisions of a node, with what is kept beside them for look-ups.
-ghost use Rattle.std.specs.Prelude.{◌≡◌, ◌<◌, ◌++◌, ◌∷◌, [], IfOk, OnOk, length};
+ghost use Rattle.std.specs.Prelude.{◌≡◌, ◌⊎◌, ◌<◌, ◌≤◌, ◌++◌, ◌∷◌, [], ℕ, IfOk, OnOk, length, take};
 ghost use Rattle.optra_node.specs.Nodes.{IsFormedDecision, IsUndecided};
 ghost use Rattle.optra_node.specs.Trees.{children};
 ghost use Rattle.optra_node.specs.Certificates.{IsFormedItem, SplitsUndecided};
 ghost use Rattle.optra_checker.specs.Opens.{IsRoom};
-ghost use Rattle.optra_checker.specs.ToCome.{to_come, IsNextWay};
+ghost use Rattle.optra_checker.specs.ToCome.{to_come, AreKept, IsNextWay, IsYesAt};
 
 use crate::decision_index::DecisionIndex;
 use crate::taking::take_decision;
@@ -97,6 +97,8 @@ fn turn<F: RowFamily>(
         (F.rows_of rows.now inst.entry.net.now) inst.entry.bids.now room.new) }
     ensures next { OnOk result (IsNextWay (to_come room.old.decisions.items)
         room.new.decisions.items) }
+    ensures kept { OnOk result ((k : ℕ) → IsYesAt room.old.decisions.items k
+        → take k room.new.decisions.items ≡ take k room.old.decisions.items) }
 {
     'back: while !room.decisions.is_empty() {
         let last = undo(room, inst, rows);
@@ -124,6 +126,8 @@ pub(crate) fn pass<F: RowFamily>(
         (F.rows_of rows.now inst.entry.net.now) inst.entry.bids.now room.new) }
     ensures next { OnOk result (IsNextWay (children room.old.decisions.items item.now
         ++ to_come room.old.decisions.items) room.new.decisions.items) }
+    ensures kept { OnOk result ((k : ℕ) → AreKept room.old.decisions.items item.now k
+        → take k room.new.decisions.items ≡ take k room.old.decisions.items) }
 {
     match item {
         Item::Split { bid, leg } => {
@@ -135,5 +139,31 @@ pub(crate) fn pass<F: RowFamily>(
             decide(room, inst, rows, decision)
         }
         Item::NoWalk { .. } | Item::Forced { .. } | Item::Priced { .. } => turn(room, inst, rows),
+    }
+}
+
+/// The place of the last yes decision, or 0 where none is one.
+fn last_yes(decisions: &[Decision]) -> usize
+    ensures within { result ≤ length decisions.now }
+    ensures yes { (result ≡ 0) ⊎ IsYesAt decisions.now result }
+{
+    let mut left = decisions.len();
+    'back: while left > 0 {
+        left -= 1;
+        if decisions[left].yes {
+            return left;
+        }
+    }
+    0
+}
+
+/// How many first decisions of the node stay when the room passes the item.
+pub(crate) fn depth_after<R>(decisions: &[Decision], item: &Item<R>) -> usize
+    ensures within { result ≤ length decisions.now }
+    ensures kept { AreKept decisions.now item.now result }
+{
+    match item {
+        Item::Split { .. } => decisions.len(),
+        Item::NoWalk { .. } | Item::Forced { .. } | Item::Priced { .. } => last_yes(decisions),
     }
 }

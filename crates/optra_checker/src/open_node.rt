@@ -1,26 +1,30 @@
 //! The node at hand while a tree is gone through.
-ghost use Rattle.std.specs.Prelude.{◌≡◌, ◌<◌, ◌↔◌, [], All, IsTrue, IfOk, length, true};
+ghost use Rattle.std.specs.Prelude.{◌≡◌, ◌-◌, ◌<◌, ◌≤◌, ◌↔◌, [], All, IsTrue, IfOk, IfSome, false, length, slice_get, true};
 ghost use Rattle.std.specs.List.{list_any};
 ghost use Rattle.optra_network.specs.Net.{IsProper};
-ghost use Rattle.optra_node.specs.Nodes.{IsFormedLeg, IsUndecided, IsOverfull, IsBlocked, kind_at, has_yes, yes_load};
+ghost use Rattle.optra_node.specs.Nodes.{IsFormedLeg, IsUndecided, IsOverfull, IsBlocked, kind_at, has_yes};
 ghost use Rattle.optra_node.specs.Spans.{IsLegOk, IsLetBy};
 ghost use Rattle.optra_node.specs.Summaries.{decisions_for};
 ghost use Rattle.optra_walk.specs.Families.{IsUsable};
+ghost use Rattle.optra_walk.specs.Legs.{dwell_of};
 ghost use Rattle.optra_node.specs.Duals.{PriceList, ArePrices, leg_price, capacity_price};
 ghost use Rattle.optra_node.specs.Certificates.{AreAscending};
+ghost use Rattle.optra_checker.specs.BestWalks.{AreLatestAt};
 ghost use Rattle.optra_checker.specs.Leaves.{weights_at};
 ghost use Rattle.optra_checker.specs.Keyed.{yes_part};
 ghost use Rattle.optra_checker.specs.Loaded.{AreRising, AreLoaded, KeepsOff};
 ghost use Rattle.optra_checker.specs.Sizes.{IsLegPrice, IsCapacityPrice};
 ghost use Rattle.optra_checker.specs.Tests.{may_have_leg, may_start_at};
+ghost use Rattle.optra_checker.specs.ToCome.{AreKept};
 ghost use Rattle.optra_checker.specs.Weights.{AreAlike};
 
+use crate::decision_rows::rows_of_decision;
 use crate::leaf_prices::{capacity_price, leg_price};
 use crate::loaded::{keeps_off, loaded_rows};
-use crate::node_room::NodeRoom;
+use crate::node_room::{NodeRoom, depth_after};
 use optra_network::{Minute, NoMemory};
-use optra_node::{Decision, is_blocked_beside, kind_at, start_ok, total};
-use optra_walk::{Instance, Leg, RowFamily};
+use optra_node::{Decision, Item, is_blocked_beside, kind_at, start_ok, total};
+use optra_walk::{Action, Instance, Leg, RowFamily};
 use std::alloc::Global;
 use std::marker::Model;
 
@@ -56,6 +60,29 @@ fn has_none(decisions: &[Decision]) -> bool
     ensures { IsTrue result ↔ (decisions.now ≡ []) }
 {
     decisions.is_empty()
+}
+
+/// The latest minute of the two days.
+const LAST_MINUTE: u16 = 2879;
+
+/// The longest dwell of a leg, in minutes.
+const LONGEST_DWELL: u16 = 240;
+
+/// Whether the leg departs within the two days.
+fn departs_in_day(leg: Leg) -> bool
+    ensures { IsTrue result → leg.depart ≤ 2879 }
+{
+    leg.depart <= LAST_MINUTE
+}
+
+/// Whether the leg dwells no longer than a leg may.
+fn dwells_short(leg: Leg) -> bool
+    ensures { IsTrue result → dwell_of leg.action ≤ 240 }
+{
+    match leg.action {
+        Action::Halt(dwell) | Action::Wait(dwell) => dwell <= LONGEST_DWELL,
+        Action::Pass | Action::Finish => true,
+    }
 }
 
 impl<'a, F: RowFamily> OpenNode<'a, F> {
@@ -149,25 +176,57 @@ impl<'a, F: RowFamily> OpenNode<'a, F> {
         self.let_by(bid, leg) && !self.blocked(bid, leg)
     }
 
+    /// Whether the leg is one that the node's calls may be asked of.
+    pub(crate) fn is_formed(&self, leg: Leg) -> bool
+        ensures { IsTrue result → IsFormedLeg self.now.net leg }
+    {
+        let net = self.inst.net;
+        leg.track.0 < net.track_count() && departs_in_day(leg) && dwells_short(leg)
+    }
+
+    /// How many decisions the node has.
+    pub(crate) fn depth(&self) -> usize
+        ensures { result ≡ length self.now.node }
+    {
+        self.room.decisions.len()
+    }
+
+    /// How many first decisions of the node stay when its room passes the item.
+    pub(crate) fn depth_after(&self, item: &Item<F::Row>) -> usize
+        ensures within { result ≤ length self.now.node }
+        ensures kept { AreKept self.now.node item.now result }
+    {
+        depth_after(&self.room.decisions, item)
+    }
+
+    /// Whether the last decision is for the bid.
+    pub(crate) fn is_last_for(&self, bid: u32) -> bool
+        ensures { result ≡ false → IfSome (slice_get self.now.node (length self.now.node - 1))
+            (λ last. last.bid ≡ bid → ⊥) }
+    {
+        match self.room.decisions.last() {
+            Some(last) => last.bid == bid,
+            None => false,
+        }
+    }
+
+    /// The rows that the last decision uses, ascending; none where there is no decision. `NoMemory`
+    /// is its only refusal.
+    pub(crate) fn latest_rows(&self, alloc: Global) -> Result<Vec<F::Row>, NoMemory>
+        ensures { IfOk result (λ latest. AreLatestAt F.Row.cmp F.rows_of self.now latest.items) }
+    {
+        match self.room.decisions.last() {
+            Some(last) => rows_of_decision(alloc, self.inst, self.rows, *last),
+            None => Ok(Vec::new(alloc)),
+        }
+    }
+
     /// Whether no decision is for the bid.
     pub(crate) fn is_left_alone(&self, bid: u32) -> bool
         requires { bid < length self.now.bids }
         ensures { IsTrue result → All (λ d. d.bid ≡ bid → ⊥) self.now.node }
     {
         has_none(self.room.index.own_of(bid))
-    }
-
-    /// Whether the yes legs use nothing of any of the rows.
-    pub(crate) fn are_unused(&self, rows: &[F::Row]) -> bool
-        ensures { IsTrue result → All (λ row. yes_load (F.rows_of self.now.family self.now.net)
-            self.now.bids self.now.node row ≡ 0) rows.now }
-    {
-        'rows: for row in rows {
-            if total(&self.room.totals, *row) > 0 {
-                return false;
-            }
-        }
-        true
     }
 
     /// The instance.
@@ -213,7 +272,7 @@ impl<'a, F: RowFamily> OpenNode<'a, F> {
     }
 
     /// Whether the leg uses none of the rows, and no other row above its capacity.
-    fn keeps_off(&self, loaded: &[F::Row], bid: u32, leg: Leg) -> bool
+    pub(crate) fn keeps_off(&self, loaded: &[F::Row], bid: u32, leg: Leg) -> bool
         requires bid { bid < length self.now.bids }
         requires usable { IsUsable self.now.net (kind_at self.now.bids bid) leg }
         requires rising { AreRising F.Row.cmp loaded.now }

@@ -10,12 +10,33 @@ use crate::states::State;
 use crate::table::make_start;
 use crate::ways::{Way, kind_of};
 use optra_bid::Bid;
-use optra_network::{Network, NoMemory, TrackId};
+use optra_network::{Minute, Network, NoMemory, TrackId};
 use optra_walk::{Action, Leg};
 use std::alloc::Global;
 
 /// A walk has fewer legs than there are minutes in the two days.
 const MOST_LEGS: u32 = 2880;
+
+/// Which starts and legs a proposal may have.
+pub(crate) trait Admits {
+    fn admits_start(&self, minute: Minute) -> bool;
+
+    fn admits(&self, leg: Leg) -> bool;
+}
+
+/// Every start and every leg.
+#[derive(Drop)]
+pub(crate) struct EveryLeg;
+
+impl Admits for EveryLeg {
+    fn admits_start(&self, _minute: Minute) -> bool {
+        true
+    }
+
+    fn admits(&self, _leg: Leg) -> bool {
+        true
+    }
+}
 
 /// A leg by which a walk may go on, what the rest from it on is worth, and the state behind it,
 /// where it does not finish.
@@ -24,15 +45,6 @@ struct Step {
     worth: i128,
     leg: Leg,
     next: Option<State>,
-}
-
-/// The one that is worth more, the first where both are worth the same.
-fn better(best: Option<Step>, step: Option<Step>) -> Option<Step> {
-    match (best, step) {
-        (Some(best), Some(step)) if step.worth > best.worth => Some(step),
-        (None, step) => step,
-        (best, _) => best,
-    }
 }
 
 /// The step by the way with the action at its end; none where it goes on and the table has no rest from there.
@@ -83,75 +95,128 @@ fn find_road(net: &Network, bid: &Bid, from: State, track: TrackId) -> Option<Wa
     })
 }
 
-/// The best step that halts at the next stop.
-fn halts(table: &RestTable, bid: &Bid, way: Way) -> Option<Step> {
-    let stop = next_stop(bid, way.from.done)?;
-    if !may_halt(stop, way) {
-        return None;
-    }
-    let mut best = None;
-    'dwells: for dwell in stop.min_dwell..stop.max_dwell.saturating_add(1) {
-        best = better(best, step_by(table, bid, way, Action::Halt(dwell)));
-    }
-    best
+/// A walk that is looked for along a table.
+#[derive(Drop)]
+struct Trail<'a, A: Admits> {
+    net: &'a Network,
+    bid: &'a Bid,
+    table: &'a RestTable,
+    admits: &'a A,
 }
 
-/// The best step that waits, or passes, or ends the walk.
-fn goes(table: &RestTable, bid: &Bid, way: Way) -> Option<Step> {
-    let mut best = step_by(table, bid, way, Action::Pass);
-    'dwells: for dwell in 1..bid.path.wait_max.saturating_add(1) {
-        best = better(best, step_by(table, bid, way, Action::Wait(dwell)));
-    }
-    if !may_finish(bid, way) {
-        return best;
-    }
-    better(best, step_by(table, bid, way, Action::Finish))
-}
-
-/// The best step from the state.
-fn best_step(net: &Network, bid: &Bid, table: &RestTable, from: State) -> Option<Step> {
-    if from.station.0 >= net.station_count() {
-        return None;
-    }
-    let mut best = None;
-    'tracks: for track in net.out_tracks(from.station) {
-        if let Some(way) = find_road(net, bid, from, *track) {
-            best = better(best, better(goes(table, bid, way), halts(table, bid, way)));
+impl<'a, A: Admits> Trail<'a, A> {
+    /// The step by the way with the action at its end, where it is worth as much and admitted.
+    fn take(&self, way: Way, action: Action, worth: i128) -> Option<Step> {
+        let step = step_by(self.table, self.bid, way, action)?;
+        if step.worth == worth && self.admits.admits(step.leg) {
+            Some(step)
+        } else {
+            None
         }
     }
-    best
-}
 
-/// The state in which the first of the best walks starts; none where there is no walk.
-fn best_begin(bid: &Bid, table: &RestTable) -> Option<State> {
-    let window = bid.path.depart;
-    let mut begin = None;
-    let mut most = 0;
-    'minutes: for minute in window.from..window.to.saturating_add(1) {
-        let start = make_start(bid, minute);
-        if let Some(rest) = table.peek(start) {
-            let worth = rest.wrapping_add(i128::from(start_value(bid, minute)));
-            if begin.is_none() || most < worth {
-                begin = Some(start);
-                most = worth;
+    /// The first step that halts at the next stop and is worth as much.
+    fn halt(&self, way: Way, worth: i128) -> Option<Step> {
+        let stop = next_stop(self.bid, way.from.done)?;
+        if !may_halt(stop, way) {
+            return None;
+        }
+        'dwells: for dwell in stop.min_dwell..stop.max_dwell.saturating_add(1) {
+            let step = self.take(way, Action::Halt(dwell), worth);
+            if step.is_some() {
+                return step;
             }
         }
+        None
     }
-    begin
+
+    /// The first step that waits and is worth as much.
+    fn wait(&self, way: Way, worth: i128) -> Option<Step> {
+        let bid: &Bid = self.bid;
+        'dwells: for dwell in 1..bid.path.wait_max.saturating_add(1) {
+            let step = self.take(way, Action::Wait(dwell), worth);
+            if step.is_some() {
+                return step;
+            }
+        }
+        None
+    }
+
+    /// The first step by the way that is worth as much.
+    fn step(&self, way: Way, worth: i128) -> Option<Step> {
+        if may_finish(self.bid, way) {
+            let end = self.take(way, Action::Finish, worth);
+            if end.is_some() {
+                return end;
+            }
+        }
+        let pass = self.take(way, Action::Pass, worth);
+        if pass.is_some() {
+            return pass;
+        }
+        let halt = self.halt(way, worth);
+        if halt.is_some() {
+            return halt;
+        }
+        self.wait(way, worth)
+    }
+
+    /// The state in which the first of the best walks starts; none where there is no walk.
+    fn best_begin(&self) -> Option<State> {
+        let bid: &Bid = self.bid;
+        let window = bid.path.depart;
+        let mut begin = None;
+        let mut most = 0;
+        'minutes: for minute in window.from..window.to.saturating_add(1) {
+            let start = make_start(bid, minute);
+            if let Some(rest) = self.table.peek(start) {
+                let worth = rest.wrapping_add(i128::from(start_value(bid, minute)));
+                if (begin.is_none() || most < worth) && self.admits.admits_start(minute) {
+                    begin = Some(start);
+                    most = worth;
+                }
+            }
+        }
+        begin
+    }
+
+    /// The first step from the state that is worth as much as the best rest there.
+    fn best_step(&self, from: State) -> Option<Step> {
+        if from.station.0 >= self.net.station_count() {
+            return None;
+        }
+        let worth = self.table.peek(from)?;
+        'tracks: for track in self.net.out_tracks(from.station) {
+            if let Some(way) = find_road(self.net, self.bid, from, *track) {
+                let step = self.step(way, worth);
+                if step.is_some() {
+                    return step;
+                }
+            }
+        }
+        None
+    }
 }
 
 /// The legs that the table leads along from the best start on; none where it has no start.
-pub(crate) fn trace(
+pub(crate) fn trace<A: Admits>(
     alloc: Global,
     net: &Network,
     bid: &Bid,
+    admits: &A,
     table: &RestTable,
 ) -> Result<Vec<Leg>, NoMemory> {
+    let trail = Trail {
+        net,
+        bid,
+        table,
+        admits,
+    };
     let mut legs = Vec::new(alloc);
-    let mut at = best_begin(bid, table);
+    let mut at = trail.best_begin();
     'legs: for _ in 0..MOST_LEGS {
         let Some(state) = at else { break };
-        let Some(step) = best_step(net, bid, table, state) else {
+        let Some(step) = trail.best_step(state) else {
             break;
         };
         legs.push(step.leg)?;

@@ -1,27 +1,26 @@
-use Rattle.std.proofs.Common.{◌+◌, List, Vec, Global, length, map, take, sym, subst, rules}
-use Rattle.std.specs.Prelude.{option_map}
+use Rattle.std.proofs.Common.{◌+◌, ◌≤◌, List, length, take, sym, subst, rules}
 use Rattle.std.proofs.lemmas.List.{take_all}
 use Rattle.optra_bid.specs.Instances.{IsInstance}
 use Rattle.optra_node.specs.declared.Decision.{Decision}
 use Rattle.optra_node.specs.declared.Item.{Item}
-use Rattle.optra_node.specs.Nodes.{yes_load}
 use Rattle.optra_node.specs.Summaries.{Summed}
 use Rattle.optra_node.specs.Trees.{placed, root, places}
 use Rattle.optra_node.specs.Certificates.{IsFormedItem, SplitsUndecided, HasPrices}
 use Rattle.optra_checker.specs.Bounds.{IsItemBound, IsGreatestOf}
-use Rattle.optra_checker.specs.ToCome.{to_come}
-use Rattle.optra_checker.specs.Frees.{AreFree}
-use Rattle.optra_checker.specs.Watches.{AreWatches}
+use Rattle.optra_checker.specs.BestWalks.{AreAllBest}
+use Rattle.optra_checker.specs.ToCome.{AreKept}
 use Rattle.optra_checker.specs.Rests.{greater_of}
 use Rattle.optra_checker.proofs.AtLemmas.{at_first, at_more, here_of_all, place_is}
+use Rattle.optra_checker.proofs.BestWalkLemmas.{all_turned}
 use Rattle.optra_checker.proofs.BoundLemmas.{bound_more}
 use Rattle.optra_checker.proofs.HereLemmas.{all_here}
-use Rattle.optra_checker.proofs.WatchLemmas.{open_load, watches_less}
 use Rattle.optra_checker.proofs.bounding.greatest_from.Goals as goal
 
 pub items-init : goal.items-init
 items-init g c = record {
   kept = c.requires.room;
+  walks = subst (λ node. AreAllBest c.args.inst.net.now (g.F.RowFamily.rows_of c.args.rows.now c.args.inst.net.now) (g.F.RowFamily.rows_used c.args.rows.now c.args.inst.net.now) c.args.inst.bids.now node c.args.walks.now)
+      (sym c.requires.root) c.requires.walks;
   at = at_first c.args.tree.now c.args.room.now.decisions.items c.requires.root;
   so_far = search rules;
 }
@@ -29,35 +28,26 @@ items-init g c = record {
 pub of-node-requires : goal.of-node-requires
 of-node-requires g c = c.items.invariant.kept
 
-pub item_bound-requires-clause-watches : goal.item_bound-requires-clause-watches
-item_bound-requires-clause-watches g c =
-    let net = c.args.inst.net.now in
-    let bids = c.args.inst.bids.now in
-    let rows = g.F.RowFamily.rows_of c.args.rows.now net in
-    let node = c.items.room.decisions.items in
-    let frees = c.args.known.now.frees.now in
-    let known = c.requires.known.watched in
-    let watches = map (option_map (λ (w : Vec g.row.F-Row.Denot Global). w.items)) c.args.known.now.watches.now in
-    let ways = c.items.invariant.at c.items-test.true in
-    let less = watches_less rows bids known.loads (yes_load rows bids node) (λ row none. open_load rows bids row c.args.tree.now c.items.item-index node (to_come node) ways (known.split row none)) frees watches known.are in
-    subst (λ (w : Summed g.row.F.Denot). AreWatches (g.F.RowFamily.rows_of w.family w.net) w.bids (yes_load (g.F.RowFamily.rows_of w.family w.net) w.bids w.node) frees watches)
-    (sym c.of-node.ensures) less
-
-pub item_bound-requires-clause-instance : goal.item_bound-requires-clause-instance
-item_bound-requires-clause-instance g c =
+pub bound_of-requires-clause-instance : goal.bound_of-requires-clause-instance
+bound_of-requires-clause-instance g c =
     subst (λ (w : Summed g.row.F.Denot). IsInstance w.net w.bids) (sym c.of-node.ensures) (record { few = c.args.inst.few; paths = c.args.inst.paths })
 
-pub item_bound-requires-clause-formed : goal.item_bound-requires-clause-formed
-item_bound-requires-clause-formed g c =
+pub bound_of-requires-clause-formed : goal.bound_of-requires-clause-formed
+bound_of-requires-clause-formed g c =
     let cmp = g.F.Row.Ord.cmp in
     let here = all_here (IsFormedItem cmp c.args.inst.net.now (length c.args.inst.bids.now)) c.args.tree.now c.items.item-index c.item-item.result c.items-test.true c.item-item.is c.requires.tree.items in
     subst (λ (w : Summed g.row.F.Denot). IsFormedItem cmp w.net (length w.bids) c.item-item.result) (sym c.of-node.ensures) here
 
-pub item_bound-requires-clause-frees : goal.item_bound-requires-clause-frees
-item_bound-requires-clause-frees g c = subst (λ (w : Summed g.row.F.Denot). AreFree w.net w.bids c.args.known.now.frees.now) (sym c.of-node.ensures) c.requires.known.best
+pub bound_of-requires-clause-walks : goal.bound_of-requires-clause-walks
+bound_of-requires-clause-walks g c =
+    subst (λ (w : Summed g.row.F.Denot). AreAllBest w.net (g.F.RowFamily.rows_of w.family w.net) (g.F.RowFamily.rows_used w.family w.net) w.bids w.node c.items.walks)
+    (sym c.of-node.ensures) c.items.invariant.walks
 
-pub item_bound-requires-clause-prices : goal.item_bound-requires-clause-prices
-item_bound-requires-clause-prices g c =
+pub bound_of-requires-clause-depth : goal.bound_of-requires-clause-depth
+bound_of-requires-clause-depth g c = c.depth_after-depth.ensures.within
+
+pub bound_of-requires-clause-prices : goal.bound_of-requires-clause-prices
+bound_of-requires-clause-prices g c =
     let here = all_here (HasPrices (g.F.RowFamily.rows_of c.args.rows.now c.args.inst.net.now)) c.args.tree.now c.items.item-index c.item-item.result c.items-test.true c.item-item.is c.requires.tree.prices in
     subst (λ (w : Summed g.row.F.Denot). HasPrices (g.F.RowFamily.rows_of w.family w.net) c.item-item.result) (sym c.of-node.ensures) here
 
@@ -86,11 +76,16 @@ items-preserved g c =
     let v = node in
     let next = c.pass.new.room.decisions.items in
     let at = c.items.invariant.at in
-    let told = subst (λ (w : Summed g.row.F.Denot). IsItemBound w.net (g.F.RowFamily.rows_of w.family w.net) w.bids w.node item c.in_ok-cents.cents) c.of-node.ensures c.in_ok-cents.ensures in
+    let told = subst (λ (w : Summed g.row.F.Denot). IsItemBound w.net (g.F.RowFamily.rows_of w.family w.net) w.bids w.node item c.in_ok-cents.cents) c.of-node.ensures c.in_ok-cents.ensures.bound in
     let more = bound_more net rows bids (placed root (take i tree)) node item c.items.greatest c.in_ok-cents.cents told c.items.invariant.so_far in
     let P = IsGreatestOf net rows bids in
+    let used = g.F.RowFamily.rows_used f net in
+    let depth = c.depth_after-depth.result in
+    let left = subst (λ (w : Summed g.row.F.Denot). AreAllBest w.net (g.F.RowFamily.rows_of w.family w.net) (g.F.RowFamily.rows_used w.family w.net) w.bids (take depth w.node) c.bound_of.new.walks)
+    c.of-node.ensures c.in_ok-cents.ensures.walks in
     record {
       kept = c.in_ok-pass.ensures.room;
+      walks = all_turned net rows used bids node next depth c.bound_of.new.walks (c.in_ok-pass.ensures.kept depth (subst (λ (w : Summed g.row.F.Denot). AreKept w.node item depth) c.of-node.ensures c.depth_after-depth.ensures.kept)) left;
       at = at_more tree i item v c.items-test.true c.item-item.is at c.requires.tree.whole next c.in_ok-pass.ensures.next;
       so_far = subst (P (placed root (take (i + 1) tree))) (sym c.greater-greatest.ensures) (subst (λ ps. P ps (greater_of c.items.greatest c.in_ok-cents.cents)) (sym (place_is tree i item v c.items-test.true c.item-item.is at)) more);
     }

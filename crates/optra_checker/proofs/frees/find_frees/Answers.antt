@@ -1,17 +1,25 @@
 -- One more bid.
-use Rattle.std.proofs.Common.{List, subst, arith}
-use Rattle.std.proofs.lemmas.List.{take_all}
-use Rattle.optra_bid.specs.declared.bids.Bid.{Bid}
-use Rattle.optra_checker.specs.Frees.{AreFree}
-use Rattle.optra_checker.proofs.FreeLemmas.{frees_next}
+use Rattle.std.proofs.Common.{◌≡◌, ◌+◌, ◌∙◌, ℕ, [], length, ap, subst, sym, arith}
+use Rattle.std.proofs.lemmas.List.{length-append}
+use Rattle.optra_node.specs.Nodes.{kind_at}
+use Rattle.optra_checker.specs.BestWalks.{AreBestOf}
+use Rattle.optra_checker.specs.declared.best_walks.BestWalks.{BestWalks}
+use Rattle.optra_checker.proofs.BestWalkLemmas.{each_next, free_at}
 use Rattle.optra_checker.proofs.frees.find_frees.Goals as goal
 
-pub bids-preserved : goal.bids-preserved
-bids-preserved c =
-    frees_next c.args.inst.net.now c.args.inst.bids.now c.bids.frees.items c.push.new.self.items c.bids.bid-index c.bid-item.result c.in_ok-free.free c.bids-test.true c.bid-item.is c.in_ok-push.ensures.items c.bids.invariant c.in_ok-free.ensures
+pub bids-init : goal.bids-init
+bids-init g c = let e = ap length c.new-all.ensures.items in record { count = e; each = λ number d l. absurd (omega (arith, l, e)) }
 
 pub bids-smaller : goal.bids-smaller
-bids-smaller c = omega (arith, c.bids-test.true)
+bids-smaller g c = omega (arith, c.bids-test.true)
 
-pub returns : goal.returns
-returns c = subst (λ (bids : List Bid). AreFree c.args.inst.net.now bids c.bids.frees.items) (take_all c.bids.bid-index c.args.inst.bids.now c.bids-test.false) c.bids.invariant
+pub bids-preserved : goal.bids-preserved
+bids-preserved g c =
+    let net = c.args.inst.net.now in
+    let bids = c.args.inst.bids.now in
+    let rows = g.F.RowFamily.rows_of c.args.rows.now net in
+    let used = g.F.RowFamily.rows_used c.args.rows.now net in
+    let i = c.bids.bid-index in
+    let here = free_at g.F.Row.Ord.cmp net rows used bids i c.bid-item.result c.bids-test.true c.bid-item.is c.args.inst.proper
+    (λ leg usable. g.met.F.RowFamily.lists_rows c.args.rows.now net (kind_at bids i) leg usable) c.in_ok-walks.walks c.in_ok-free.free c.in_ok-walks.ensures.kept c.in_ok-walks.ensures.held c.in_ok-free.ensures in
+    each_next (AreBestOf net rows used bids []) c.bids.all.items c.push.new.self.items c.in_ok-walks.walks i c.in_ok-push.ensures.items c.bids.invariant here

@@ -1,6 +1,7 @@
-use Rattle.std.proofs.Common.{◌∷◌, [], length, refl, sym, ap, ◌∙◌, inr, arith}
-use Rattle.std.proofs.lemmas.List.{length-append}
-use Rattle.optra_checker.proofs.ToComeLemmas.{no_leaves_none, yes_leaves_no}
+use Rattle.std.proofs.Common.{◌∷◌, [], length, refl, sym, ap, ◌∙◌, ◌≡◌, inr, arith, rules}
+use Rattle.std.proofs.lemmas.List.{length-append, take_all}
+use Rattle.optra_node.specs.Trees.{decide_not}
+use Rattle.optra_checker.proofs.ToComeLemmas.{no_leaves_none, yes_leaves_no, back_first, back_yes, back_kept, yes_inside}
 use Rattle.std.proofs.lemmas.Result.{on_ok_weaker}
 use Rattle.optra_checker.proofs.node_room.turn.Goals as goal
 
@@ -19,10 +20,26 @@ pub back-preserved : goal.back-preserved
 back-preserved g c = record {
   kept = c.undo-last.ensures.room;
   to_come_is = sym (no_leaves_none c.back.room.decisions.items c.undo-last.new.room.decisions.items c.undo-last.result c.undo-last.ensures.last c.if-last.false) ∙ c.back.invariant.to_come_is;
+  first = back_first c.args.room.now.decisions.items c.back.room.decisions.items c.undo-last.new.room.decisions.items c.undo-last.result c.undo-last.ensures.last c.back.invariant.first;
+  yes = λ k h. back_yes c.args.room.now.decisions.items c.back.room.decisions.items c.undo-last.new.room.decisions.items c.undo-last.result c.undo-last.ensures.last c.back.invariant.first c.if-last.false k (c.back.invariant.yes k h) h;
 }
 
+pub returns-then-last-clause-kept : goal.returns-then-last-clause-kept
+returns-then-last-clause-kept g c =
+    on_ok_weaker c.decide.result
+    (λ made k h. back_kept c.args.room.now.decisions.items c.back.room.decisions.items c.undo-last.new.room.decisions.items c.undo-last.result c.undo-last.ensures.last c.back.invariant.first
+    c.decide.new.room.decisions.items (decide_not c.undo-last.result.bid c.undo-last.result.leg) k made (c.back.invariant.yes k h)) c.decide.ensures.more
+
 pub back-init : goal.back-init
-back-init g c = record { kept = c.requires; to_come_is = refl }
+back-init g c = record {
+  kept = c.requires;
+  to_come_is = refl;
+  first = take_all (length c.args.room.now.decisions.items) c.args.room.now.decisions.items (omega arith);
+  yes = λ k h. yes_inside c.args.room.now.decisions.items k h;
+}
+
+pub returns-clause-kept : goal.returns-clause-kept
+returns-clause-kept g c k h = let l = c.back.invariant.yes k h in let empty : length c.back.room.decisions.items ≡ 0 = grind (arith, rules, c.is_empty.ensures, c.back-test.false) in absurd (omega (arith, l, empty))
 
 pub back-smaller : goal.back-smaller
 back-smaller g c =

@@ -8,8 +8,8 @@ use Rattle.optra_checker.specs.Leaves.{dual_by}
 use Rattle.optra_checker.proofs.LeafLemmas.{dual_is}
 use Rattle.optra_checker.proofs.terms.leaf_bound.Goals as goal
 
-pub returns : goal.returns
-returns g c =
+pub returns-clause-bound : goal.returns-clause-bound
+returns-clause-bound g c =
     let node = c.args.node.now in
     let rows = g.F.RowFamily.rows_of node.family node.net in
     let sum = c.in_ok-sum.sum in
@@ -30,11 +30,8 @@ term_sum-requires-clause-ascending g c = c.requires.ascending
 pub term_sum-requires-clause-proper : goal.term_sum-requires-clause-proper
 term_sum-requires-clause-proper g c = c.requires.proper
 
-pub term_sum-requires-clause-frees : goal.term_sum-requires-clause-frees
-term_sum-requires-clause-frees g c = c.requires.frees
-
-pub term_sum-requires-clause-watches : goal.term_sum-requires-clause-watches
-term_sum-requires-clause-watches g c = c.requires.watches
+pub term_sum-requires-clause-walks : goal.term_sum-requires-clause-walks
+term_sum-requires-clause-walks g c = c.requires.walks
 
 pub term_sum-requires-clause-instance : goal.term_sum-requires-clause-instance
 term_sum-requires-clause-instance g c = c.requires.instance

@@ -1,7 +1,7 @@
 use Rattle.std.proofs.Common.{◌∙◌, length, sym, ap, ◌<◌, subst}
 use Rattle.optra_node.specs.Summaries.{Summed, decisions_for}
 use Rattle.optra_checker.proofs.IndexLemmas.{own_within}
-use Rattle.optra_checker.proofs.WatchLemmas.{none_own}
+use Rattle.optra_checker.proofs.OwnLemmas.{none_own}
 use Rattle.optra_checker.proofs.open_node.OpenNode.is_left_alone.Goals as goal
 
 pub returns : goal.returns

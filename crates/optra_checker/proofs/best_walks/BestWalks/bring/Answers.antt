@@ -1,0 +1,25 @@
+use Rattle.optra_checker.proofs.BestWalkLemmas.{brought_more_of}
+use Rattle.optra_checker.proofs.best_walks.BestWalks.bring.Goals as goal
+
+pub standing-requires-clause-bid : goal.standing-requires-clause-bid
+standing-requires-clause-bid g c = c.requires.bid
+
+pub standing-requires-clause-latest : goal.standing-requires-clause-latest
+standing-requires-clause-latest g c = c.requires.latest
+
+pub standing-requires-clause-walks : goal.standing-requires-clause-walks
+standing-requires-clause-walks g c = c.requires.walks
+
+pub find_best-requires-clause-bid : goal.find_best-requires-clause-bid
+find_best-requires-clause-bid g c = c.requires.bid
+
+pub find_best-requires-clause-latest : goal.find_best-requires-clause-latest
+find_best-requires-clause-latest g c = c.requires.latest
+
+pub returns-clause-walks : goal.returns-clause-walks
+returns-clause-walks g c =
+    let node = c.args.node.now in
+    let rows = g.F.RowFamily.rows_of node.family node.net in
+    let used = g.F.RowFamily.rows_used node.family node.net in
+    let found = c.in_ok-best.ensures in
+    brought_more_of node.net rows used node.bids c.args.bid node.node c.args.self.now _ c.requires.walks c.in_ok-best.best c.in_ok-push.ensures.items c.depth-self-2.ensures found.depth found.best found.size found.walk found.free

@@ -1,0 +1,33 @@
+use Rattle.std.proofs.Common.{◌≡◌, ◌<◌, ◌-◌, ◌∙◌, List, [], Some, length, slice_get, ap, sym, subst}
+use Rattle.std.specs.Prelude.{All}
+use Rattle.optra_walk.specs.declared.Leg.{Leg}
+use Rattle.optra_walk.specs.Families.{IsUsable}
+use Rattle.optra_node.specs.Nodes.{kind_at}
+use Rattle.optra_checker.specs.BestWalks.{last_best}
+use Rattle.optra_checker.specs.Frees.{IsStillFree}
+use Rattle.optra_checker.specs.Leaves.{leaf_weights}
+use Rattle.optra_checker.specs.declared.best_walk.BestWalk.{BestWalk}
+use Rattle.optra_checker.proofs.BestWalkLemmas.{best_usable, last_is, stands_best}
+use Rattle.optra_checker.proofs.best_walks.BestWalks.standing.Goals as goal
+
+pub stand_beside-requires-clause-usable : goal.stand_beside-requires-clause-usable
+stand_beside-requires-clause-usable g c =
+    let node = c.args.node.now in
+    let rows = g.F.RowFamily.rows_of node.family node.net in
+    let used = g.F.RowFamily.rows_used node.family node.net in
+    let at : last_best c.args.self.now ≡ Some c.in-Some.best.now = ap (λ (list : List BestWalk). slice_get list (length list - 1)) (sym c.deref.ensures.value) ∙ sym c.in-Some.ensures.value in
+    let is = last_is node.net rows used node.bids node.node c.args.bid c.args.self.now c.in-Some.best.now at c.requires.walks in
+    subst (λ (ls : List Leg). All (IsUsable node.net (kind_at node.bids c.args.bid)) ls) (sym c.legs_of.ensures)
+    (best_usable node.net rows used node.bids node.node c.args.bid c.in-Some.best.now c.laws.ensures is)
+
+pub returns-then-stand_beside-clause-best : goal.returns-then-stand_beside-clause-best
+returns-then-stand_beside-clause-best g c b there =
+    let node = c.args.node.now in
+    let rows = g.F.RowFamily.rows_of node.family node.net in
+    let used = g.F.RowFamily.rows_used node.family node.net in
+    let best = c.in-Some.best.now in
+    let at : last_best c.args.self.now ≡ Some best = ap (λ (list : List BestWalk). slice_get list (length list - 1)) (sym c.deref.ensures.value) ∙ sym c.in-Some.ensures.value in
+    let is = last_is node.net rows used node.bids node.node c.args.bid c.args.self.now best at c.requires.walks in
+    stands_best node.net rows used node.bids node.node c.args.bid best is
+    (subst (λ (ls : List Leg). IsStillFree (leaf_weights node.net rows used node.bids node.node c.args.bid [] (kind_at node.bids c.args.bid)) ls) c.legs_of.ensures (c.stand_beside.ensures.free c.if-stand_beside.true))
+    (subst (λ (ls : List Leg). 0 < length ls) c.legs_of.ensures (c.stand_beside.ensures.some c.if-stand_beside.true)) b there

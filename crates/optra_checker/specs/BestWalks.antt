@@ -1,0 +1,93 @@
+-- What the best walks of a bid are worth at the nodes on the way to the one that is open.
+use Rattle.std.specs.Prelude.{◌≡◌, ℕ, ◌-◌, ◌<◌, ◌≤◌, List, [], length, take, All, Option, None, Some, IfSome, IsSomeAnd, slice_get, slice_index_or}
+use Rattle.std.specs.Prelude.{ℤ, pos, ◌*ℤ◌, ◌≤ℤ◌}
+use Rattle.std.specs.declared.cmp.Ordering.{Ordering}
+use Rattle.optra_network.specs.Net.{Net}
+use Rattle.optra_network.specs.declared.TypeId.{TypeId}
+use Rattle.optra_bid.specs.declared.bids.Bid.{Bid}
+use Rattle.optra_walk.specs.declared.Leg.{Leg}
+use Rattle.optra_walk.specs.Families.{Rows}
+use Rattle.optra_walk.specs.Values.{value_of}
+use Rattle.optra_node.specs.declared.Decision.{Decision}
+use Rattle.optra_node.specs.Duals.{PriceList}
+use Rattle.optra_node.specs.Nodes.{kind_at, yes_uses}
+use Rattle.optra_node.specs.Summaries.{Summed}
+use Rattle.optra_checker.specs.Frees.{Attains, IsStillFree}
+use Rattle.optra_checker.specs.Leaves.{leaf_weights, weights_at}
+use Rattle.optra_checker.specs.Loaded.{AreRising, IsMissing}
+use Rattle.optra_checker.specs.Weights.{Weights, IsOpenWalk, IsBestWorth, IsWorthSize}
+use Rattle.optra_checker.specs.declared.best_walk.BestWalk.{BestWalk}
+use Rattle.optra_checker.specs.declared.best_walks.BestWalks.{BestWalks}
+
+-- no walk that may be had has a greater value, in thousandths of a cent; none may be had where there is no number
+abbrev pub IsCeiling : Weights → Net → Bid → Option ℤ → Type 0
+IsCeiling w net bid None = (legs : List Leg) → IsOpenWalk w net bid.path legs → ⊥
+IsCeiling w net bid (Some n) = (legs : List Leg) → IsOpenWalk w net bid.path legs → (pos 1000 *ℤ value_of net bid.path bid.money legs) ≤ℤ n
+
+-- the starts and legs that the node of so many first decisions allows a walk of the bid, at no price
+abbrev pub weights_within : {R : Type 0} → Net → Rows R → (TypeId → Leg → List R) → List Bid → List Decision → ℕ → ℕ → Weights
+weights_within net rows used bids node number depth = leaf_weights net rows used bids (take depth node) number [] (kind_at bids number)
+
+-- the best walk of the bid at the node of so many first decisions
+pub record IsBestWalk {R : Type 0} (net : Net) (rows : Rows R) (used : TypeId → Leg → List R) (bids : List Bid) (node : List Decision) (number : ℕ) (bid : Bid) (best : BestWalk) : Type 0 where
+  pub depth : best.depth ≤ length node
+  pub ceiling : IsCeiling (weights_within net rows used bids node number best.depth) net bid best.worth
+  pub size : IfSome best.worth IsWorthSize
+  pub walk : 0 < length best.legs.items → Attains net bid best.worth best.legs.items
+  pub still : 0 < length best.legs.items → IsStillFree (weights_within net rows used bids node number best.depth) best.legs.items
+
+-- the last one
+abbrev pub last_best : BestWalks → Option BestWalk
+last_best walks = slice_get walks.kept.items (length walks.kept.items - 1)
+
+-- each is the best walk at its node, and so many first decisions of the open node allow the legs of the last one
+pub record AreBestWalks {R : Type 0} (net : Net) (rows : Rows R) (used : TypeId → Leg → List R) (bids : List Bid) (node : List Decision) (number : ℕ) (bid : Bid) (walks : BestWalks) : Type 0 where
+  pub each : All (IsBestWalk net rows used bids node number bid) walks.kept.items
+  pub within : walks.held ≤ length node
+  pub held : IfSome (last_best walks) (λ best. 0 < length best.legs.items → IsStillFree (weights_within net rows used bids node number walks.held) best.legs.items)
+
+-- the same of the bid at a position
+abbrev pub AreBestOf : {R : Type 0} → Net → Rows R → (TypeId → Leg → List R) → List Bid → List Decision → ℕ → BestWalks → Type 0
+AreBestOf net rows used bids node number walks = IsSomeAnd (slice_get bids number) (λ b. AreBestWalks net rows used bids node number b walks)
+
+-- of the node that is seen
+abbrev pub AreBestAt : {X R : Type 0} → (X → Net → Rows R) → (X → Net → TypeId → Leg → List R) → Summed X → ℕ → BestWalks → Type 0
+AreBestAt rows_of rows_used s number walks = AreBestOf s.net (rows_of s.family s.net) (rows_used s.family s.net) s.bids s.node number walks
+
+-- the greatest worth of the walks of the bid that the node allows, at the prices
+abbrev pub IsBestAt : {X R : Type 0} → (X → Net → Rows R) → (X → Net → TypeId → Leg → List R) → Summed X → ℕ → PriceList R → Option ℤ → Type 0
+IsBestAt rows_of rows_used s number prices worth =
+    (bid : Bid) → slice_get s.bids number ≡ Some bid → IsBestWorth (weights_at rows_of rows_used s number prices) s.net bid worth
+
+-- the node allows the legs, at no price
+abbrev pub AreFreeAt : {X R : Type 0} → (X → Net → Rows R) → (X → Net → TypeId → Leg → List R) → Summed X → ℕ → PriceList R → List Leg → Type 0
+AreFreeAt rows_of rows_used s number prices legs = IsStillFree (weights_at rows_of rows_used s number prices) legs
+
+-- the best walk of the bid at the node that is seen
+pub record IsFoundAt {X R : Type 0} (rows_of : X → Net → Rows R) (rows_used : X → Net → TypeId → Leg → List R) (s : Summed X) (number : ℕ) (found : BestWalk) : Type 0 where
+  pub depth : found.depth ≡ length s.node
+  pub best : IsBestAt rows_of rows_used s number [] found.worth
+  pub size : IfSome found.worth IsWorthSize
+  pub walk : 0 < length found.legs.items → (bid : Bid) → slice_get s.bids number ≡ Some bid → Attains s.net bid found.worth found.legs.items
+  pub free : 0 < length found.legs.items → AreFreeAt rows_of rows_used s number [] found.legs.items
+
+-- the best walks of each bid
+pub record AreAllBest {R : Type 0} (net : Net) (rows : Rows R) (used : TypeId → Leg → List R) (bids : List Bid) (node : List Decision) (walks : List BestWalks) : Type 0 where
+  pub count : length walks ≡ length bids
+  pub each : (number : ℕ) (d : BestWalks) → number < length walks → AreBestOf net rows used bids node number (slice_index_or walks number d)
+
+abbrev pub AreAllBestAt : {X R : Type 0} → (X → Net → Rows R) → (X → Net → TypeId → Leg → List R) → Summed X → List BestWalks → Type 0
+AreAllBestAt rows_of rows_used s walks = AreAllBest s.net (rows_of s.family s.net) (rows_used s.family s.net) s.bids s.node walks
+
+-- the last decision uses nothing of any other row
+abbrev pub AreLastRows : {R : Type 0} → (R → R → Ordering) → Rows R → List Bid → List Decision → List R → Type 0
+AreLastRows {R} cmp rows bids node listed = IfSome (slice_get node (length node - 1)) (λ last. (row : R) → IsMissing cmp listed row → yes_uses rows bids row last ≡ 0)
+
+-- the rows that the last decision uses, ascending
+pub record AreLatest {R : Type 0} (cmp : R → R → Ordering) (rows : Rows R) (bids : List Bid) (node : List Decision) (listed : List R) : Type 0 where
+  pub rising : AreRising cmp listed
+  pub all : AreLastRows cmp rows bids node listed
+
+-- of the node that is seen
+abbrev pub AreLatestAt : {X R : Type 0} → (R → R → Ordering) → (X → Net → Rows R) → Summed X → List R → Type 0
+AreLatestAt cmp rows_of s listed = AreLatest cmp (rows_of s.family s.net) s.bids s.node listed

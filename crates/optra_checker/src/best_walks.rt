@@ -1,0 +1,323 @@
+//! The best walks of a bid, kept from node to node on the way down a tree.
+//!
+//! Further decisions leave fewer walks allowed. So what the best walk is worth at a node bounds the
+//! walks at every node below, and where such a walk is still allowed there, it is the best. A
+//! decision bears on few bids, so few are searched anew.
+ghost use Rattle.std.specs.Prelude.{◌≡◌, ◌<◌, ◌≤◌, [], All, IfOk, IfSome, IsTrue, OnOk, Some, length, slice_get, take};
+ghost use Rattle.optra_bid.specs.declared.bids.Bid.{Bid as Asked};
+ghost use Rattle.optra_node.specs.Duals.{ArePrices};
+ghost use Rattle.optra_node.specs.Certificates.{AreAscending};
+ghost use Rattle.optra_node.specs.Nodes.{kind_at};
+ghost use Rattle.optra_walk.specs.Families.{IsUsable};
+ghost use Rattle.optra_checker.specs.BestWalks.{AreBestAt, AreBestOf, AreFreeAt, AreLatestAt, IsBestAt, IsFoundAt, last_best, weights_within};
+ghost use Rattle.optra_checker.specs.Frees.{Attains, IsStillFree};
+ghost use Rattle.optra_checker.specs.Loaded.{AreRising, KeepsOff};
+ghost use Rattle.optra_checker.specs.Weights.{IsWorthSize};
+
+use crate::best_walk::{BestWalk, attains, legs_of};
+use crate::leaf_prices::are_none;
+use crate::leaf_search::best_found;
+use crate::open_node::OpenNode;
+use crate::rest_table::RestTable;
+use crate::staying::{are_free, stays_best};
+use crate::tracing::{Admits, trace};
+use optra_network::{Minute, NoMemory};
+use optra_walk::{Leg, RowFamily};
+use std::alloc::Global;
+
+/// The best walks of a bid at nodes on the way to the one that is open, the nearest last.
+#[derive(Drop)]
+pub(crate) struct BestWalks {
+    pub(crate) kept: Vec<BestWalk>,
+    /// So many first decisions of the open node allow the legs of the last one.
+    pub(crate) held: usize,
+}
+
+/// How many first ones are of nodes of at most so many decisions, up to the first that isn't.
+fn count_within(kept: &[BestWalk], depth: usize) -> usize
+    ensures count { result ≤ length kept.now }
+    ensures within { All (λ best. best.depth ≤ depth) (take result kept.now) }
+{
+    let mut count = 0;
+    'kept: for best in kept {
+        if best.depth > depth {
+            return count;
+        }
+        count += 1;
+    }
+    count
+}
+
+/// Starts and legs that a node allows a walk of a bid.
+#[derive(Drop)]
+struct NodeLegs<'a, 'b, F: RowFamily> {
+    node: &'a OpenNode<'b, F>,
+    bid: u32,
+    ghost in_range: { bid < length node.now.bids },
+}
+
+impl<'a, 'b, F: RowFamily> Admits for NodeLegs<'a, 'b, F> {
+    fn admits_start(&self, minute: Minute) -> bool {
+        self.node.may_start(self.bid, minute)
+    }
+
+    fn admits(&self, leg: Leg) -> bool {
+        self.node.is_formed(leg) && self.node.leg_ok(self.bid, leg)
+    }
+}
+
+/// Whether no leg uses any of the rows, or a row above its capacity.
+fn all_keep_off<F: RowFamily>(
+    node: &OpenNode<'_, F>,
+    listed: &[F::Row],
+    bid: u32,
+    legs: &[Leg],
+) -> bool
+    requires bid { bid < length node.now.bids }
+    requires usable { All (IsUsable node.now.net (kind_at node.now.bids bid)) legs.now }
+    requires rising { AreRising F.Row.cmp listed.now }
+    ensures { IsTrue result → All (KeepsOff F.Row.cmp (F.rows_of node.now.family node.now.net)
+        (kind_at node.now.bids bid) listed.now) legs.now }
+{
+    'legs: for leg in legs {
+        if !node.keeps_off(listed, bid, *leg) {
+            return false;
+        }
+    }
+    true
+}
+
+/// Whether it is seen at once that the node allows legs that so many of its first decisions allow:
+/// no later decision bears on them.
+fn stand_beside<F: RowFamily>(
+    node: &OpenNode<'_, F>,
+    latest: &[F::Row],
+    bid: u32,
+    held: usize,
+    legs: &[Leg],
+) -> bool
+    requires bid { bid < length node.now.bids }
+    requires latest { AreLatestAt F.Row.cmp F.rows_of node.now latest.now }
+    requires usable { All (IsUsable node.now.net (kind_at node.now.bids bid)) legs.now }
+    requires within { held ≤ length node.now.node }
+    requires held { 0 < length legs.now → IsStillFree (weights_within node.now.net
+        (F.rows_of node.now.family node.now.net) (F.rows_used node.now.family node.now.net)
+        node.now.bids node.now.node bid held) legs.now }
+    ensures free { IsTrue result → AreFreeAt F.rows_of F.rows_used node.now bid [] legs.now }
+    ensures some { IsTrue result → 0 < length legs.now }
+{
+    if legs.is_empty() {
+        return false;
+    }
+    if held == node.depth() {
+        return true;
+    }
+    if held + 1 != node.depth() || node.is_last_for(bid) {
+        return false;
+    }
+    all_keep_off(node, latest, bid, legs)
+}
+
+/// Whether the legs are a walk of the bid that is worth as much, and that the node allows.
+fn are_best<F: RowFamily>(
+    alloc: Global,
+    node: &OpenNode<'_, F>,
+    bid: u32,
+    worth: Option<i128>,
+    legs: &[Leg],
+) -> bool
+    requires { bid < length node.now.bids }
+    ensures walk { IsTrue result → (b : Asked) → slice_get node.now.bids bid ≡ Some b
+        → Attains node.now.net b worth legs.now }
+    ensures free { IsTrue result → AreFreeAt F.rows_of F.rows_used node.now bid [] legs.now }
+{
+    let inst = node.inst();
+    if !attains(inst.net, &inst.bids[bid as usize], worth, legs) {
+        return false;
+    }
+    node.laws();
+    let prices = Vec::new(alloc);
+    are_free(node, &prices, bid, legs)
+}
+
+/// The legs of a walk of the bid that is worth as much, and that the node allows, by the table that
+/// a search left filled; none where none is found. `NoMemory` is its only refusal.
+fn find_legs<F: RowFamily>(
+    alloc: Global,
+    node: &OpenNode<'_, F>,
+    bid: u32,
+    worth: Option<i128>,
+    table: &RestTable,
+) -> Result<Vec<Leg>, NoMemory>
+    requires { bid < length node.now.bids }
+    ensures walk { IfOk result (λ legs. 0 < length legs.items → (b : Asked)
+        → slice_get node.now.bids bid ≡ Some b → Attains node.now.net b worth legs.items) }
+    ensures free { IfOk result (λ legs. 0 < length legs.items → AreFreeAt F.rows_of F.rows_used
+        node.now bid [] legs.items) }
+{
+    let inst = node.inst();
+    let allowed = NodeLegs { node, bid };
+    let legs = trace(alloc, inst.net, &inst.bids[bid as usize], &allowed, table)?;
+    if are_best(alloc, node, bid, worth, &legs) {
+        Ok(legs)
+    } else {
+        Ok(Vec::new(alloc))
+    }
+}
+
+/// The best walk of the bid that the node allows, by a search. `NoMemory` is its only refusal.
+fn find_best<F: RowFamily>(
+    alloc: Global,
+    node: &OpenNode<'_, F>,
+    latest: &[F::Row],
+    bid: u32,
+    table: &mut RestTable,
+) -> Result<BestWalk, NoMemory>
+    requires bid { bid < length node.now.bids }
+    requires latest { AreLatestAt F.Row.cmp F.rows_of node.now latest.now }
+    ensures { IfOk result (IsFoundAt F.rows_of F.rows_used node.now bid) }
+{
+    let prices = Vec::new(alloc);
+    let worth = best_found(alloc, node, &prices, bid, table)?;
+    let legs = find_legs(alloc, node, bid, worth, table)?;
+    Ok(BestWalk {
+        depth: node.depth(),
+        worth,
+        legs,
+    })
+}
+
+impl BestWalks {
+    /// Turns from the open node to that of so many first decisions.
+    pub(crate) fn leave<F: RowFamily>(&mut self, node: &OpenNode<'_, F>, bid: u32, depth: usize)
+        requires depth { depth ≤ length node.now.node }
+        requires walks { AreBestAt F.rows_of F.rows_used node.now bid self.old }
+        ensures { AreBestOf node.now.net (F.rows_of node.now.family node.now.net)
+            (F.rows_used node.now.family node.now.net) node.now.bids (take depth node.now.node) bid
+            self.new }
+    {
+        let _ = node;
+        let _ = bid;
+        let count = count_within(&self.kept, depth);
+        if count < self.kept.len() {
+            self.kept.truncate(count);
+            self.held = 0;
+            return;
+        }
+        self.held = self.held.min(depth);
+    }
+
+    /// What the last one is worth, where it is seen at once that nothing is better at the open node
+    /// and the prices, and that the node allows its legs at no price.
+    fn standing_at<F: RowFamily>(
+        &self,
+        node: &OpenNode<'_, F>,
+        prices: &[(F::Row, i64)],
+        bid: u32,
+    ) -> Option<Option<i128>>
+        requires bid { bid < length node.now.bids }
+        requires ascending { AreAscending F.Row.cmp prices.now }
+        requires proper { ArePrices (F.rows_of node.now.family node.now.net) prices.now }
+        requires walks { AreBestAt F.rows_of F.rows_used node.now bid self.now }
+        ensures best { IfSome result (IsBestAt F.rows_of F.rows_used node.now bid prices.now) }
+        ensures size { IfSome result (λ worth. IfSome worth IsWorthSize) }
+        ensures free { IfSome result (λ _. IfSome (last_best self.now) (λ best.
+            0 < length best.legs.items → AreFreeAt F.rows_of F.rows_used node.now bid prices.now
+            best.legs.items)) }
+    {
+        let Some(best) = self.kept.last() else {
+            return None;
+        };
+        if stays_best(node, prices, bid, best) {
+            Some(best.worth)
+        } else {
+            None
+        }
+    }
+
+    /// As [`BestWalks::standing_at`], where no row has a price.
+    fn standing<F: RowFamily>(
+        &self,
+        alloc: Global,
+        node: &OpenNode<'_, F>,
+        latest: &[F::Row],
+        bid: u32,
+    ) -> Option<Option<i128>>
+        requires bid { bid < length node.now.bids }
+        requires latest { AreLatestAt F.Row.cmp F.rows_of node.now latest.now }
+        requires walks { AreBestAt F.rows_of F.rows_used node.now bid self.now }
+        ensures best { IfSome result (IsBestAt F.rows_of F.rows_used node.now bid []) }
+        ensures size { IfSome result (λ worth. IfSome worth IsWorthSize) }
+        ensures free { IfSome result (λ _. IfSome (last_best self.now) (λ best.
+            0 < length best.legs.items → AreFreeAt F.rows_of F.rows_used node.now bid []
+            best.legs.items)) }
+    {
+        let Some(best) = self.kept.last() else {
+            return None;
+        };
+        node.laws();
+        if stand_beside(node, latest, bid, self.held, legs_of(best)) {
+            return Some(best.worth);
+        }
+        let prices = Vec::new(alloc);
+        self.standing_at(node, &prices, bid)
+    }
+
+    /// Brings the best walks to the open node. What the best one is worth there, where no row has a
+    /// price, in thousandths of a cent; `None` exactly where the node allows no walk. `NoMemory` is
+    /// its only refusal.
+    pub(crate) fn bring<F: RowFamily>(
+        &mut self,
+        alloc: Global,
+        node: &OpenNode<'_, F>,
+        latest: &[F::Row],
+        bid: u32,
+        table: &mut RestTable,
+    ) -> Result<Option<i128>, NoMemory>
+        requires bid { bid < length node.now.bids }
+        requires latest { AreLatestAt F.Row.cmp F.rows_of node.now latest.now }
+        requires walks { AreBestAt F.rows_of F.rows_used node.now bid self.old }
+        ensures walks { OnOk result (AreBestAt F.rows_of F.rows_used node.now bid self.new) }
+        ensures best { IfOk result (IsBestAt F.rows_of F.rows_used node.now bid []) }
+        ensures size { IfOk result (λ worth. IfSome worth IsWorthSize) }
+    {
+        if let Some(worth) = self.standing(alloc, node, latest, bid) {
+            self.held = node.depth();
+            return Ok(worth);
+        }
+        let best = find_best(alloc, node, latest, bid, table)?;
+        let worth = best.worth;
+        self.kept.push(best)?;
+        self.held = node.depth();
+        Ok(worth)
+    }
+
+    /// As [`BestWalks::bring`], at the prices.
+    pub(crate) fn bring_at<F: RowFamily>(
+        &mut self,
+        alloc: Global,
+        node: &OpenNode<'_, F>,
+        latest: &[F::Row],
+        prices: &[(F::Row, i64)],
+        bid: u32,
+        table: &mut RestTable,
+    ) -> Result<Option<i128>, NoMemory>
+        requires bid { bid < length node.now.bids }
+        requires latest { AreLatestAt F.Row.cmp F.rows_of node.now latest.now }
+        requires ascending { AreAscending F.Row.cmp prices.now }
+        requires proper { ArePrices (F.rows_of node.now.family node.now.net) prices.now }
+        requires walks { AreBestAt F.rows_of F.rows_used node.now bid self.old }
+        ensures walks { OnOk result (AreBestAt F.rows_of F.rows_used node.now bid self.new) }
+        ensures best { IfOk result (IsBestAt F.rows_of F.rows_used node.now bid prices.now) }
+        ensures size { IfOk result (λ worth. IfSome worth IsWorthSize) }
+    {
+        let worth = self.bring(alloc, node, latest, bid, table)?;
+        if are_none(prices) {
+            return Ok(worth);
+        }
+        if let Some(worth) = self.standing_at(node, prices, bid) {
+            return Ok(worth);
+        }
+        best_found(alloc, node, prices, bid, table)
+    }
+}
