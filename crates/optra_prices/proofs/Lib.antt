@@ -48,7 +48,6 @@ pub mod ListingLemmas
 pub mod ActivePriceLemmas
 pub mod LoadingLemmas
 pub mod AllowLemmas
-pub mod ArcTermLemmas
 pub mod RoomLemmas
 pub mod ClaimLemmas
 pub mod FillLemmas

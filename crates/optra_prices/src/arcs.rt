@@ -10,8 +10,9 @@ use optra_network::NoMemory;
 use std::alloc::Global;
 use std::marker::Model;
 
-/// Among so many of the values that were entered last, that of a new arc is looked for. A bid has few different ones.
-const RECENT: usize = 16;
+/// Among so many of the values that were entered last, that of a new arc is looked for: more than a leg has actions with
+/// values of their own, which are a wait's minutes, at most 30, and one for all others. A bid has few different values.
+const RECENT: usize = 40;
 
 /// Arcs in the order in which they were entered: first the narrow ones, and then the others, from the first one on that
 /// has too high a group or too many values before it.

@@ -1,6 +1,5 @@
 //! What decisions use of rows, by the numbers of rows. The family is asked once for each decision, when it enters.
 ghost use Rattle.std.specs.Prelude.{◌≡◌, ◌<◌, ◌↔◌, IsTrue, true, [], All, IfOk, OnOk, length};
-ghost use Rattle.optra_network.specs.Net.{MayUse};
 ghost use Rattle.optra_node.specs.Nodes.{IsFormedDecision, kind_at};
 ghost use Rattle.optra_walk.specs.Families.{IsUsable};
 ghost use Rattle.optra_prices.specs.Claims.{ClaimsMore, IsClaim, AreClaims, Claims, claim_uses, placed_uses, touches_at};
@@ -12,8 +11,8 @@ use crate::rooms::{Room, add_touches, are_touches_within, take_touches};
 use crate::row_numbers::{RowNumbers, number_of};
 use crate::touch::Touch;
 use crate::touch_slice::TouchSlice;
-use optra_network::{Network, NoMemory, TrackId, TypeId};
-use optra_node::Decision;
+use optra_network::{Network, NoMemory, TypeId};
+use optra_node::{Decision, kind_at, may_use};
 use optra_walk::{Instance, Leg, RowFamily};
 use std::alloc::Global;
 
@@ -24,22 +23,6 @@ pub(crate) struct Claim {
     pub(crate) touches: Vec<Touch>,
     /// All of them have one.
     pub(crate) whole: bool,
-}
-
-/// The train type of a bid.
-pub(crate) fn kind_at(inst: Instance<'_>, bid: u32) -> TypeId
-    requires { bid < length inst.bids.now }
-    ensures { result ≡ kind_at inst.entry.bids.now bid }
-{
-    let bid = &inst.bids[bid as usize];
-    bid.path.kind
-}
-
-/// Whether the type may use the track.
-fn may_use(net: &Network, track: TrackId, kind: TypeId) -> bool
-    ensures { IsTrue result ↔ MayUse net.now track kind }
-{
-    net.run(track, kind, true, true).is_some()
 }
 
 /// Nothing is used.

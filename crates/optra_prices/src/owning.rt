@@ -5,9 +5,8 @@ ghost use Rattle.optra_node.specs.Spans.{IsLetBy, IsStartOk};
 ghost use Rattle.optra_node.specs.Summaries.{decisions_for, AreByBid};
 ghost use Rattle.optra_prices.specs.Claims.{AreAt, ArePlacesByBid};
 
-use crate::claims::kind_at;
 use optra_network::{Minute, NoMemory};
-use optra_node::{Decision, Node, let_by, start_ok};
+use optra_node::{Decision, Node, kind_at, let_by, start_ok};
 use optra_walk::{Instance, Leg, RowFamily};
 use std::alloc::Global;
 use std::marker::Model;

@@ -33,7 +33,7 @@ fn start_term(bid: &Bid, minute: Minute) -> ArcTerm
     ensures range { IsArcValue result.value }
     ensures group { result.group ≡ 0 }
 {
-    ArcTerm::new(start_value(bid, minute), 0, false)
+    ArcTerm::new(start_value(bid, minute), 0)
 }
 
 /// The arc of a leg, which touches the rows of a group.
@@ -42,7 +42,7 @@ fn leg_term(net: &Network, bid: &Bid, leg: Leg, group: usize) -> ArcTerm
     ensures range { IsArcValue result.value }
     ensures group { result.group ≡ group }
 {
-    ArcTerm::new(leg_value(net, bid, leg), group, false)
+    ArcTerm::new(leg_value(net, bid, leg), group)
 }
 
 /// The arc at a place, with a group for its leg.

@@ -11,7 +11,7 @@ use crate::fixing::is_fixed;
 use crate::freeing::{first_free, freest_leg};
 use optra_graph::Graphs;
 use optra_network::{Network, NoMemory, TypeId};
-use optra_node::Node;
+use optra_node::{Node, kind_at};
 use optra_walk::{Instance, Leg, RowFamily, Walk};
 use std::alloc::Global;
 
@@ -50,15 +50,6 @@ fn is_crowding<F: RowFamily>(
 {
     let kind = kind_at(inst, bid);
     !is_fixed(node, bid, leg) && uses_one(inst.net, rows, kind, leg, listed)
-}
-
-/// The type of the bid's train.
-fn kind_at(inst: Instance<'_>, bid: u32) -> TypeId
-    requires { bid < length inst.bids.now }
-    ensures { result ≡ kind_at inst.entry.bids.now bid }
-{
-    let bid = &inst.bids[bid as usize];
-    bid.path.kind
 }
 
 /// The first of the bid's legs that is not fixed and uses one of the rows.

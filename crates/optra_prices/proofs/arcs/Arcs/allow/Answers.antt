@@ -2,7 +2,7 @@ use Rattle.std.proofs.Common.{◌≡◌, ◌<◌, ◌∙◌, length, sym, ap, su
 use Rattle.optra_prices.specs.ArcTerms.{ArcTerm}
 use Rattle.optra_prices.specs.NarrowArcs.{with_mark}
 use Rattle.optra_prices.specs.Tables.{no_arc}
-use Rattle.optra_prices.proofs.NarrowArcLemmas.{closed_most, marks_narrow, marks_wide, same_arc, within_wide}
+use Rattle.optra_prices.proofs.NarrowArcLemmas.{closed_most, marks_narrow, marks_wide, within_wide}
 use Rattle.optra_prices.proofs.arcs.Arcs.allow.Goals as goal
 
 pub returns-then-k-count : goal.returns-then-k-count
@@ -15,11 +15,9 @@ pub returns-else-k-count : goal.returns-else-k-count
 returns-else-k-count c =
     let i = c.self.inside in
     let arc = c.index_mut-else-k-count.result.now in
-    let put = c.allow.ensures in
-    let marked = same_arc c.allow.new.self (with_mark arc c.args.allowed) put.value put.group put.allowed in
     let long : length i.narrow.items ≡ c.len-count.result = grind arith in
     let within = within_wide i.values.items i.narrow.items i.wide.items c.len-count.result c.args.k long c.if-k-count.false (subst (λ (xs : List ArcTerm). c.args.k < length xs) (sym c.self.view_is) c.requires) in
-    marks_wide i.values.items i.narrow.items i.wide.items c.len-count.result c.args.k c.args.allowed arc c.allow.new.self long c.if-k-count.false within c.index_mut-else-k-count.ensures.value marked
+    marks_wide i.values.items i.narrow.items i.wide.items c.len-count.result c.args.k c.args.allowed arc c.allow.new.self long c.if-k-count.false within c.index_mut-else-k-count.ensures.value c.allow.ensures
     ∙ ap (λ (xs : List ArcTerm). set xs c.args.k (with_mark (get_or xs c.args.k no_arc) c.args.allowed)) c.self.view_is
 
 pub closed_after-self-inside-requires-clause-few : goal.closed_after-self-inside-requires-clause-few
