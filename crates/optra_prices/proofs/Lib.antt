@@ -62,3 +62,4 @@ pub mod ShareLemmas
 pub mod AmountLemmas
 pub mod RunningLemmas
 pub mod ActiveOrderLemmas
+pub mod RangeLemmas

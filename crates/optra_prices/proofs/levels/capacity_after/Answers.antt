@@ -1,23 +1,22 @@
-use Rattle.std.proofs.Common.{◌≡◌, ap, ◌∙◌, rules}
-use Rattle.std.specs.Prelude.{ℤ, pos, ◌+ℤ◌, ◌-ℤ◌, ◌*ℤ◌, FitsSigned}
-use Rattle.std.specs.Int.{w64, w128}
-use Rattle.std.proofs.lemmas.Int.{to_z-of_z}
+use Rattle.std.proofs.Common.{◌∙◌}
+use Rattle.std.specs.Prelude.{pos, ◌+ℤ◌, ◌-ℤ◌, ◌*ℤ◌}
+use Rattle.optra_prices.proofs.RangeLemmas.{row_price_same, row_price_kept, price_moved_fits, price_total_fits, price_total_value}
 use Rattle.optra_prices.proofs.levels.capacity_after.Goals as goal
+
+pub capacity_product-requires-clause-price : goal.capacity_product-requires-clause-price
+capacity_product-requires-clause-price c = row_price_kept c.args.new c.requires.new
+
+pub capacity_product-requires-2-clause-price : goal.capacity_product-requires-2-clause-price
+capacity_product-requires-2-clause-price c = row_price_kept c.args.old c.requires.old
+
+pub overflow_sub-result : goal.overflow_sub-result
+overflow_sub-result c = price_moved_fits c.args.total c.capacity_product-2.result c.capacity_product.result c.requires.total c.capacity_product-2.ensures.range c.capacity_product.ensures.range
+
+pub overflow_add-result : goal.overflow_add-result
+overflow_add-result c = price_total_fits c.args.total c.capacity_product-2.result c.capacity_product.result c.requires.total c.capacity_product-2.ensures.range c.capacity_product.ensures.range
 
 pub returns : goal.returns
 returns c =
-    let total = c.args.total in
-    let capacity = pos c.args.capacity in
-    let old = c.capacity_product-2.result in
-    let new = c.capacity_product.result in
-    let f1 : FitsSigned w128 total = search rules in
-    let f2 : FitsSigned w128 new = search rules in
-    let f3 : FitsSigned w128 old = search rules in
-    let f4 : FitsSigned w128 (new -ℤ old) = search rules in
-    let f5 : FitsSigned w128 (total +ℤ (new -ℤ old)) = search rules in
-    let f6 : FitsSigned w64 c.args.new = search rules in
-    let f7 : FitsSigned w64 c.args.old = search rules in
-    let new_is : new ≡ c.args.new *ℤ capacity = c.capacity_product.ensures.value ∙ ap (λ (z : ℤ). z *ℤ capacity) (to_z-of_z w64 c.args.new f6) in
-    let old_is : old ≡ c.args.old *ℤ capacity = c.capacity_product-2.ensures.value ∙ ap (λ (z : ℤ). z *ℤ capacity) (to_z-of_z w64 c.args.old f7) in
-    simp (to_z-of_z w128 total f1, to_z-of_z w128 new f2, to_z-of_z w128 old f3, to_z-of_z w128 (new -ℤ old) f4, to_z-of_z w128 (total +ℤ (new -ℤ old)) f5)
-    (ap (λ (z : ℤ). total +ℤ (z -ℤ old)) new_is ∙ ap (λ (z : ℤ). total +ℤ (c.args.new *ℤ capacity -ℤ z)) old_is)
+    let new = c.capacity_product.ensures.value ∙ (λ i. row_price_same c.args.new c.requires.new i *ℤ pos c.args.capacity) in
+    let old = c.capacity_product-2.ensures.value ∙ (λ i. row_price_same c.args.old c.requires.old i *ℤ pos c.args.capacity) in
+    price_total_value c.args.total c.capacity_product-2.result c.capacity_product.result c.requires.total c.capacity_product-2.ensures.range c.capacity_product.ensures.range ∙ (λ i. c.args.total +ℤ (new i -ℤ old i))

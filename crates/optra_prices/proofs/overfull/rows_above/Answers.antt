@@ -1,4 +1,4 @@
-use Rattle.std.proofs.Common.{◌≡◌, ℕ, ◌+◌, ◌<◌, true, false, Some, length, slice_get, slice_index, refl, sym, ap, ◌∙◌, subst, arith}
+use Rattle.std.proofs.Common.{◌≡◌, ℕ, ◌+◌, ◌<◌, true, false, Some, length, slice_get, slice_index, refl, sym, ap, ◌∙◌, subst}
 use Rattle.std.proofs.lemmas.List.{get_or_default}
 use Rattle.std.proofs.lemmas.Option.{slice_get_read}
 use Rattle.optra_prices.specs.Overfull.{IsAbove, ListsAboveTo}
@@ -9,6 +9,24 @@ use Rattle.optra_prices.proofs.overfull.rows_above.Goals.{then-is_above+in_ok-pu
 clash : true ≡ false → ⊥
 clash e = cc
 
+pub is_above-requires-clause-within : goal.is_above-requires-clause-within
+is_above-requires-clause-within g c =
+    let levels = c.args.levels.now in
+    let active = levels.active.items in
+    let k = c.loop-k.k in
+    let here : k < length active = subst (λ (n : ℕ). k < n) (c.len-k-end.ensures ∙ levels.active.ok.0) c.loop-k-test.true in
+    let number : c.index-number.result.now ≡ slice_index active k = c.index-number.ensures ∙ get_or_default active k c.index-number.result.now 0 here in
+    subst (λ (n : ℕ). n < length levels.prices.items) (sym number) (c.requires.levels.within k 0 here)
+
+pub bounds-numbered-number : goal.bounds-numbered-number
+bounds-numbered-number g c =
+    let levels = c.args.levels.now in
+    let active = levels.active.items in
+    let k = c.loop-k.k in
+    let here : k < length active = subst (λ (n : ℕ). k < n) (c.len-k-end.ensures ∙ levels.active.ok.0) c.loop-k-test.true in
+    let number : c.index-number.result.now ≡ slice_index active k = c.index-number.ensures ∙ get_or_default active k c.index-number.result.now 0 here in
+    subst (λ (n : ℕ). c.index-number.result.now < n) c.requires.count (subst (λ (n : ℕ). n < length levels.prices.items) (sym number) (c.requires.levels.within k 0 here))
+
 pub loop-k-preserved : goal.loop-k-preserved
 loop-k-preserved g c =
     let numbered = c.args.numbered.now in
@@ -16,15 +34,13 @@ loop-k-preserved g c =
     let active = levels.active.items in
     let k = c.loop-k.k in
     let listed = c.loop-k.listed.items in
-    let here : k < length active = omega arith in
+    let here : k < length active = subst (λ (n : ℕ). k < n) (c.len-k-end.ensures ∙ levels.active.ok.0) c.loop-k-test.true in
     let number : c.index-number.result.now ≡ slice_index active k = c.index-number.ensures ∙ get_or_default active k c.index-number.result.now 0 here in
+    let within : c.index-number.result.now < length numbered = subst (λ (n : ℕ). c.index-number.result.now < n) c.requires.count (subst (λ (n : ℕ). n < length levels.prices.items) (sym number) (c.requires.levels.within k 0 here)) in
     elim c.if-is_above.branch as (λ _. ListsAboveTo numbered levels (k + 1) c.if-is_above.listed.items) [
       | then-is_above+in_ok-push w ↦
           let above : IsAbove levels (slice_index active k) = subst (IsAbove levels) number (c.is_above.ensures.0 w.if-is_above.true) in
           let row = w.index-numbered-number.result in
-          let least = c.requires.levels.within k 0 here in
-          let count = c.requires.count in
-          let within : c.index-number.result.now < length numbered = omega arith in
           let at = subst (λ (n : ℕ). slice_get numbered n ≡ Some row) number (slice_get_read numbered (length numbered) c.index-number.result.now row refl within w.index-numbered-number.is) in
           subst (ListsAboveTo numbered levels (k + 1)) (sym (ap (λ v. v.items) w.listed-is ∙ w.in_ok-push.ensures.items)) (above_pushed numbered levels k listed c.loop-k.invariant row at above)
       | else-is_above w ↦
