@@ -1,16 +1,38 @@
 //! The dual value of a node at prices.
 ghost use Rattle.std.specs.Prelude.{◌≡◌, ◌≤◌, All, Contains, IfOk, length};
 ghost use Rattle.optra_node.specs.Nodes.{IsNode};
+ghost use Rattle.optra_prices.specs.Keepings.{AreKept};
 ghost use Rattle.optra_prices.specs.Replies.{IsValuation};
 ghost use Rattle.optra_prices.specs.Steps.{AreProper};
 
 use crate::Dual;
+use crate::arc_tables::ArcTables;
 use crate::keeping::{bring_to, dual_over, keep_arcs};
 use optra_graph::Graphs;
 use optra_network::NoMemory;
 use optra_node::{Node, Prices};
 use optra_walk::{Instance, RowFamily};
 use std::alloc::Global;
+
+/// As [`dual`], over tables that are brought to the node.
+fn brought_dual<F: RowFamily>(
+    alloc: Global,
+    inst: Instance<'_>,
+    rows: &F,
+    node: &Node,
+    kept: &mut ArcTables<'_, F::Row>,
+    prices: &Prices<F::Row>,
+) -> Result<Dual, NoMemory>
+    requires node { IsNode inst.net.now (length inst.bids.now) node.now }
+    requires kept { AreKept F.Row.cmp inst.net.now (F.rows_of rows.now inst.net.now)
+        (F.rows_used rows.now inst.net.now) inst.bids.now kept.old }
+    requires prices { AreProper F.Row.cmp (F.rows_of rows.now inst.net.now) prices.now }
+    ensures { IfOk result (IsValuation inst.entry.net.now (F.rows_of rows.now inst.entry.net.now)
+        inst.entry.bids.now node.now prices.now) }
+{
+    bring_to(alloc, inst, rows, node, kept)?;
+    dual_over(alloc, inst, rows, node, kept, prices)
+}
 
 /// The dual value of the node at the prices, in thousandths of a cent, with the reply and the term of each bid.
 ///
@@ -39,7 +61,7 @@ pub fn dual<F: RowFamily, G: Graphs>(
         (F.rows_of rows.now inst.entry.net.now) inst.entry.bids.now node.now prices.now dual) }
 {
     let mut kept = keep_arcs(alloc, inst, graphs, rows)?;
-    bring_to(alloc, inst, rows, node, &mut kept)?;
-    let (_kept, dual) = dual_over(alloc, inst, rows, node, kept, prices)?;
-    Ok(dual)
+    let found = brought_dual(alloc, inst, rows, node, &mut kept, prices);
+    drop(kept);
+    found
 }

@@ -1,13 +1,18 @@
 //! Tables of arcs that are kept from node to node: what an arc adds and which rows it touches is the same at all nodes, and
 //! so is what is known of a bid of which a node changes nothing.
-ghost use Rattle.std.specs.Prelude.{◌≡◌, ◌≤◌, All, Contains, IfOk, OnOk, length};
+ghost use Rattle.std.specs.Prelude.{◌≡◌, ◌≤◌, [], All, Contains, IfOk, OnOk, length, replicate, true};
 ghost use Rattle.optra_node.specs.Nodes.{IsNode};
 ghost use Rattle.optra_prices.specs.Courses.{replies_at};
 ghost use Rattle.optra_prices.specs.Deads.{IsDeadAs};
 ghost use Rattle.optra_prices.specs.Replies.{IsValuation};
 ghost use Rattle.optra_prices.specs.Steps.{AreProper};
 ghost use Rattle.optra_prices.specs.Paths.{IsPathResult};
+ghost use Rattle.optra_prices.specs.Holders.{AreHolders};
 ghost use Rattle.optra_prices.specs.Keepings.{AreKept, AreKeptAt, IsFirstStuckIn};
+ghost use Rattle.optra_prices.specs.Rooms.{IsDecided};
+ghost use Rattle.optra_prices.specs.Standings.{AllStand, AreCopies, AreTables, HoldArcs, IsSound};
+ghost use Rattle.optra_prices.specs.Terms.{setting};
+ghost use Rattle.optra_prices.specs.Uses.{lists_in};
 
 use crate::allowing::{Grouping, allow_told};
 use crate::arc_tables::ArcTables;
@@ -19,13 +24,15 @@ use crate::filling::overfull_row;
 use crate::following::go_along;
 use crate::group_prices::GroupPrices;
 use crate::holders::find_holders;
+use crate::index::Index;
 use crate::levels::no_levels;
 use crate::listing::widen;
 use crate::loading::no_paths;
-use crate::numbering::Standing;
+use crate::numbering::{BidTable, Standing};
 use crate::owning::Owned;
 use crate::path_ends::PathEnds;
 use crate::rooms::empty_room;
+use crate::row_numbers::RowNumbers;
 use crate::sessions::{Made, copy_standings, first_standings, made_tables, renew_all};
 use crate::telling::tell_moved;
 use crate::valuing::entries;
@@ -36,6 +43,120 @@ use optra_network::{Cents, NoMemory};
 use optra_node::{Node, Prices, prices_by_used_rows, tests_tell_allowed};
 use optra_walk::{Instance, RowFamily};
 use std::alloc::Global;
+
+/// No decision and no claim, with the room of each row. `NoMemory` is its only refusal.
+fn no_decided<F: RowFamily>(
+    alloc: Global,
+    inst: Instance<'_>,
+    rows: &F,
+    numbering: &RowNumbers<F::Row>,
+) -> Result<Decided, NoMemory>
+    requires { All (λ row. (F.rows_of rows.now inst.net.now).is_row row ≡ true)
+        numbering.now.rows.items }
+    ensures { IfOk result (IsDecided inst.entry.net.now (F.rows_of rows.now inst.entry.net.now)
+        inst.entry.bids.now numbering.now.rows.items []) }
+{
+    let room = empty_room(alloc, inst.net, rows, numbering)?;
+    Ok(Decided {
+        decisions: Vec::new(alloc),
+        claims: Vec::new(alloc),
+        room,
+    })
+}
+
+/// Says of each arc whether the root allows it. After `NoMemory`, its only refusal, the tables serve no more.
+fn allow_root<F: RowFamily>(
+    alloc: Global,
+    inst: Instance<'_>,
+    rows: &F,
+    grouping: &Grouping<'_, F::Row>,
+    decided: &mut Decided,
+    tables: &mut Vec<BidTable<'_>>,
+) -> Result<(), NoMemory>
+    requires decided { IsDecided inst.net.now (F.rows_of rows.now inst.net.now) inst.bids.now
+        grouping.now.numbering.now.rows.items [] decided.old }
+    requires tables { HoldArcs inst.net.now (F.rows_of rows.now inst.net.now)
+        (F.rows_used rows.now inst.net.now) inst.bids.now (length inst.bids.now)
+        grouping.now.numbering.now.rows.items grouping.now.groups.now tables.old.items }
+    ensures decided { OnOk result (IsDecided inst.entry.net.now
+        (F.rows_of rows.now inst.entry.net.now) inst.entry.bids.now
+        grouping.now.numbering.now.rows.items [] decided.new) }
+    ensures tables { OnOk result
+        (AreTables (setting inst.entry.net.now (F.rows_of rows.now inst.entry.net.now)
+        (F.rows_used rows.now inst.entry.net.now) inst.entry.bids.now [])
+        (length inst.entry.bids.now) grouping.now.numbering.now.rows.items grouping.now.groups.now
+        tables.new.items) }
+{
+    let node = Node::root(alloc);
+    let mut told = vec![in alloc; true; inst.bids.len()]?;
+    let summary = Owned::new(alloc, inst, rows, &node)?;
+    allow_told(inst, rows, &summary, grouping, decided, &mut told, tables)
+}
+
+/// What the root decides, which is nothing; the tables say of each arc whether the root allows it.
+fn decided_root<F: RowFamily>(
+    alloc: Global,
+    inst: Instance<'_>,
+    rows: &F,
+    grouping: &Grouping<'_, F::Row>,
+    tables: &mut Vec<BidTable<'_>>,
+) -> Result<Decided, NoMemory>
+    requires rows { All (λ row. (F.rows_of rows.now inst.net.now).is_row row ≡ true)
+        grouping.now.numbering.now.rows.items }
+    requires tables { HoldArcs inst.net.now (F.rows_of rows.now inst.net.now)
+        (F.rows_used rows.now inst.net.now) inst.bids.now (length inst.bids.now)
+        grouping.now.numbering.now.rows.items grouping.now.groups.now tables.old.items }
+    ensures decided { IfOk result (IsDecided inst.entry.net.now
+        (F.rows_of rows.now inst.entry.net.now) inst.entry.bids.now
+        grouping.now.numbering.now.rows.items []) }
+    ensures tables { OnOk result
+        (AreTables (setting inst.entry.net.now (F.rows_of rows.now inst.entry.net.now)
+        (F.rows_used rows.now inst.entry.net.now) inst.entry.bids.now [])
+        (length inst.entry.bids.now) grouping.now.numbering.now.rows.items grouping.now.groups.now
+        tables.new.items) }
+{
+    let mut decided = no_decided(alloc, inst, rows, grouping.numbering)?;
+    allow_root(alloc, inst, rows, grouping, &mut decided, tables)?;
+    Ok(decided)
+}
+
+/// What is known of the bids at the root, where no row has a price.
+#[derive(Drop)]
+struct Known {
+    holders: Index,
+    buffers: Buffers,
+    zero: Vec<Standing>,
+    standings: Vec<Standing>,
+    counted: Vec<Vec<usize>>,
+}
+
+/// What is known of the bids of the tables at the root. `NoMemory` is its only refusal.
+fn first_known(alloc: Global, tables: &[BidTable<'_>]) -> Result<Known, NoMemory>
+    requires few { length tables.now ≤ 1000 }
+    requires sound { All IsSound tables.now }
+    ensures holders { IfOk result (λ known. AreHolders tables.now known.holders) }
+    ensures zero { IfOk result (λ known. AllStand tables.now [] known.zero.items) }
+    ensures standings { IfOk result (λ known. AreCopies known.zero.items known.standings.items) }
+    ensures counted { IfOk result (λ known. lists_in known.counted.items
+        ≡ replicate (length tables.now) []) }
+{
+    let holders = find_holders(alloc, tables)?;
+    let mut buffers = Buffers::new(alloc);
+    let free = GroupPrices {
+        prices: &[],
+        most: 0,
+    };
+    let zero = first_standings(alloc, &mut buffers, tables, free)?;
+    let standings = copy_standings(alloc, &zero)?;
+    let counted = no_paths(alloc, tables.len())?;
+    Ok(Known {
+        holders,
+        buffers,
+        zero,
+        standings,
+        counted,
+    })
+}
 
 /// The tables of the bids' arcs. It needs at most 1,000 bids, and the graphs of the bids on the instance's network.
 /// `NoMemory` is its only refusal.
@@ -51,58 +172,34 @@ pub fn keep_arcs<'g, F: RowFamily, G: Graphs>(
         (F.rows_of rows.now inst.entry.net.now) (F.rows_used rows.now inst.entry.net.now)
         inst.entry.bids.now) }
 {
-    let node = Node::root(alloc);
     let made = made_tables(alloc, inst, graphs, rows)?;
     let Made {
         numbering,
         groups,
         mut tables,
     } = made;
-    let mut decided = Decided {
-        decisions: Vec::new(alloc),
-        claims: Vec::new(alloc),
-        room: empty_room(alloc, inst.net, rows, &numbering)?,
-    };
-    let mut told = vec![in alloc; true; inst.bids.len()]?;
-    let summary = Owned::new(alloc, inst, rows, &node)?;
     let grouping = Grouping {
         numbering: &numbering,
         groups: &groups,
     };
-    allow_told(
-        inst,
-        rows,
-        &summary,
-        &grouping,
-        &mut decided,
-        &mut told,
-        &mut tables,
-    )?;
+    let decided = decided_root(alloc, inst, rows, &grouping, &mut tables)?;
+    let known = first_known(alloc, &tables)?;
     let mut levels = no_levels(alloc);
     widen(&mut levels, inst.net, rows, numbering.rows())?;
     let columns = new_columns(alloc, groups)?;
-    let holders = find_holders(alloc, &tables)?;
-    let mut buffers = Buffers::new(alloc);
-    let free = GroupPrices {
-        prices: &[],
-        most: 0,
-    };
-    let zero = first_standings(alloc, &mut buffers, &tables, free)?;
-    let standings = copy_standings(alloc, &zero)?;
-    let counted = no_paths(alloc, tables.len())?;
     Ok(ArcTables {
         numbering,
         levels,
         columns,
         tables,
-        holders,
-        zero,
-        standings,
-        counted,
         decided,
+        holders: known.holders,
+        zero: known.zero,
+        standings: known.standings,
+        counted: known.counted,
         value: 0,
-        buffers,
-        fallen: told,
+        buffers: known.buffers,
+        fallen: Vec::new(alloc),
     })
 }
 
@@ -207,56 +304,53 @@ pub fn dead_over<F: RowFamily>(
     Some(Dead::NoWalk { bid })
 }
 
-/// As [`crate::price_path`], over tables that are at the node; the tables are handed back, at the prices of the result.
-pub fn price_path_over<'g, F: RowFamily>(
+/// As [`crate::price_path`], over tables that are at the node. They stay there, at the prices of the result.
+pub fn price_path_over<F: RowFamily>(
     alloc: Global,
     inst: Instance<'_>,
     rows: &F,
     node: &Node,
-    kept: ArcTables<'g, F::Row>,
+    kept: &mut ArcTables<'_, F::Row>,
     ends: &PathEnds<'_, F::Row>,
     incumbent: Cents,
-) -> Result<(ArcTables<'g, F::Row>, Priced<F::Row>), NoMemory>
+) -> Result<Priced<F::Row>, NoMemory>
     requires node { IsNode inst.net.now (length inst.bids.now) node.now }
     requires kept { AreKeptAt F.Row.cmp inst.net.now (F.rows_of rows.now inst.net.now)
-        (F.rows_used rows.now inst.net.now) inst.bids.now node.now kept }
+        (F.rows_used rows.now inst.net.now) inst.bids.now node.now kept.old }
     requires start { AreProper F.Row.cmp (F.rows_of rows.now inst.net.now) ends.now.start.now }
-    ensures kept { IfOk result (λ both. AreKeptAt F.Row.cmp inst.entry.net.now
+    ensures kept { OnOk result (AreKeptAt F.Row.cmp inst.entry.net.now
         (F.rows_of rows.now inst.entry.net.now) (F.rows_used rows.now inst.entry.net.now)
-        inst.entry.bids.now node.now both.0) }
-    ensures path { IfOk result (λ both. IsPathResult F.Row.cmp inst.entry.net.now
+        inst.entry.bids.now node.now kept.new) }
+    ensures path { IfOk result (IsPathResult F.Row.cmp inst.entry.net.now
         (F.rows_of rows.now inst.entry.net.now) inst.entry.bids.now node.now ends.now.start.now
-        ends.now.steps incumbent both.1) }
-    ensures replies { IfOk result (λ both. both.1.dual.replies ≡ replies_at both.0) }
+        ends.now.steps incumbent) }
+    ensures replies { IfOk result (λ priced. priced.dual.replies ≡ replies_at kept.new) }
 {
-    let mut kept = kept;
-    admit(alloc, inst, rows, node, &mut kept, entries(ends.start))?;
-    let priced = go_along(alloc, inst, rows, node, &mut kept, ends, incumbent)?;
-    Ok((kept, priced))
+    admit(alloc, inst, rows, node, kept, entries(ends.start))?;
+    go_along(alloc, inst, rows, node, kept, ends, incumbent)
 }
 
-/// As [`crate::duals::dual`], over tables that are at the node; the tables are handed back.
-pub fn dual_over<'g, F: RowFamily>(
+/// As [`crate::duals::dual`], over tables that are at the node. They stay there, at the prices.
+pub fn dual_over<F: RowFamily>(
     alloc: Global,
     inst: Instance<'_>,
     rows: &F,
     node: &Node,
-    kept: ArcTables<'g, F::Row>,
+    kept: &mut ArcTables<'_, F::Row>,
     prices: &Prices<F::Row>,
-) -> Result<(ArcTables<'g, F::Row>, Dual), NoMemory>
+) -> Result<Dual, NoMemory>
     requires node { IsNode inst.net.now (length inst.bids.now) node.now }
     requires kept { AreKeptAt F.Row.cmp inst.net.now (F.rows_of rows.now inst.net.now)
-        (F.rows_used rows.now inst.net.now) inst.bids.now node.now kept }
+        (F.rows_used rows.now inst.net.now) inst.bids.now node.now kept.old }
     requires prices { AreProper F.Row.cmp (F.rows_of rows.now inst.net.now) prices.now }
-    ensures kept { IfOk result (λ both. AreKeptAt F.Row.cmp inst.entry.net.now
+    ensures kept { OnOk result (AreKeptAt F.Row.cmp inst.entry.net.now
         (F.rows_of rows.now inst.entry.net.now) (F.rows_used rows.now inst.entry.net.now)
-        inst.entry.bids.now node.now both.0) }
-    ensures dual { IfOk result (λ both. IsValuation inst.entry.net.now
-        (F.rows_of rows.now inst.entry.net.now) inst.entry.bids.now node.now prices.now both.1) }
+        inst.entry.bids.now node.now kept.new) }
+    ensures dual { IfOk result (IsValuation inst.entry.net.now
+        (F.rows_of rows.now inst.entry.net.now) inst.entry.bids.now node.now prices.now) }
 {
-    let mut kept = kept;
-    admit(alloc, inst, rows, node, &mut kept, entries(prices))?;
-    go_to(inst, rows, node, &mut kept, prices)?;
-    let priced = priced_at(alloc, inst, rows, node, &kept)?;
-    Ok((kept, priced.dual))
+    admit(alloc, inst, rows, node, kept, entries(prices))?;
+    go_to(inst, rows, node, kept, prices)?;
+    let priced = priced_at(alloc, inst, rows, node, kept)?;
+    Ok(priced.dual)
 }

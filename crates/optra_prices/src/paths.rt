@@ -1,10 +1,12 @@
 //! The price path of a node.
 ghost use Rattle.std.specs.Prelude.{◌≡◌, ◌≤◌, All, Contains, IfOk, length};
 ghost use Rattle.optra_node.specs.Nodes.{IsNode};
+ghost use Rattle.optra_prices.specs.Keepings.{AreKept};
 ghost use Rattle.optra_prices.specs.Paths.{IsPathResult};
 ghost use Rattle.optra_prices.specs.Steps.{AreProper};
 
 use crate::Priced;
+use crate::arc_tables::ArcTables;
 use crate::keeping::{bring_to, keep_arcs, price_path_over};
 use crate::path_ends::PathEnds;
 use optra_graph::Graphs;
@@ -12,6 +14,28 @@ use optra_network::{Cents, NoMemory};
 use optra_node::{Node, Prices};
 use optra_walk::{Instance, RowFamily};
 use std::alloc::Global;
+
+/// As [`price_path`], over tables that are brought to the node.
+fn brought_path<F: RowFamily>(
+    alloc: Global,
+    inst: Instance<'_>,
+    rows: &F,
+    node: &Node,
+    kept: &mut ArcTables<'_, F::Row>,
+    ends: &PathEnds<'_, F::Row>,
+    incumbent: Cents,
+) -> Result<Priced<F::Row>, NoMemory>
+    requires node { IsNode inst.net.now (length inst.bids.now) node.now }
+    requires kept { AreKept F.Row.cmp inst.net.now (F.rows_of rows.now inst.net.now)
+        (F.rows_used rows.now inst.net.now) inst.bids.now kept.old }
+    requires start { AreProper F.Row.cmp (F.rows_of rows.now inst.net.now) ends.now.start.now }
+    ensures { IfOk result (IsPathResult F.Row.cmp inst.entry.net.now
+        (F.rows_of rows.now inst.entry.net.now) inst.entry.bids.now node.now ends.now.start.now
+        ends.now.steps incumbent) }
+{
+    bring_to(alloc, inst, rows, node, kept)?;
+    price_path_over(alloc, inst, rows, node, kept, ends, incumbent)
+}
 
 /// The result of the node's price path, with its dual value.
 ///
@@ -41,8 +65,8 @@ pub fn price_path<F: RowFamily, G: Graphs>(
         incumbent priced) }
 {
     let mut kept = keep_arcs(alloc, inst, graphs, rows)?;
-    bring_to(alloc, inst, rows, node, &mut kept)?;
     let ends = PathEnds { start, steps };
-    let (_kept, priced) = price_path_over(alloc, inst, rows, node, kept, &ends, incumbent)?;
-    Ok(priced)
+    let found = brought_path(alloc, inst, rows, node, &mut kept, &ends, incumbent);
+    drop(kept);
+    found
 }

@@ -4,7 +4,7 @@ ghost use Rattle.std.specs.List.{AllPairs};
 ghost use Rattle.optra_walk.specs.Choices.{IsChoice};
 ghost use Rattle.optra_walk.specs.Families.{entries_of};
 ghost use Rattle.optra_node.specs.Nodes.{IsNode};
-ghost use Rattle.optra_prices.specs.Keepings.{AreKeptAt};
+ghost use Rattle.optra_prices.specs.Keepings.{AreKept, AreKeptAt};
 ghost use Rattle.optra_prices.specs.Repairs.{IsRepair, GivesInTurn, empty_choice};
 
 use crate::placing::place;
@@ -90,8 +90,34 @@ pub fn repair<F: RowFamily, G: Graphs>(
         (entries_of inst.entry.bids.now choice)) }
 {
     let mut kept = keep_arcs(alloc, inst, graphs, rows)?;
-    bring_to(alloc, inst, rows, node, &mut kept)?;
-    repair_over(alloc, inst, rows, node, &kept, dual)
+    let choice = repair_brought(alloc, inst, rows, node, &mut kept, dual);
+    drop(kept);
+    choice
+}
+
+/// As [`repair`], by tables of arcs that are brought to the node.
+fn repair_brought<F: RowFamily>(
+    alloc: Global,
+    inst: Instance<'_>,
+    rows: &F,
+    node: &Node,
+    kept: &mut ArcTables<'_, F::Row>,
+    dual: &Dual,
+) -> Result<Choice, NoMemory>
+    requires node { IsNode inst.net.now (length inst.bids.now) node.now }
+    requires kept { AreKept F.Row.cmp inst.net.now (F.rows_of rows.now inst.net.now)
+        (F.rows_used rows.now inst.net.now) inst.bids.now kept.old }
+    requires terms { length dual.now.terms ≡ length inst.bids.now }
+    requires replies { IsChoice inst.net.now inst.bids.now dual.now.replies }
+    ensures repair { IfOk result (λ choice. IsRepair inst.entry.net.now
+        (F.rows_of rows.now inst.entry.net.now) inst.entry.bids.now node.now dual.now choice) }
+    ensures choice { IfOk result (λ choice. IsChoice inst.entry.net.now inst.entry.bids.now
+        choice) }
+    ensures keeps { IfOk result (λ choice. F.KeepsRule rows.now inst.entry.net.now
+        (entries_of inst.entry.bids.now choice)) }
+{
+    bring_to(alloc, inst, rows, node, kept)?;
+    repair_over(alloc, inst, rows, node, kept, dual)
 }
 
 /// As [`repair`], by tables of arcs that are at the node.

@@ -1,5 +1,5 @@
 //! The end of a search: each node that still waits becomes a leaf with its start prices.
-ghost use Rattle.std.specs.Prelude.{◌≡◌, ◌≤◌, ◌++◌, ◌∷◌, [], length, IfOk, unwrap_or};
+ghost use Rattle.std.specs.Prelude.{◌≡◌, ◌≤◌, ◌++◌, ◌∷◌, [], length, IfOk, OnOk, unwrap_or};
 ghost use Rattle.optra_prices.specs.Keepings.{AreKept};
 ghost use Rattle.optra_search.specs.Openings.{front, start_below};
 ghost use Rattle.optra_search.specs.Reached.{parts_of};
@@ -34,44 +34,42 @@ fn own_start<R: Copy>(
     }
 }
 
-/// The node that was on top of the stack becomes a leaf with its start prices. The tables of arcs are brought to it, and
-/// handed back.
-fn close_open<'g, F: RowFamily>(
+/// The node that was on top of the stack becomes a leaf with its start prices. The tables of arcs are brought to it.
+fn close_open<F: RowFamily>(
     alloc: Global,
     inst: Instance<'_>,
     rows: &F,
-    kept: ArcTables<'g, F::Row>,
+    kept: &mut ArcTables<'_, F::Row>,
     search: Search<F::Row>,
     top: Waiting<F::Row>,
-) -> Result<(Search<F::Row>, ArcTables<'g, F::Row>), NoMemory>
+) -> Result<Search<F::Row>, NoMemory>
     requires kept { AreKept F.Row.cmp inst.net.now (F.rows_of rows.now inst.net.now)
-        (F.rows_used rows.now inst.net.now) inst.bids.now kept }
+        (F.rows_used rows.now inst.net.now) inst.bids.now kept.old }
     requires closing { MayClose F.Row.cmp inst.net.now (F.rows_of rows.now inst.net.now)
         inst.bids.now (record (parts_of search) { waiting = search.waiting.items ++ top ∷ [] }) }
-    ensures closing { IfOk result (λ both. MayClose F.Row.cmp inst.entry.net.now
-        (F.rows_of rows.now inst.entry.net.now) inst.entry.bids.now (parts_of both.0)) }
+    ensures closing { IfOk result (λ after. MayClose F.Row.cmp inst.entry.net.now
+        (F.rows_of rows.now inst.entry.net.now) inst.entry.bids.now (parts_of after)) }
     ensures closed { IfOk result
-        (λ both. HasClosed (record (parts_of search) { waiting = search.waiting.items ++ top ∷ [] })
-        (parts_of both.0)) }
-    ensures rest { IfOk result (λ both. both.0.waiting.items ≡ search.waiting.items) }
-    ensures kept { IfOk result (λ both. AreKept F.Row.cmp inst.entry.net.now
+        (λ after. HasClosed (record (parts_of search) { waiting = search.waiting.items ++ top ∷ [] })
+        (parts_of after)) }
+    ensures rest { IfOk result (λ after. after.waiting.items ≡ search.waiting.items) }
+    ensures kept { OnOk result (AreKept F.Row.cmp inst.entry.net.now
         (F.rows_of rows.now inst.entry.net.now) (F.rows_used rows.now inst.entry.net.now)
-        inst.entry.bids.now both.1) }
+        inst.entry.bids.now kept.new) }
 {
     let mut search = search;
-    let mut kept = kept;
     let Waiting {
         depth,
         decision,
         start,
     } = top;
     enter(&mut search.node, depth, decision)?;
-    bring_to(alloc, inst, rows, &search.node, &mut kept)?;
+    bring_to(alloc, inst, rows, &search.node, kept)?;
     let prices = own_start(alloc, start, &search.waiting)?;
-    let (kept, dual) = dual_over(alloc, inst, rows, &search.node, kept, &prices)?;
+    let dual = dual_over(alloc, inst, rows, &search.node, kept, &prices)?;
     let cents = whole_cents(dual.value);
     let after = close(search, prices, cents)?;
-    Ok((after, kept))
+    Ok(after)
 }
 
 /// Each node that waits becomes a leaf with its start prices, from the top of the stack down, over the same tables of
@@ -80,11 +78,11 @@ pub(crate) fn close_all<F: RowFamily>(
     alloc: Global,
     inst: Instance<'_>,
     rows: &F,
-    kept: ArcTables<'_, F::Row>,
+    kept: &mut ArcTables<'_, F::Row>,
     search: Search<F::Row>,
 ) -> Result<Search<F::Row>, NoMemory>
     requires kept { AreKept F.Row.cmp inst.net.now (F.rows_of rows.now inst.net.now)
-        (F.rows_used rows.now inst.net.now) inst.bids.now kept }
+        (F.rows_used rows.now inst.net.now) inst.bids.now kept.old }
     requires closing { MayClose F.Row.cmp inst.net.now (F.rows_of rows.now inst.net.now)
         inst.bids.now (parts_of search) }
     ensures closing { IfOk result (λ after. MayClose F.Row.cmp inst.entry.net.now
@@ -93,11 +91,8 @@ pub(crate) fn close_all<F: RowFamily>(
     ensures none { IfOk result (λ after. after.waiting.items ≡ []) }
 {
     let mut search = search;
-    let mut kept = kept;
     'waiting: while let Some(top) = search.waiting.pop() {
-        let both = close_open(alloc, inst, rows, kept, search, top)?;
-        search = both.0;
-        kept = both.1;
+        search = close_open(alloc, inst, rows, kept, search, top)?;
     }
     Ok(search)
 }

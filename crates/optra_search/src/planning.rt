@@ -1,6 +1,7 @@
 //! The plan of a search.
 ghost use Rattle.std.specs.Prelude.{◌≡◌, ◌⊎◌, ◌≤◌, ◌∷◌, [], None, true, pos, length, map, All, Contains, IfOk, OnOk};
 ghost use Rattle.optra_prices.specs.Repairs.{empty_choice};
+ghost use Rattle.optra_prices.specs.Keepings.{AreKept};
 ghost use Rattle.optra_search.specs.Planner.{IsPlainPlan};
 ghost use Rattle.optra_search.specs.Reached.{parts_of};
 ghost use Rattle.optra_search.specs.Closings.{IsBound, plan_of};
@@ -14,6 +15,7 @@ use crate::{Limits, Plan, Repairer};
 use optra_graph::Graphs;
 use optra_network::{Cents, NoMemory};
 use optra_node::Node;
+use optra_prices::ArcTables;
 use optra_prices::keeping::keep_arcs;
 use optra_walk::{Choice, Instance, RowFamily};
 use std::alloc::Global;
@@ -67,6 +69,28 @@ fn finish<R: Drop>(search: Search<R>) -> Plan<R>
     }
 }
 
+/// The plan over tables of arcs that are kept.
+fn plan_over<F: RowFamily, G: Graphs, P: Repairer<F, G>>(
+    alloc: Global,
+    inst: Instance<'_>,
+    rows: &F,
+    means: &Means<'_, G, P>,
+    kept: &mut ArcTables<'_, F::Row>,
+) -> Result<Plan<F::Row>, NoMemory>
+    requires network { G.network means.now.graphs.now ≡ inst.net.now }
+    requires held { All (λ bid. Contains (G.held means.now.graphs.now) bid.path) inst.bids.now }
+    requires kept { AreKept F.Row.cmp inst.net.now (F.rows_of rows.now inst.net.now)
+        (F.rows_used rows.now inst.net.now) inst.bids.now kept.old }
+    ensures { IfOk result (λ plan. IsPlainPlan F.Row.cmp inst.entry.net.now
+        (F.rows_of rows.now inst.entry.net.now) inst.entry.bids.now means.now.limits.steps
+        means.now.limits.budget plan) }
+{
+    let first = first_search(alloc, inst)?;
+    let last = take_turns(alloc, inst, rows, means, kept, first)?;
+    let closed = close_all(alloc, inst, rows, kept, last)?;
+    Ok(finish(closed))
+}
+
 /// The plan by graphs that hold those of the bids.
 fn plan_with<F: RowFamily, G: Graphs, P: Repairer<F, G>>(
     alloc: Global,
@@ -80,11 +104,10 @@ fn plan_with<F: RowFamily, G: Graphs, P: Repairer<F, G>>(
         (F.rows_of rows.now inst.entry.net.now) inst.entry.bids.now means.now.limits.steps
         means.now.limits.budget plan) }
 {
-    let first = first_search(alloc, inst)?;
-    let kept = keep_arcs(alloc, inst, means.graphs, rows)?;
-    let (last, kept) = take_turns(alloc, inst, rows, means, kept, first)?;
-    let closed = close_all(alloc, inst, rows, kept, last)?;
-    Ok(finish(closed))
+    let mut kept = keep_arcs(alloc, inst, means.graphs, rows)?;
+    let plan = plan_over(alloc, inst, rows, means, &mut kept);
+    drop(kept);
+    plan
 }
 
 /// The plan of the plain planner: its choice, revenue, bound, count of nodes and tree are exactly those of its turns.

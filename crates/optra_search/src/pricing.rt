@@ -73,43 +73,35 @@ fn outcome<F: RowFamily, G: Graphs>(
     Ok(found)
 }
 
-/// The result of the price path of the node that was entered, and the tables of arcs over which it ran.
-fn path_result<'g, F: RowFamily>(
+/// The result of the price path of the node that was entered, at whose prices the tables of arcs stay.
+fn path_result<F: RowFamily>(
     alloc: Global,
     inst: Instance<'_>,
     rows: &F,
     steps: u32,
-    kept: ArcTables<'g, F::Row>,
+    kept: &mut ArcTables<'_, F::Row>,
     search: &Search<F::Row>,
     start: &Option<Prices<F::Row>>,
-) -> Result<(Priced<F::Row>, ArcTables<'g, F::Row>), NoMemory>
+) -> Result<Priced<F::Row>, NoMemory>
     requires node { IsNode inst.net.now (length inst.bids.now) search.now.node }
     requires kept { AreKeptAt F.Row.cmp inst.net.now (F.rows_of rows.now inst.net.now)
-        (F.rows_used rows.now inst.net.now) inst.bids.now search.now.node kept }
+        (F.rows_used rows.now inst.net.now) inst.bids.now search.now.node kept.old }
     requires start { AreProper F.Row.cmp (F.rows_of rows.now inst.net.now)
         (unwrap_or start.now (start_below (front search.now.waiting.items))) }
-    ensures path { IfOk result (λ both. IsPathResult F.Row.cmp inst.entry.net.now
+    ensures path { IfOk result (IsPathResult F.Row.cmp inst.entry.net.now
         (F.rows_of rows.now inst.entry.net.now) inst.entry.bids.now search.now.node
         (unwrap_or start.now (start_below (front search.now.waiting.items))) steps
-        search.now.revenue both.0) }
-    ensures kept { IfOk result (λ both. AreKeptAt F.Row.cmp inst.entry.net.now
+        search.now.revenue) }
+    ensures kept { OnOk result (AreKeptAt F.Row.cmp inst.entry.net.now
         (F.rows_of rows.now inst.entry.net.now) (F.rows_used rows.now inst.entry.net.now)
-        inst.entry.bids.now search.now.node both.1) }
-    ensures replies { IfOk result (λ both. both.0.dual.replies ≡ replies_at both.1) }
+        inst.entry.bids.now search.now.node kept.new) }
+    ensures replies { IfOk result (λ priced. priced.dual.replies ≡ replies_at kept.new) }
 {
     let zero = zero_prices(alloc);
     let from = start_of(start, &search.waiting, &zero);
     let ends = PathEnds { start: from, steps };
-    let (kept, priced) = price_path_over(
-        alloc,
-        inst,
-        rows,
-        &search.node,
-        kept,
-        &ends,
-        search.revenue,
-    )?;
-    Ok((priced, kept))
+    let priced = price_path_over(alloc, inst, rows, &search.node, kept, &ends, search.revenue)?;
+    Ok(priced)
 }
 
 /// Counts the node, and takes the repaired choice as the incumbent where it earns more.
@@ -147,52 +139,44 @@ fn improve<R>(inst: Instance<'_>, search: Search<R>, repaired: Choice) -> Search
 }
 
 /// The turn of an entered node that is not dead. Its price path runs from its start prices with the incumbent's revenue,
-/// repair may better the incumbent, and the node becomes a leaf or is split. The tables of arcs are handed back.
-pub(crate) fn price_node<'g, F: RowFamily, G: Graphs, P: Repairer<F, G>>(
+/// repair may better the incumbent, and the node becomes a leaf or is split.
+pub(crate) fn price_node<F: RowFamily, G: Graphs, P: Repairer<F, G>>(
     alloc: Global,
     inst: Instance<'_>,
     rows: &F,
     means: &Means<'_, G, P>,
-    kept: ArcTables<'g, F::Row>,
+    kept: &mut ArcTables<'_, F::Row>,
     search: Search<F::Row>,
     start: Option<Prices<F::Row>>,
-) -> Result<(Search<F::Row>, ArcTables<'g, F::Row>), NoMemory>
+) -> Result<Search<F::Row>, NoMemory>
     requires network { G.network means.now.graphs.now ≡ inst.net.now }
     requires held { All (λ bid. Contains (G.held means.now.graphs.now) bid.path) inst.bids.now }
     requires kept { AreKeptAt F.Row.cmp inst.net.now (F.rows_of rows.now inst.net.now)
-        (F.rows_used rows.now inst.net.now) inst.bids.now search.node kept }
+        (F.rows_used rows.now inst.net.now) inst.bids.now search.node kept.old }
     requires entered { IsEntered F.Row.cmp inst.net.now (F.rows_of rows.now inst.net.now)
         inst.bids.now means.now.limits.steps means.now.limits.budget start (parts_of search) }
     requires lives { IsDeadAs F.Row.cmp inst.net.now (F.rows_of rows.now inst.net.now) inst.bids.now
         search.node None }
-    ensures reached { IfOk result (λ both. IsReached F.Row.cmp inst.entry.net.now
+    ensures reached { IfOk result (λ after. IsReached F.Row.cmp inst.entry.net.now
         (F.rows_of rows.now inst.entry.net.now) inst.entry.bids.now means.now.limits.steps
-        means.now.limits.budget (parts_of both.0)) }
-    ensures count { IfOk result (λ both. both.0.count ≡ search.count + 1) }
-    ensures kept { IfOk result (λ both. AreKept F.Row.cmp inst.entry.net.now
+        means.now.limits.budget (parts_of after)) }
+    ensures count { IfOk result (λ after. after.count ≡ search.count + 1) }
+    ensures kept { OnOk result (AreKept F.Row.cmp inst.entry.net.now
         (F.rows_of rows.now inst.entry.net.now) (F.rows_used rows.now inst.entry.net.now)
-        inst.entry.bids.now both.1) }
+        inst.entry.bids.now kept.new) }
 {
-    let (priced, mut kept) = path_result(
-        alloc,
-        inst,
-        rows,
-        means.limits.steps,
-        kept,
-        &search,
-        &start,
-    )?;
+    let priced = path_result(alloc, inst, rows, means.limits.steps, kept, &search, &start)?;
     let Priced { prices, dual } = priced;
     let repairer = means.repairer;
     let entered = Entered {
         node: &search.node,
         graphs: means.graphs,
-        kept: &kept,
+        kept,
     };
     let repaired = repairer.repair_over(alloc, inst, rows, &entered, &dual)?;
     let search = improve(inst, search, repaired);
-    let split = outcome(alloc, inst, means.graphs, rows, &mut kept, &dual, &search)?;
+    let split = outcome(alloc, inst, means.graphs, rows, kept, &dual, &search)?;
     let cents = whole_cents(dual.value);
     let after = close_or_split(search, split, prices, cents)?;
-    Ok((after, kept))
+    Ok(after)
 }

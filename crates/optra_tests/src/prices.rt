@@ -2,7 +2,7 @@
 //! its departure on, so both bids of one minute pay five times the price of a minute, and only one of them can run.
 ghost use Rattle.std.specs.Prelude.{◌≡◌, [], IfOk, All, Contains, length};
 ghost use Rattle.optra_node.specs.Nodes.{IsNode};
-ghost use Rattle.optra_prices.specs.Keepings.{AreKeptAt};
+ghost use Rattle.optra_prices.specs.Keepings.{AreKept};
 ghost use Rattle.optra_prices.specs.Steps.{AreProper};
 ghost use Rattle.optra_rows.specs.Headways.{headway_rows};
 ghost use Rattle.optra_rows.specs.TouchedLemmas.{row_cmp};
@@ -378,26 +378,24 @@ fn prices_rise_and_fall_by_the_replies(rt: HostRuntime) -> Result<(), Fail> {
     check_read(&rt, &ONE_MINUTE, &Path)
 }
 
-/// The rows that the replies at these prices overfill, by tables that are at the node. A function at whose end tables
-/// go is dear to prove, so one hands them to `drop`.
+/// The rows that the replies at these prices overfill, by tables that are brought to the node.
 fn overfilled_at<F: RowFamily>(
     alloc: Global,
     inst: Instance<'_>,
     rows: &F,
     node: &Node,
     prices: &Prices<F::Row>,
-    kept: ArcTables<'_, F::Row>,
+    kept: &mut ArcTables<'_, F::Row>,
 ) -> Result<Vec<F::Row>, NoMemory>
     requires node { IsNode inst.net.now (length inst.bids.now) node.now }
     requires prices { AreProper F.Row.cmp (F.rows_of rows.now inst.net.now) prices.now }
-    requires kept { AreKeptAt F.Row.cmp inst.net.now (F.rows_of rows.now inst.net.now)
-        (F.rows_used rows.now inst.net.now) inst.bids.now node.now kept }
+    requires kept { AreKept F.Row.cmp inst.net.now (F.rows_of rows.now inst.net.now)
+        (F.rows_used rows.now inst.net.now) inst.bids.now kept.old }
 {
-    let (mut kept, dual) = dual_over(alloc, inst, rows, node, kept, prices)?;
+    bring_to(alloc, inst, rows, node, kept)?;
+    let dual = dual_over(alloc, inst, rows, node, kept, prices)?;
     drop(dual);
-    let listed = overfull_rows(alloc, inst, rows, node, &mut kept);
-    drop(kept);
-    listed
+    overfull_rows(alloc, inst, rows, node, kept)
 }
 
 /// The rows that the replies at no prices overfill at the root, ascending.
@@ -413,11 +411,9 @@ fn overfilled<G: Graphs>(
     let root = Node::root(alloc);
     let zero = no_prices(alloc);
     let mut kept = keep_arcs(alloc, inst, graphs, &rows)?;
-    if let Err(error) = bring_to(alloc, inst, &rows, &root, &mut kept) {
-        drop(kept);
-        return Err(error);
-    }
-    let mut listed = overfilled_at(alloc, inst, &rows, &root, &zero, kept)?;
+    let listed = overfilled_at(alloc, inst, &rows, &root, &zero, &mut kept);
+    drop(kept);
+    let mut listed = listed?;
     listed.sort_unstable();
     Ok(listed)
 }

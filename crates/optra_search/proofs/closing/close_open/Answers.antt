@@ -43,11 +43,11 @@ returns g c =
     let s = parts_of c.args.search in
     let top = c.args.top in
     let node = c.enter.new.node in
-    let v = c.in_ok-kept.dual in
+    let v = c.in_ok-dual.dual in
     let after = parts_of c.in_ok-after.after in
     let start = unwrap_or top.start (start_below (front c.args.search.waiting.items)) in
     let are : c.in_ok-prices.prices ≡ start = rw c.deref.ensures.value at c.in_ok-prices.ensures in
-    let valued : IsValuation net rows bids node start v = subst (λ (prices : PriceList g.row.F-Row.Denot). IsValuation net rows bids node prices v) are c.in_ok-kept.ensures.dual in
+    let valued : IsValuation net rows bids node start v = subst (λ (prices : PriceList g.row.F-Row.Denot). IsValuation net rows bids node prices v) are c.in_ok-dual.ensures.dual in
     let value : FitsSigned w128 c.dual.inside.value = search rules in
     let whole : FitsSigned w128 c.whole_cents-cents.result = search rules in
     let cents_is : c.whole_cents-cents.result ≡ whole_cents v.value = (simp to_z-of_z at c.whole_cents-cents.ensures) ∙ ap (λ (v : Valuation). whole_cents v.value) c.dual.view_is in
@@ -57,5 +57,5 @@ returns g c =
       closing = subst (MayClose g.F.Row.Ord.cmp net rows bids) (sym after_is) (closing_next g.F.Row.Ord.cmp net rows bids s top node c.requires.closing c.in_ok-enter.ensures v valued);
       closed = subst (HasClosed (record s { waiting = c.args.search.waiting.items ++ top ∷ [] })) (sym after_is) (closing_same g.F.Row.Ord.cmp net rows bids s top node c.requires.closing c.in_ok-enter.ensures v valued);
       rest = ap (λ (p : Parts g.row.F-Row.Denot). p.waiting) after_is;
-      kept = (node, c.in_ok-kept.ensures.kept);
+      kept = (node, c.in_ok-dual.ensures.kept);
     }

@@ -13,8 +13,8 @@ returns-clause-path g c =
     let net = c.args.inst.net.now in
     let rows = g.F.RowFamily.rows_of c.args.rows.now net in
     let before = c.args.search.now in
-    let is = λ (start : PriceList g.row.F-Row.Denot). IsPathResult g.F.Row.Ord.cmp net rows c.args.inst.bids.now before.node start c.args.steps before.revenue c.in_ok-kept.priced in
+    let is = λ (start : PriceList g.row.F-Row.Denot). IsPathResult g.F.Row.Ord.cmp net rows c.args.inst.bids.now before.node start c.args.steps before.revenue c.in_ok-priced.priced in
     let whole : FitsSigned w64 before.revenue = search rules in
     subst (λ (waiting : List (Waiting g.row.F-Row.Denot)). is (unwrap_or c.args.start.now (start_below (front waiting)))) c.deref.ensures.value
     (subst is c.start_of-from.ensures
-    (subst (λ (n : ℤ). IsPathResult g.F.Row.Ord.cmp net rows c.args.inst.bids.now before.node c.start_of-from.result.now c.args.steps n c.in_ok-kept.priced) (to_z-of_z w64 before.revenue whole) c.in_ok-kept.ensures.path))
+    (subst (λ (n : ℤ). IsPathResult g.F.Row.Ord.cmp net rows c.args.inst.bids.now before.node c.start_of-from.result.now c.args.steps n c.in_ok-priced.priced) (to_z-of_z w64 before.revenue whole) c.in_ok-priced.ensures.path))

@@ -61,7 +61,7 @@ pub outcome-requires-clause-kept : goal.outcome-requires-clause-kept
 outcome-requires-clause-kept g c =
     let net = c.args.inst.net.now in
     let f = c.args.rows.now in
-    subst (λ (s : Parts g.row.F-Row.Denot). AreKeptAt g.F.Row.Ord.cmp net (g.F.RowFamily.rows_of f net) (g.F.RowFamily.rows_used f net) c.args.inst.bids.now s.node c.in_ok-priced.kept) (sym c.improve-search.ensures.parts) c.in_ok-priced.ensures.kept
+    subst (λ (s : Parts g.row.F-Row.Denot). AreKeptAt g.F.Row.Ord.cmp net (g.F.RowFamily.rows_of f net) (g.F.RowFamily.rows_used f net) c.args.inst.bids.now s.node c.path_result.new.kept) (sym c.improve-search.ensures.parts) c.in_ok-priced.ensures.kept
 
 pub outcome-requires-clause-replies : goal.outcome-requires-clause-replies
 outcome-requires-clause-replies g c =

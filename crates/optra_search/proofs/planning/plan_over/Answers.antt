@@ -6,7 +6,7 @@ use Rattle.optra_search.specs.Planner.{IsPlainPlan}
 use Rattle.optra_search.proofs.BoundLemmas.{empty_earns}
 use Rattle.optra_search.proofs.SearchLemmas.{first_reached_is}
 use Rattle.optra_search.proofs.ClosingLemmas.{closing_first, closed_plan, closed_range}
-use Rattle.optra_search.proofs.planning.plan_with.Goals as goal
+use Rattle.optra_search.proofs.planning.plan_over.Goals as goal
 
 pub take_turns-requires-clause-reached : goal.take_turns-requires-clause-reached
 take_turns-requires-clause-reached g c =
