@@ -22,6 +22,7 @@ use crate::rest_table::RestTable;
 use crate::staying::{are_free, stays_best};
 use crate::tracing::{Admits, trace};
 use optra_network::{Minute, NoMemory};
+use optra_node::is_formed_leg;
 use optra_walk::{Leg, RowFamily};
 use std::alloc::Global;
 
@@ -62,7 +63,7 @@ impl<'a, 'b, F: RowFamily> Admits for NodeLegs<'a, 'b, F> {
     }
 
     fn admits(&self, leg: Leg) -> bool {
-        self.node.is_formed(leg) && self.node.leg_ok(self.bid, leg)
+        is_formed_leg(self.node.inst().net, leg) && self.node.leg_ok(self.bid, leg)
     }
 }
 

@@ -6,7 +6,6 @@ ghost use Rattle.optra_node.specs.Nodes.{IsFormedLeg, IsUndecided, IsOverfull, I
 ghost use Rattle.optra_node.specs.Spans.{IsLegOk, IsLetBy};
 ghost use Rattle.optra_node.specs.Summaries.{decisions_for};
 ghost use Rattle.optra_walk.specs.Families.{IsUsable};
-ghost use Rattle.optra_walk.specs.Legs.{dwell_of};
 ghost use Rattle.optra_node.specs.Duals.{PriceList, ArePrices, leg_price, capacity_price};
 ghost use Rattle.optra_node.specs.Certificates.{AreAscending};
 ghost use Rattle.optra_checker.specs.BestWalks.{AreLatestAt};
@@ -24,7 +23,7 @@ use crate::loaded::{keeps_off, loaded_rows};
 use crate::node_room::{NodeRoom, depth_after};
 use optra_network::{Minute, NoMemory};
 use optra_node::{Decision, Item, is_blocked_beside, kind_at, start_ok, total};
-use optra_walk::{Action, Instance, Leg, RowFamily};
+use optra_walk::{Instance, Leg, RowFamily};
 use std::alloc::Global;
 use std::marker::Model;
 
@@ -60,29 +59,6 @@ fn has_none(decisions: &[Decision]) -> bool
     ensures { IsTrue result ↔ (decisions.now ≡ []) }
 {
     decisions.is_empty()
-}
-
-/// The latest minute of the two days.
-const LAST_MINUTE: u16 = 2879;
-
-/// The longest dwell of a leg, in minutes.
-const LONGEST_DWELL: u16 = 240;
-
-/// Whether the leg departs within the two days.
-fn departs_in_day(leg: Leg) -> bool
-    ensures { IsTrue result → leg.depart ≤ 2879 }
-{
-    leg.depart <= LAST_MINUTE
-}
-
-/// Whether the leg dwells no longer than a leg may.
-fn dwells_short(leg: Leg) -> bool
-    ensures { IsTrue result → dwell_of leg.action ≤ 240 }
-{
-    match leg.action {
-        Action::Halt(dwell) | Action::Wait(dwell) => dwell <= LONGEST_DWELL,
-        Action::Pass | Action::Finish => true,
-    }
 }
 
 impl<'a, F: RowFamily> OpenNode<'a, F> {
@@ -174,14 +150,6 @@ impl<'a, F: RowFamily> OpenNode<'a, F> {
             self.now.bids self.now.node bid (kind_at self.now.bids bid) leg }
     {
         self.let_by(bid, leg) && !self.blocked(bid, leg)
-    }
-
-    /// Whether the leg is one that the node's calls may be asked of.
-    pub(crate) fn is_formed(&self, leg: Leg) -> bool
-        ensures { IsTrue result → IsFormedLeg self.now.net leg }
-    {
-        let net = self.inst.net;
-        leg.track.0 < net.track_count() && departs_in_day(leg) && dwells_short(leg)
     }
 
     /// How many decisions the node has.
