@@ -11,7 +11,6 @@ ghost use Rattle.optra_node.specs.Nodes.{kind_at};
 ghost use Rattle.optra_walk.specs.Families.{IsUsable};
 ghost use Rattle.optra_checker.specs.BestWalks.{AreBestAt, AreBestOf, AreFreeAt, AreLatestAt, IsBestAt, IsFoundAt, last_best, weights_within};
 ghost use Rattle.optra_checker.specs.Frees.{Attains, IsStillFree};
-ghost use Rattle.optra_checker.specs.Loaded.{AreRising, KeepsOff};
 ghost use Rattle.optra_checker.specs.Weights.{IsWorthSize};
 
 use crate::best_walk::{BestWalk, attains, legs_of};
@@ -67,27 +66,6 @@ impl<'a, 'b, F: RowFamily> Admits for NodeLegs<'a, 'b, F> {
     }
 }
 
-/// Whether no leg uses any of the rows, or a row above its capacity.
-fn all_keep_off<F: RowFamily>(
-    node: &OpenNode<'_, F>,
-    listed: &[F::Row],
-    bid: u32,
-    legs: &[Leg],
-) -> bool
-    requires bid { bid < length node.now.bids }
-    requires usable { All (IsUsable node.now.net (kind_at node.now.bids bid)) legs.now }
-    requires rising { AreRising F.Row.cmp listed.now }
-    ensures { IsTrue result → All (KeepsOff F.Row.cmp (F.rows_of node.now.family node.now.net)
-        (kind_at node.now.bids bid) listed.now) legs.now }
-{
-    'legs: for leg in legs {
-        if !node.keeps_off(listed, bid, *leg) {
-            return false;
-        }
-    }
-    true
-}
-
 /// Whether it is seen at once that the node allows legs that so many of its first decisions allow:
 /// no later decision bears on them.
 fn stand_beside<F: RowFamily>(
@@ -116,7 +94,7 @@ fn stand_beside<F: RowFamily>(
     if held + 1 != node.depth() || node.is_last_for(bid) {
         return false;
     }
-    all_keep_off(node, latest, bid, legs)
+    node.all_keep_off(latest, bid, legs)
 }
 
 /// Whether the legs are a walk of the bid that is worth as much, and that the node allows.

@@ -3,14 +3,13 @@
 //! Such a walk that a node still allows, at no price, is the best that the node allows.
 ghost use Rattle.std.specs.Prelude.{◌≡◌, ◌∷◌, [], All, IfOk, IsTrue};
 ghost use Rattle.optra_bid.specs.Specs.{IsPathOn};
-ghost use Rattle.optra_walk.specs.Families.{IsUsable};
 ghost use Rattle.optra_checker.specs.BestWalks.{AreAllBest};
 ghost use Rattle.optra_checker.specs.Frees.{Attains, IsFree};
 ghost use Rattle.optra_checker.specs.Loaded.{KeepsOff};
 
 use crate::best_walk::{BestWalk, attains};
 use crate::best_walks::BestWalks;
-use crate::loaded::keeps_off;
+use crate::loaded::all_keep_off;
 use crate::rest_table::RestTable;
 use crate::table::search;
 use crate::tracing::{EveryLeg, trace};
@@ -46,20 +45,6 @@ impl<'a> Weighing for FreeWeights<'a> {
     }
 }
 
-/// Whether no leg alone uses a row above its capacity.
-fn fit_alone<F: RowFamily>(net: &Network, rows: &F, kind: TypeId, legs: &[Leg]) -> bool
-    requires { All (IsUsable net.now kind) legs.now }
-    ensures { IsTrue result → All (KeepsOff F.Row.cmp (F.rows_of rows.now net.now) kind [])
-        legs.now }
-{
-    'legs: for leg in legs {
-        if !keeps_off(net, rows, &[], kind, *leg) {
-            return false;
-        }
-    }
-    true
-}
-
 /// Whether the legs are a walk of the bid that is worth as much, of which no leg alone uses a row
 /// above its capacity.
 fn are_free<F: RowFamily>(
@@ -77,7 +62,7 @@ fn are_free<F: RowFamily>(
         return false;
     }
     net.laws();
-    fit_alone(net, rows, kind_of(bid), legs)
+    all_keep_off(net, rows, &[], kind_of(bid), legs)
 }
 
 /// The best of all walks of a bid. `NoMemory` is its only refusal.

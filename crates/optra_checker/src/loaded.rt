@@ -1,8 +1,8 @@
-//! Rows of which the yes legs of a node use something, and whether a leg keeps off them.
+//! Rows of which the yes legs of a node use something, and whether legs keep off them.
 //!
 //! A search asks of many legs, and most of them use no row that is loaded. The rows of a leg come
 //! close to one another, so each look-up begins at the place of the last one.
-ghost use Rattle.std.specs.Prelude.{◌≡◌, ◌<◌, ◌≤◌, ◌↔◌, false, length, slice_index_or, IfOk, IsTrue};
+ghost use Rattle.std.specs.Prelude.{◌≡◌, ◌<◌, ◌≤◌, ◌↔◌, false, length, slice_index_or, All, IfOk, IsTrue};
 ghost use Rattle.std.specs.BTreeMap.{keys};
 ghost use Rattle.optra_walk.specs.Families.{IsUsable, total_of};
 ghost use Rattle.optra_checker.specs.Loaded.{AreRising, ArePast, IsMissing, KeepsOff};
@@ -108,6 +108,27 @@ pub(crate) fn keeps_off<F: RowFamily>(
             return false;
         }
         near = spot.place;
+    }
+    true
+}
+
+/// Whether each leg uses none of the rows, and no other row above its capacity.
+pub(crate) fn all_keep_off<F: RowFamily>(
+    net: &Network,
+    rows: &F,
+    loaded: &[F::Row],
+    kind: TypeId,
+    legs: &[Leg],
+) -> bool
+    requires usable { All (IsUsable net.now kind) legs.now }
+    requires rising { AreRising F.Row.cmp loaded.now }
+    ensures { IsTrue result → All (KeepsOff F.Row.cmp (F.rows_of rows.now net.now) kind loaded.now)
+        legs.now }
+{
+    'legs: for leg in legs {
+        if !keeps_off(net, rows, loaded, kind, *leg) {
+            return false;
+        }
     }
     true
 }

@@ -19,7 +19,7 @@ ghost use Rattle.optra_checker.specs.Weights.{AreAlike};
 
 use crate::decision_rows::rows_of_decision;
 use crate::leaf_prices::{capacity_price, leg_price};
-use crate::loaded::{keeps_off, loaded_rows};
+use crate::loaded::{all_keep_off, keeps_off, loaded_rows};
 use crate::node_room::{NodeRoom, depth_after};
 use optra_network::{Minute, NoMemory};
 use optra_node::{Decision, Item, is_blocked_beside, kind_at, start_ok, total};
@@ -249,6 +249,18 @@ impl<'a, F: RowFamily> OpenNode<'a, F> {
     {
         let inst = self.inst;
         keeps_off(inst.net, self.rows, loaded, kind_at(inst, bid), leg)
+    }
+
+    /// As [`OpenNode::keeps_off`], of each leg.
+    pub(crate) fn all_keep_off(&self, listed: &[F::Row], bid: u32, legs: &[Leg]) -> bool
+        requires bid { bid < length self.now.bids }
+        requires usable { All (IsUsable self.now.net (kind_at self.now.bids bid)) legs.now }
+        requires rising { AreRising F.Row.cmp listed.now }
+        ensures { IsTrue result → All (KeepsOff F.Row.cmp (F.rows_of self.now.family self.now.net)
+            (kind_at self.now.bids bid) listed.now) legs.now }
+    {
+        let inst = self.inst;
+        all_keep_off(inst.net, self.rows, listed, kind_at(inst, bid), legs)
     }
 
     /// Whether it is seen at once that a walk of the bid may have both legs, at one price, or
