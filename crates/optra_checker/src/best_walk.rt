@@ -1,5 +1,5 @@
 //! The best walk of a bid at a node: what it is worth, and its legs.
-ghost use Rattle.std.specs.Prelude.{◌≡◌, ◌↔◌, IsTrue, Some, pos, ◌*ℤ◌};
+ghost use Rattle.std.specs.Prelude.{◌≡◌, ◌↔◌, [], IsTrue, Some, pos, ◌*ℤ◌};
 ghost use Rattle.optra_walk.specs.Values.{IsValue, value_of};
 ghost use Rattle.optra_walk.specs.Walks.{IsWalk};
 ghost use Rattle.optra_checker.specs.Frees.{Attains};
@@ -7,6 +7,7 @@ ghost use Rattle.optra_checker.specs.Frees.{Attains};
 use optra_bid::Bid;
 use optra_network::{Cents, Network};
 use optra_walk::{Leg, follows, value};
+use std::alloc::Global;
 
 /// What the best walk of a bid is worth at a node on the way to the one that is open, and the legs
 /// of such a walk.
@@ -18,13 +19,6 @@ pub(crate) struct BestWalk {
     pub(crate) worth: Option<i128>,
     /// The legs of one that is worth as much and allowed there, or none where none is at hand.
     pub(crate) legs: Vec<Leg>,
-}
-
-/// The legs that are at hand.
-pub(crate) fn legs_of(best: &BestWalk) -> &[Leg]
-    ensures { result.now ≡ best.now.legs.items }
-{
-    &best.legs
 }
 
 /// The value of a walk in thousandths of a cent.
@@ -53,12 +47,35 @@ fn is_number(best: Option<i128>, number: i128) -> bool
     }
 }
 
-/// Whether the legs are a walk of the bid that is worth as much.
-pub(crate) fn attains(net: &Network, bid: &Bid, best: Option<i128>, legs: &[Leg]) -> bool
-    ensures { IsTrue result → Attains net.now bid.now best legs.now }
-{
-    if !follows(net, bid, legs) {
-        return false;
+impl BestWalk {
+    /// The legs that are at hand.
+    pub(crate) fn legs(&self) -> &[Leg]
+        ensures { result.now ≡ self.now.legs.items }
+    {
+        &self.legs
     }
-    is_number(best, worth(net, bid, legs))
+
+    /// Whether the legs that are at hand are a walk of the bid that is worth as much.
+    pub(crate) fn attains(&self, net: &Network, bid: &Bid) -> bool
+        ensures { IsTrue result → Attains net.now bid.now self.now.worth self.now.legs.items }
+    {
+        let legs = self.legs();
+        if !follows(net, bid, legs) {
+            return false;
+        }
+        is_number(self.worth, worth(net, bid, legs))
+    }
+
+    /// The same with no legs at hand.
+    pub(crate) fn without_legs(self, alloc: Global) -> BestWalk
+        ensures depth { result.depth ≡ self.depth }
+        ensures worth { result.worth ≡ self.worth }
+        ensures legs { result.legs.items ≡ [] }
+    {
+        BestWalk {
+            depth: self.depth,
+            worth: self.worth,
+            legs: Vec::new(alloc),
+        }
+    }
 }

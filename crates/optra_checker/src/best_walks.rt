@@ -3,7 +3,7 @@
 //! Further decisions leave fewer walks allowed. So what the best walk is worth at a node bounds the
 //! walks at every node below, and where such a walk is still allowed there, it is the best. A
 //! decision bears on few bids, so few are searched anew.
-ghost use Rattle.std.specs.Prelude.{◌≡◌, ◌<◌, ◌≤◌, [], All, IfOk, IfSome, IsTrue, OnOk, Some, length, slice_get, take};
+ghost use Rattle.std.specs.Prelude.{◌≡◌, ◌<◌, ◌≤◌, [], ◌∷◌, All, IfOk, IfSome, IsTrue, OnOk, Some, length, slice_get, take};
 ghost use Rattle.optra_bid.specs.declared.bids.Bid.{Bid as Asked};
 ghost use Rattle.optra_node.specs.Duals.{ArePrices};
 ghost use Rattle.optra_node.specs.Certificates.{AreAscending};
@@ -13,7 +13,7 @@ ghost use Rattle.optra_checker.specs.BestWalks.{AreBestAt, AreBestOf, AreFreeAt,
 ghost use Rattle.optra_checker.specs.Frees.{Attains, IsStillFree};
 ghost use Rattle.optra_checker.specs.Weights.{IsWorthSize};
 
-use crate::best_walk::{BestWalk, attains, legs_of};
+use crate::best_walk::BestWalk;
 use crate::leaf_prices::are_none;
 use crate::leaf_search::best_found;
 use crate::open_node::OpenNode;
@@ -28,9 +28,9 @@ use std::alloc::Global;
 /// The best walks of a bid at nodes on the way to the one that is open, the nearest last.
 #[derive(Drop)]
 pub(crate) struct BestWalks {
-    pub(crate) kept: Vec<BestWalk>,
+    kept: Vec<BestWalk>,
     /// So many first decisions of the open node allow the legs of the last one.
-    pub(crate) held: usize,
+    held: usize,
 }
 
 /// How many first ones are of nodes of at most so many decisions, up to the first that isn't.
@@ -97,76 +97,73 @@ fn stand_beside<F: RowFamily>(
     node.all_keep_off(latest, bid, legs)
 }
 
-/// Whether the legs are a walk of the bid that is worth as much, and that the node allows.
-fn are_best<F: RowFamily>(
-    alloc: Global,
-    node: &OpenNode<'_, F>,
-    bid: u32,
-    worth: Option<i128>,
-    legs: &[Leg],
-) -> bool
+/// Whether the legs at hand are a walk of the bid that is worth as much, and that the node allows.
+fn are_best<F: RowFamily>(alloc: Global, node: &OpenNode<'_, F>, bid: u32, best: &BestWalk) -> bool
     requires { bid < length node.now.bids }
     ensures walk { IsTrue result → (b : Asked) → slice_get node.now.bids bid ≡ Some b
-        → Attains node.now.net b worth legs.now }
-    ensures free { IsTrue result → AreFreeAt F.rows_of F.rows_used node.now bid [] legs.now }
+        → Attains node.now.net b best.now.worth best.now.legs.items }
+    ensures free { IsTrue result → AreFreeAt F.rows_of F.rows_used node.now bid []
+        best.now.legs.items }
 {
     let inst = node.inst();
-    if !attains(inst.net, &inst.bids[bid as usize], worth, legs) {
+    if !best.attains(inst.net, &inst.bids[bid as usize]) {
         return false;
     }
     node.laws();
     let prices = Vec::new(alloc);
-    are_free(node, &prices, bid, legs)
+    are_free(node, &prices, bid, best.legs())
 }
 
-/// The legs of a walk of the bid that is worth as much, and that the node allows, by the table that
-/// a search left filled; none where none is found. `NoMemory` is its only refusal.
-fn find_legs<F: RowFamily>(
+/// The legs that the table leads along, which a search left filled, and that the node allows; a
+/// proposal. `NoMemory` is its only refusal.
+fn trace_legs<F: RowFamily>(
     alloc: Global,
     node: &OpenNode<'_, F>,
     bid: u32,
-    worth: Option<i128>,
     table: &RestTable,
 ) -> Result<Vec<Leg>, NoMemory>
     requires { bid < length node.now.bids }
-    ensures walk { IfOk result (λ legs. 0 < length legs.items → (b : Asked)
-        → slice_get node.now.bids bid ≡ Some b → Attains node.now.net b worth legs.items) }
-    ensures free { IfOk result (λ legs. 0 < length legs.items → AreFreeAt F.rows_of F.rows_used
-        node.now bid [] legs.items) }
 {
     let inst = node.inst();
     let allowed = NodeLegs { node, bid };
-    let legs = trace(alloc, inst.net, &inst.bids[bid as usize], &allowed, table)?;
-    if are_best(alloc, node, bid, worth, &legs) {
-        Ok(legs)
-    } else {
-        Ok(Vec::new(alloc))
-    }
+    trace(alloc, inst.net, &inst.bids[bid as usize], &allowed, table)
 }
 
 /// The best walk of the bid that the node allows, by a search. `NoMemory` is its only refusal.
 fn find_best<F: RowFamily>(
     alloc: Global,
     node: &OpenNode<'_, F>,
-    latest: &[F::Row],
     bid: u32,
     table: &mut RestTable,
 ) -> Result<BestWalk, NoMemory>
-    requires bid { bid < length node.now.bids }
-    requires latest { AreLatestAt F.Row.cmp F.rows_of node.now latest.now }
+    requires { bid < length node.now.bids }
     ensures { IfOk result (IsFoundAt F.rows_of F.rows_used node.now bid) }
 {
     let prices = Vec::new(alloc);
     let worth = best_found(alloc, node, &prices, bid, table)?;
-    let legs = find_legs(alloc, node, bid, worth, table)?;
-    Ok(BestWalk {
+    let legs = trace_legs(alloc, node, bid, table)?;
+    let best = BestWalk {
         depth: node.depth(),
         worth,
         legs,
-    })
+    };
+    if are_best(alloc, node, bid, &best) {
+        return Ok(best);
+    }
+    Ok(best.without_legs(alloc))
 }
 
 impl BestWalks {
+    /// The best walk of a bid at the root alone.
+    pub(crate) fn at_root(alloc: Global, free: BestWalk) -> Result<BestWalks, NoMemory>
+        ensures kept { IfOk result (λ walks. walks.kept.items ≡ free ∷ []) }
+        ensures held { IfOk result (λ walks. walks.held ≡ 0) }
+    {
+        let mut kept = Vec::new(alloc);
+        kept.push(free)?;
+        Ok(BestWalks { kept, held: 0 })
+    }
+
     /// Turns from the open node to that of so many first decisions.
     pub(crate) fn leave<F: RowFamily>(&mut self, node: &OpenNode<'_, F>, bid: u32, depth: usize)
         requires depth { depth ≤ length node.now.node }
@@ -235,7 +232,7 @@ impl BestWalks {
             return None;
         };
         node.laws();
-        if stand_beside(node, latest, bid, self.held, legs_of(best)) {
+        if stand_beside(node, latest, bid, self.held, best.legs()) {
             return Some(best.worth);
         }
         let prices = Vec::new(alloc);
@@ -264,7 +261,7 @@ impl BestWalks {
             self.held = node.depth();
             return Ok(worth);
         }
-        let best = find_best(alloc, node, latest, bid, table)?;
+        let best = find_best(alloc, node, bid, table)?;
         let worth = best.worth;
         self.kept.push(best)?;
         self.held = node.depth();

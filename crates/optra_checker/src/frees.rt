@@ -1,13 +1,13 @@
 //! The best walks of bids where nothing is decided, nothing is used and nothing has a price.
 //!
 //! Such a walk that a node still allows, at no price, is the best that the node allows.
-ghost use Rattle.std.specs.Prelude.{◌≡◌, ◌∷◌, [], All, IfOk, IsTrue};
+ghost use Rattle.std.specs.Prelude.{[], All, IfOk, IsTrue};
 ghost use Rattle.optra_bid.specs.Specs.{IsPathOn};
 ghost use Rattle.optra_checker.specs.BestWalks.{AreAllBest};
 ghost use Rattle.optra_checker.specs.Frees.{Attains, IsFree};
 ghost use Rattle.optra_checker.specs.Loaded.{KeepsOff};
 
-use crate::best_walk::{BestWalk, attains};
+use crate::best_walk::BestWalk;
 use crate::best_walks::BestWalks;
 use crate::loaded::all_keep_off;
 use crate::rest_table::RestTable;
@@ -45,24 +45,18 @@ impl<'a> Weighing for FreeWeights<'a> {
     }
 }
 
-/// Whether the legs are a walk of the bid that is worth as much, of which no leg alone uses a row
-/// above its capacity.
-fn are_free<F: RowFamily>(
-    net: &Network,
-    rows: &F,
-    bid: &Bid,
-    worth: Option<i128>,
-    legs: &[Leg],
-) -> bool
-    ensures walk { IsTrue result → Attains net.now bid.now worth legs.now }
+/// Whether the legs at hand are a walk of the bid that is worth as much, of which no leg alone uses
+/// a row above its capacity.
+fn are_free<F: RowFamily>(net: &Network, rows: &F, bid: &Bid, free: &BestWalk) -> bool
+    ensures walk { IsTrue result → Attains net.now bid.now free.now.worth free.now.legs.items }
     ensures fits { IsTrue result → All (KeepsOff F.Row.cmp (F.rows_of rows.now net.now)
-        bid.now.path.kind []) legs.now }
+        bid.now.path.kind []) free.now.legs.items }
 {
-    if !attains(net, bid, worth, legs) {
+    if !free.attains(net, bid) {
         return false;
     }
     net.laws();
-    all_keep_off(net, rows, &[], kind_of(bid), legs)
+    all_keep_off(net, rows, &[], kind_of(bid), free.legs())
 }
 
 /// The best of all walks of a bid. `NoMemory` is its only refusal.
@@ -81,25 +75,16 @@ fn find_free<F: RowFamily>(
         kind: kind_of(bid),
     };
     let worth = search(alloc, net, bid, &weights, table)?;
-    let mut legs = trace(alloc, net, bid, &EveryLeg, table)?;
-    if !are_free(net, rows, bid, worth, &legs) {
-        legs = Vec::new(alloc);
-    }
-    Ok(BestWalk {
+    let legs = trace(alloc, net, bid, &EveryLeg, table)?;
+    let free = BestWalk {
         depth: 0,
         worth,
         legs,
-    })
-}
-
-/// The best walk of a bid at the root alone.
-fn walks_of(alloc: Global, free: BestWalk) -> Result<BestWalks, NoMemory>
-    ensures kept { IfOk result (λ walks. walks.kept.items ≡ free ∷ []) }
-    ensures held { IfOk result (λ walks. walks.held ≡ 0) }
-{
-    let mut kept = Vec::new(alloc);
-    kept.push(free)?;
-    Ok(BestWalks { kept, held: 0 })
+    };
+    if are_free(net, rows, bid, &free) {
+        return Ok(free);
+    }
+    Ok(free.without_legs(alloc))
 }
 
 /// The best walks of all bids at the root, which has no decision. `NoMemory` is its only refusal.
@@ -116,7 +101,7 @@ pub(crate) fn find_frees<F: RowFamily>(
     let mut all = Vec::new(alloc);
     'bids: for bid in inst.bids {
         let free = find_free(alloc, inst.net, rows, bid, table)?;
-        let walks = walks_of(alloc, free)?;
+        let walks = BestWalks::at_root(alloc, free)?;
         all.push(walks)?;
     }
     Ok(all)

@@ -10,7 +10,7 @@ ghost use Rattle.optra_checker.specs.Frees.{IsFreeLeg};
 ghost use Rattle.optra_checker.specs.Leaves.{weights_at};
 ghost use Rattle.optra_checker.specs.Tests.{may_start_at};
 
-use crate::best_walk::{BestWalk, legs_of};
+use crate::best_walk::BestWalk;
 use crate::open_node::OpenNode;
 use optra_walk::{Leg, RowFamily};
 
@@ -127,5 +127,5 @@ pub(crate) fn stays_best<F: RowFamily>(
         return true;
     }
     node.laws();
-    are_free(node, prices, bid, legs_of(best))
+    are_free(node, prices, bid, best.legs())
 }

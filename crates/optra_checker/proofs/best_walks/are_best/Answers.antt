@@ -1,13 +1,12 @@
-use Rattle.std.proofs.Common.{◌≡◌, Some, List, Option, length, slice_get, get_or, ap, sym, subst, ◌∙◌}
+use Rattle.std.proofs.Common.{◌∙◌, List, [], sym, subst}
 use Rattle.std.specs.Prelude.{All}
-use Rattle.std.proofs.lemmas.Option.{get_or_from_slice_get, slice_get-get_or}
-use Rattle.optra_bid.specs.declared.bids.Bid.{Bid}
+use Rattle.optra_walk.specs.declared.Leg.{Leg}
 use Rattle.optra_walk.specs.Families.{IsUsable}
 use Rattle.optra_node.specs.Nodes.{kind_at}
-use Rattle.optra_checker.specs.Frees.{Attains, IsStillFree}
+use Rattle.optra_checker.specs.Frees.{IsStillFree}
 use Rattle.optra_checker.specs.Leaves.{leaf_weights}
 use Rattle.optra_checker.proofs.AtLemmas.{no_true}
-use Rattle.optra_checker.proofs.BestWalkLemmas.{attains_usable, attains_at, attains_there}
+use Rattle.optra_checker.proofs.BestWalkLemmas.{attains_at, attains_there}
 use Rattle.optra_checker.proofs.best_walks.are_best.Goals as goal
 
 pub returns-then-not-attains-clause-walk : goal.returns-then-not-attains-clause-walk
@@ -19,15 +18,18 @@ returns-then-not-attains-clause-free g c t = absurd (no_true t)
 pub are_free-requires-clause-usable : goal.are_free-requires-clause-usable
 are_free-requires-clause-usable g c =
     let node = c.args.node.now in
+    let best = c.args.best.now in
     let r = c.index-inst-bid.result in
-    attains_there node.net node.bids c.inst-inst.result.net.now c.inst-inst.result.bids.now c.args.bid c.args.worth c.args.legs.now r c.laws.ensures c.inst-inst.ensures.net c.inst-inst.ensures.bids c.requires
-    (c.attains.ensures c.if-not-attains.false)
+    subst (λ (ls : List Leg). All (IsUsable node.net (kind_at node.bids c.args.bid)) ls) (sym c.legs.ensures)
+    (attains_there node.net node.bids c.inst-inst.result.net.now c.inst-inst.result.bids.now c.args.bid best.worth best.legs.items r c.laws.ensures c.inst-inst.ensures.net c.inst-inst.ensures.bids c.requires
+    (c.attains.ensures c.if-not-attains.false))
 
 pub returns-clause-walk : goal.returns-clause-walk
 returns-clause-walk g c t b at =
     let node = c.args.node.now in
+    let best = c.args.best.now in
     let r = c.index-inst-bid.result in
-    attains_at node.net node.bids c.inst-inst.result.net.now c.inst-inst.result.bids.now c.args.bid c.args.worth c.args.legs.now r c.inst-inst.ensures.net c.inst-inst.ensures.bids
+    attains_at node.net node.bids c.inst-inst.result.net.now c.inst-inst.result.bids.now c.args.bid best.worth best.legs.items r c.inst-inst.ensures.net c.inst-inst.ensures.bids
     (c.attains.ensures c.if-not-attains.false) b at
 
 pub returns-clause-free : goal.returns-clause-free
@@ -35,4 +37,6 @@ returns-clause-free g c t =
     let node = c.args.node.now in
     let rows = g.F.RowFamily.rows_of node.family node.net in
     let used = g.F.RowFamily.rows_used node.family node.net in
-    subst (λ ps. IsStillFree (leaf_weights node.net rows used node.bids node.node c.args.bid ps (kind_at node.bids c.args.bid)) c.args.legs.now) (c.deref.ensures.value ∙ c.new-prices.ensures.items) (c.are_free.ensures.free t)
+    let kind = kind_at node.bids c.args.bid in
+    subst (λ (ls : List Leg). IsStillFree (leaf_weights node.net rows used node.bids node.node c.args.bid [] kind) ls) c.legs.ensures
+    (subst (λ ps. IsStillFree (leaf_weights node.net rows used node.bids node.node c.args.bid ps kind) c.legs.result.now) (c.deref.ensures.value ∙ c.new-prices.ensures.items) (c.are_free.ensures.free t))

@@ -1,6 +1,5 @@
-use Rattle.std.proofs.Common.{◌≡◌, ◌∙◌, ◌<◌, List, None, length, slice_get, sym, subst}
+use Rattle.std.proofs.Common.{◌∙◌, ◌<◌, List, length, slice_get, sym, subst}
 use Rattle.std.specs.Prelude.{All}
-use Rattle.optra_bid.specs.declared.bids.Bid.{Bid}
 use Rattle.optra_walk.specs.declared.Leg.{Leg}
 use Rattle.optra_walk.specs.Families.{IsUsable}
 use Rattle.optra_node.specs.Nodes.{kind_at}
@@ -32,7 +31,7 @@ are_free-requires-clause-usable g c =
     let node = c.args.node.now in
     let rows = g.F.RowFamily.rows_of node.family node.net in
     let used = g.F.RowFamily.rows_used node.family node.net in
-    subst (λ (ls : List Leg). All (IsUsable node.net (kind_at node.bids c.args.bid)) ls) (sym c.legs_of.ensures)
+    subst (λ (ls : List Leg). All (IsUsable node.net (kind_at node.bids c.args.bid)) ls) (sym c.legs.ensures)
     (best_usable node.net rows used node.bids node.node c.args.bid c.args.best.now c.laws.ensures c.requires.best)
 
 pub are_free-requires-clause-bid : goal.are_free-requires-clause-bid
@@ -53,7 +52,7 @@ returns-clause-best g c t b at =
     let w = leaf_weights node.net rows used node.bids node.node c.args.bid c.args.prices.now (kind_at node.bids c.args.bid) in
     let is = some_has (λ b. IsBestWalk node.net rows used node.bids node.node c.args.bid b best) (slice_get node.bids c.args.bid) b at c.requires.best in
     best_below node.net rows used node.bids c.args.bid b node.node c.args.prices.now best c.requires.proper is
-    (subst (λ (ls : List Leg). IsStillFree w ls) c.legs_of.ensures (c.are_free.ensures.free t)) (subst (λ (ls : List Leg). 0 < length ls) c.legs_of.ensures (c.are_free.ensures.some t))
+    (subst (λ (ls : List Leg). IsStillFree w ls) c.legs.ensures (c.are_free.ensures.free t)) (subst (λ (ls : List Leg). 0 < length ls) c.legs.ensures (c.are_free.ensures.some t))
 
 pub returns-clause-free : goal.returns-clause-free
 returns-clause-free g c t some =
@@ -61,4 +60,4 @@ returns-clause-free g c t some =
     let rows = g.F.RowFamily.rows_of node.family node.net in
     let used = g.F.RowFamily.rows_used node.family node.net in
     let w = leaf_weights node.net rows used node.bids node.node c.args.bid c.args.prices.now (kind_at node.bids c.args.bid) in
-    subst (λ (ls : List Leg). IsStillFree w ls) c.legs_of.ensures (c.are_free.ensures.free t)
+    subst (λ (ls : List Leg). IsStillFree w ls) c.legs.ensures (c.are_free.ensures.free t)

@@ -10,11 +10,8 @@ standing-requires-clause-latest g c = c.requires.latest
 pub standing-requires-clause-walks : goal.standing-requires-clause-walks
 standing-requires-clause-walks g c = c.requires.walks
 
-pub find_best-requires-clause-bid : goal.find_best-requires-clause-bid
-find_best-requires-clause-bid g c = c.requires.bid
-
-pub find_best-requires-clause-latest : goal.find_best-requires-clause-latest
-find_best-requires-clause-latest g c = c.requires.latest
+pub find_best-requires : goal.find_best-requires
+find_best-requires g c = c.requires.bid
 
 pub returns-clause-walks : goal.returns-clause-walks
 returns-clause-walks g c =

@@ -17,7 +17,7 @@ stand_beside-requires-clause-usable g c =
     let used = g.F.RowFamily.rows_used node.family node.net in
     let at : last_best c.args.self.now ≡ Some c.in-Some.best.now = ap (λ (list : List BestWalk). slice_get list (length list - 1)) (sym c.deref.ensures.value) ∙ sym c.in-Some.ensures.value in
     let is = last_is node.net rows used node.bids node.node c.args.bid c.args.self.now c.in-Some.best.now at c.requires.walks in
-    subst (λ (ls : List Leg). All (IsUsable node.net (kind_at node.bids c.args.bid)) ls) (sym c.legs_of.ensures)
+    subst (λ (ls : List Leg). All (IsUsable node.net (kind_at node.bids c.args.bid)) ls) (sym c.legs.ensures)
     (best_usable node.net rows used node.bids node.node c.args.bid c.in-Some.best.now c.laws.ensures is)
 
 pub returns-then-stand_beside-clause-best : goal.returns-then-stand_beside-clause-best
@@ -29,5 +29,5 @@ returns-then-stand_beside-clause-best g c b there =
     let at : last_best c.args.self.now ≡ Some best = ap (λ (list : List BestWalk). slice_get list (length list - 1)) (sym c.deref.ensures.value) ∙ sym c.in-Some.ensures.value in
     let is = last_is node.net rows used node.bids node.node c.args.bid c.args.self.now best at c.requires.walks in
     stands_best node.net rows used node.bids node.node c.args.bid best is
-    (subst (λ (ls : List Leg). IsStillFree (leaf_weights node.net rows used node.bids node.node c.args.bid [] (kind_at node.bids c.args.bid)) ls) c.legs_of.ensures (c.stand_beside.ensures.free c.if-stand_beside.true))
-    (subst (λ (ls : List Leg). 0 < length ls) c.legs_of.ensures (c.stand_beside.ensures.some c.if-stand_beside.true)) b there
+    (subst (λ (ls : List Leg). IsStillFree (leaf_weights node.net rows used node.bids node.node c.args.bid [] (kind_at node.bids c.args.bid)) ls) c.legs.ensures (c.stand_beside.ensures.free c.if-stand_beside.true))
+    (subst (λ (ls : List Leg). 0 < length ls) c.legs.ensures (c.stand_beside.ensures.some c.if-stand_beside.true)) b there
