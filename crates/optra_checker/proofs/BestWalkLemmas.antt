@@ -1,5 +1,5 @@
 -- What the best walk at a node is worth bounds the walks at all nodes below it, and a walk that stays allowed stays the best.
-use Rattle.std.proofs.Common.{◌≡◌, ℕ, zero, suc, ◌+◌, ◌-◌, ◌<◌, ◌≤◌, ◌⊎◌, ◌≢◌, Bool, true, false, not, cond, List, [], ◌∷◌, ◌++◌, length, get_or, take, drop, set, Option, None, Some, slice_get, IfSome, refl, sym, ap, ◌∙◌, subst, arith, inl, inr}
+use Rattle.std.proofs.Common.{◌≡◌, ℕ, zero, suc, ◌+◌, ◌-◌, ◌<◌, ◌≤◌, ◌⊎◌, ◌≢◌, Bool, true, false, not, cond, List, [], ◌∷◌, ◌++◌, length, get_or, take, set, Option, None, Some, slice_get, IfSome, refl, sym, ap, ◌∙◌, subst, arith, inl, inr}
 use Rattle.std.specs.Prelude.{All, IsSomeAnd, is_some, ◌&&◌, ◌||◌, nat_eq, nat_lt, nat_le, min}
 use Rattle.std.specs.Prelude.{ℤ, pos, ◌*ℤ◌, ◌≤ℤ◌}
 use Rattle.std.specs.List.{list_all}
@@ -7,8 +7,8 @@ use Rattle.std.specs.declared.cmp.Ordering.{Ordering}
 use Rattle.std.proofs.lemmas.Bool.{cases_lt, cases_eq, false≢true}
 use Rattle.std.proofs.lemmas.Bool.Decides.{nat_tests}
 use Rattle.std.proofs.lemmas.Int.{ints}
-use Rattle.std.proofs.lemmas.List.{length-append, length-set, get_or-set_same, get_or-set_other, length-take, length-take-le, take_more, take_all, take-take, take-append-drop}
-use Rattle.std.proofs.lemmas.List.Elements.{All-push, All-take, All-weaker}
+use Rattle.std.proofs.lemmas.List.{length-append, length-set, get_or-set_same, get_or-set_other, length-take, length-take-le, take_more, take_all, take-take}
+use Rattle.std.proofs.lemmas.List.Elements.{All-push, All-take}
 use Rattle.std.proofs.lemmas.List.Sums.{AllPass-from_list_all, list_all-from_AllPass, sum_by-take-le, sum_by_push}
 use Rattle.std.proofs.lemmas.Option.{slice_get-get_or, slice_get_within, get_or_from_slice_get}
 use Rattle.optra_network.specs.Net.{Net, IsProper}
@@ -20,10 +20,10 @@ use Rattle.optra_walk.specs.Values.{value_of, first_departure}
 use Rattle.optra_walk.proofs.UsableLemmas.{walk_usable}
 use Rattle.optra_node.specs.declared.Decision.{Decision}
 use Rattle.optra_node.specs.Nodes.{IsBlocked, is_yes_for, kind_at, others_load, uses_at, yes_uses}
-use Rattle.optra_node.specs.Duals.{sum_of, PriceList, ArePrices, leg_price}
+use Rattle.optra_node.specs.Duals.{PriceList, ArePrices}
 use Rattle.optra_node.specs.Spans.{Lets}
-use Rattle.optra_checker.specs.BestWalks.{IsCeiling, weights_within, IsBestWalk, last_best, AreBestWalks, AreBestOf, AreAllBest, AreLastRows}
-use Rattle.optra_checker.specs.Frees.{free_weights, Attains, IsFree, IsFreeLeg, IsStillFree}
+use Rattle.optra_checker.specs.BestWalks.{IsCeiling, weights_within, IsBestWalk, last_best, AreBestWalks, AreBestOf, AreTurned, AreAllBest, AreLastRows}
+use Rattle.optra_checker.specs.Frees.{free_weights, Attains, IsFree, IsStillFree}
 use Rattle.optra_checker.specs.Leaves.{leaf_weights}
 use Rattle.optra_checker.specs.Loaded.{IsMissing, KeepsOff}
 use Rattle.optra_checker.specs.Tests.{may_start_at, lets_leg, all_let, has_room, may_have_leg}
@@ -233,7 +233,7 @@ module _ {R : Type 0} (net : Net) (rows : Rows R) (used : TypeId → Leg → Lis
         weaker (Some best) h l = λ some. from_within node walks.held k l (λ w. IsStillFree w best.legs.items) (h some)
 
     -- the walks of the first decisions, where none of later nodes are left
-    pub left_same : (node : List Decision) (k : ℕ) (walks after : BestWalks) → k ≤ length node → after.kept.items ≡ walks.kept.items → after.held ≡ min walks.held k → All (λ best. best.depth ≤ k) walks.kept.items
+    left_same : (node : List Decision) (k : ℕ) (walks after : BestWalks) → k ≤ length node → after.kept.items ≡ walks.kept.items → after.held ≡ min walks.held k → All (λ best. best.depth ≤ k) walks.kept.items
         → AreBestWalks net rows used bids node number bid walks → AreBestWalks net rows used bids (take k node) number bid after
     left_same node k walks after l kept held within are = record {
       each = subst (All (IsBestWalk net rows used bids (take k node) number bid)) (sym kept) (λ j d m. left_one node k (get_or walks.kept.items j d) l (within j d m) (are.each j d m));
@@ -250,7 +250,7 @@ module _ {R : Type 0} (net : Net) (rows : Rows R) (used : TypeId → Leg → Lis
             same_within node after.held k (omega (arith, held)) (λ w. IsStillFree w best.legs.items) (still_within node after.held walks.held best.legs.items (omega (arith, held)) (h some))
 
     -- and where some are
-    pub left_some : (node : List Decision) (k n : ℕ) (walks after : BestWalks) → k ≤ length node → after.kept.items ≡ take n walks.kept.items → after.held ≡ 0 → All (λ best. best.depth ≤ k) (take n walks.kept.items)
+    left_some : (node : List Decision) (k n : ℕ) (walks after : BestWalks) → k ≤ length node → after.kept.items ≡ take n walks.kept.items → after.held ≡ 0 → All (λ best. best.depth ≤ k) (take n walks.kept.items)
         → AreBestWalks net rows used bids node number bid walks → AreBestWalks net rows used bids (take k node) number bid after
     left_some node k n walks after l kept held within are = record {
       each = subst (All (IsBestWalk net rows used bids (take k node) number bid)) (sym kept) each;
@@ -272,6 +272,14 @@ module _ {R : Type 0} (net : Net) (rows : Rows R) (used : TypeId → Leg → Lis
             let is : IsBestWalk net rows used bids (take k node) number bid best =
             subst (IsBestWalk net rows used bids (take k node) number bid) at (subst (All (IsBestWalk net rows used bids (take k node) number bid)) (sym kept) each (length after.kept.items - 1) best m) in
             still_within (take k node) after.held best.depth best.legs.items (omega (arith, held)) (is.still some)
+
+    -- turned back to a node on the way
+    pub turned_one : (node : List Decision) (k : ℕ) (walks after : BestWalks) → k ≤ length node → AreTurned k walks after → AreBestWalks net rows used bids node number bid walks → AreBestWalks net rows used bids (take k node) number bid after
+    turned_one node k walks after l t are = by t.held
+      where
+        by : (after.held ≡ 0) ⊎ ((after.kept.items ≡ walks.kept.items) × (after.held ≡ min walks.held k)) → AreBestWalks net rows used bids (take k node) number bid after
+        by (inl none) = left_some node k (length after.kept.items) walks after l t.first none (subst (All (λ (best : BestWalk). best.depth ≤ k)) t.first t.within) are
+        by (inr same) = left_same node k walks after l same.0 same.1 (subst (All (λ (best : BestWalk). best.depth ≤ k)) same.0 t.within) are
 
     at_end : {X : Type 0} (xs : List X) (x : X) → slice_get (xs ++ x ∷ []) (length xs) ≡ Some x
     at_end [] x = refl
@@ -386,6 +394,23 @@ module _ {R : Type 0} (net : Net) (rows : Rows R) (used : TypeId → Leg → Lis
     pub count : length walks ≡ length bids
     pub before : (number : ℕ) (d : BestWalks) → number < i → number < length walks → AreBestOf net rows used bids (take depth node) number (get_or walks number d)
     pub behind : (number : ℕ) (d : BestWalks) → i ≤ number → number < length walks → AreBestOf net rows used bids node number (get_or walks number d)
+
+  -- with those of one bid more
+  pub left_set : (node : List Decision) (depth i : ℕ) (walks : List BestWalks) (best : BestWalks) → AreLeft node depth i walks → AreBestOf net rows used bids (take depth node) i best → AreLeft node depth (i + 1) (set walks i best)
+  left_set node depth i walks best are is = record {
+    count = length-set walks i best ∙ are.count;
+    before = λ n d b l. let e = length-set walks i best in by n d b (omega (arith, l, e)) (cases_lt n i);
+    behind = λ n d b l.
+        let e = length-set walks i best in
+        subst (AreBestOf net rows used bids node n) (sym (get_or-set_other walks i n best d (λ same. omega (arith, b, same)))) (are.behind n d (omega (arith, b)) (omega (arith, l, e)));
+  }
+    where
+      by : (n : ℕ) (d : BestWalks) → n < i + 1 → n < length walks → (n < i) ⊎ (i ≤ n) → AreBestOf net rows used bids (take depth node) n (get_or (set walks i best) n d)
+      by n d b l (inl first) = subst (AreBestOf net rows used bids (take depth node) n) (sym (get_or-set_other walks i n best d (λ same. omega (arith, first, same)))) (are.before n d first l)
+      by n d b l (inr last) =
+          let same : n ≡ i = omega (arith, b, last) in
+          subst (λ m. AreBestOf net rows used bids (take depth node) m (get_or (set walks i best) m d)) (sym same)
+          (subst (AreBestOf net rows used bids (take depth node) i) (sym (get_or-set_same walks i best d (omega (arith, l, same)))) is)
 
 -- what holds of the bid at a position
 pub some_has : {X : Type 0} (P : X → Type 0) (o : Option X) (x : X) → o ≡ Some x → IsSomeAnd o P → P x
@@ -530,15 +555,10 @@ each_next P xs more x n made are here = subst (AreEach P (n + 1)) (sym made) (re
 
 -- the same of the bid at a position
 module _ {R : Type 0} (net : Net) (rows : Rows R) (used : TypeId → Leg → List R) (bids : List Bid) (number : ℕ) (node : List Decision) (walks after : BestWalks) (are : AreBestOf net rows used bids node number walks) where
-  pub left_same_of : (k : ℕ) → k ≤ length node → after.kept.items ≡ walks.kept.items → after.held ≡ min walks.held k → All (λ best. best.depth ≤ k) walks.kept.items → AreBestOf net rows used bids (take k node) number after
-  left_same_of k l kept held within =
+  pub turned_of : (k : ℕ) → k ≤ length node → AreTurned k walks after → AreBestOf net rows used bids (take k node) number after
+  turned_of k l t =
       some_and (λ b. AreBestWalks net rows used bids node number b walks) (λ b. AreBestWalks net rows used bids (take k node) number b after) (slice_get bids number)
-      (λ b at h. left_same net rows used bids number b node k walks after l kept held within h) are
-
-  pub left_some_of : (k n : ℕ) → k ≤ length node → after.kept.items ≡ take n walks.kept.items → after.held ≡ 0 → All (λ best. best.depth ≤ k) (take n walks.kept.items) → AreBestOf net rows used bids (take k node) number after
-  left_some_of k n l kept held within =
-      some_and (λ b. AreBestWalks net rows used bids node number b walks) (λ b. AreBestWalks net rows used bids (take k node) number b after) (slice_get bids number)
-      (λ b at h. left_some net rows used bids number b node k n walks after l kept held within h) are
+      (λ b at h. turned_one net rows used bids number b node k walks after l t h) are
 
   pub brought_more_of : (best : BestWalk) → after.kept.items ≡ walks.kept.items ++ best ∷ [] → after.held ≡ length node → best.depth ≡ length node
       → ((b : Bid) → slice_get bids number ≡ Some b → IsBestWorth (leaf_weights net rows used bids node number [] (kind_at bids number)) net b best.worth) → IfSome best.worth IsWorthSize

@@ -1,5 +1,5 @@
 -- What the best walks of a bid are worth at the nodes on the way to the one that is open.
-use Rattle.std.specs.Prelude.{◌≡◌, ℕ, ◌-◌, ◌<◌, ◌≤◌, List, [], length, take, All, Option, None, Some, IfSome, IsSomeAnd, slice_get, slice_index_or}
+use Rattle.std.specs.Prelude.{◌≡◌, ◌⊎◌, ℕ, ◌-◌, ◌<◌, ◌≤◌, min, List, [], length, take, All, Option, None, Some, IfSome, IsSomeAnd, slice_get, slice_index_or}
 use Rattle.std.specs.Prelude.{ℤ, pos, ◌*ℤ◌, ◌≤ℤ◌}
 use Rattle.std.specs.declared.cmp.Ordering.{Ordering}
 use Rattle.optra_network.specs.Net.{Net}
@@ -53,6 +53,12 @@ AreBestOf net rows used bids node number walks = IsSomeAnd (slice_get bids numbe
 -- of the node that is seen
 abbrev pub AreBestAt : {X R : Type 0} → (X → Net → Rows R) → (X → Net → TypeId → Leg → List R) → Summed X → ℕ → BestWalks → Type 0
 AreBestAt rows_of rows_used s number walks = AreBestOf s.net (rows_of s.family s.net) (rows_used s.family s.net) s.bids s.node number walks
+
+-- the best walks turned back to the node of so many first decisions: those of the nodes below it are gone
+pub record AreTurned (depth : ℕ) (old new : BestWalks) : Type 0 where
+  pub first : new.kept.items ≡ take (length new.kept.items) old.kept.items
+  pub within : All (λ best. best.depth ≤ depth) new.kept.items
+  pub held : (new.held ≡ 0) ⊎ ((new.kept.items ≡ old.kept.items) × (new.held ≡ min old.held depth))
 
 -- the greatest worth of the walks of the bid that the node allows, at the prices
 abbrev pub IsBestAt : {X R : Type 0} → (X → Net → Rows R) → (X → Net → TypeId → Leg → List R) → Summed X → ℕ → PriceList R → Option ℤ → Type 0

@@ -55,6 +55,6 @@ pub(crate) fn leave_all<F: RowFamily>(node: &OpenNode<'_, F>, walks: &mut [BestW
 {
     let count = node.inst().bids.len() as u32;
     'bids: for bid in 0..count {
-        walks[bid as usize].leave(node, bid, depth);
+        walks[bid as usize].leave(depth);
     }
 }

@@ -9,7 +9,7 @@ ghost use Rattle.optra_node.specs.Duals.{ArePrices};
 ghost use Rattle.optra_node.specs.Certificates.{AreAscending};
 ghost use Rattle.optra_node.specs.Nodes.{kind_at};
 ghost use Rattle.optra_walk.specs.Families.{IsUsable};
-ghost use Rattle.optra_checker.specs.BestWalks.{AreBestAt, AreBestOf, AreFreeAt, AreLatestAt, IsBestAt, IsFoundAt, last_best, weights_within};
+ghost use Rattle.optra_checker.specs.BestWalks.{AreBestAt, AreFreeAt, AreLatestAt, AreTurned, IsBestAt, IsFoundAt, last_best, weights_within};
 ghost use Rattle.optra_checker.specs.Frees.{Attains, IsStillFree};
 ghost use Rattle.optra_checker.specs.Weights.{IsWorthSize};
 
@@ -165,15 +165,9 @@ impl BestWalks {
     }
 
     /// Turns from the open node to that of so many first decisions.
-    pub(crate) fn leave<F: RowFamily>(&mut self, node: &OpenNode<'_, F>, bid: u32, depth: usize)
-        requires depth { depth ≤ length node.now.node }
-        requires walks { AreBestAt F.rows_of F.rows_used node.now bid self.old }
-        ensures { AreBestOf node.now.net (F.rows_of node.now.family node.now.net)
-            (F.rows_used node.now.family node.now.net) node.now.bids (take depth node.now.node) bid
-            self.new }
+    pub(crate) fn leave(&mut self, depth: usize)
+        ensures { AreTurned depth self.old self.new }
     {
-        let _ = node;
-        let _ = bid;
         let count = count_within(&self.kept, depth);
         if count < self.kept.len() {
             self.kept.truncate(count);

@@ -1,26 +1,33 @@
-use Rattle.std.proofs.Common.{◌≡◌, ◌≤◌, List, length, refl, sym, subst, take, arith, rules}
+use Rattle.std.proofs.Common.{◌≡◌, ◌<◌, ◌≤◌, ◌∙◌, List, length, refl, sym, ap, subst, take, arith, rules, inl, inr}
 use Rattle.std.specs.Prelude.{All}
+use Rattle.std.proofs.lemmas.List.{length-take-le, take_all}
 use Rattle.optra_checker.specs.declared.best_walk.BestWalk.{BestWalk}
-use Rattle.optra_checker.proofs.BestWalkLemmas.{all_past, left_same_of, left_some_of}
+use Rattle.optra_checker.proofs.BestWalkLemmas.{all_past}
 use Rattle.optra_checker.proofs.best_walks.BestWalks.leave.Goals as goal
 
 pub returns-then-count-len : goal.returns-then-count-len
-returns-then-count-len g c =
-    let node = c.args.node.now in
-    let rows = g.F.RowFamily.rows_of node.family node.net in
-    let used = g.F.RowFamily.rows_used node.family node.net in
+returns-then-count-len c =
     let n = c.count_within-count.result in
-    left_some_of node.net rows used node.bids c.args.bid node.node c.args.self.now (record { kept = c.truncate.new.self; held = 0 }) c.requires.walks c.args.depth n c.requires.depth c.truncate.ensures.items refl
-    (subst (λ (list : List BestWalk). All (λ best. best.depth ≤ c.args.depth) (take n list)) c.deref.ensures.value c.count_within-count.ensures.within)
+    let kept = c.args.self.now.kept.items in
+    let left = c.truncate.new.self.items in
+    let first : left ≡ take n kept = c.truncate.ensures.items in
+    let few : n < length kept = grind (arith, rules, c.if-count-len.true, c.len.ensures) in
+    let count : length left ≡ n = ap length first ∙ length-take-le n kept (omega (arith, few)) in
+    record {
+      first = subst (λ m. left ≡ take m kept) (sym count) first;
+      within = subst (All (λ (best : BestWalk). best.depth ≤ c.args.depth)) (sym first)
+          (subst (λ (list : List BestWalk). All (λ best. best.depth ≤ c.args.depth) (take n list)) c.deref.ensures.value c.count_within-count.ensures.within);
+      held = inl refl;
+    }
 
 pub returns : goal.returns
-returns g c =
-    let node = c.args.node.now in
-    let rows = g.F.RowFamily.rows_of node.family node.net in
-    let used = g.F.RowFamily.rows_used node.family node.net in
+returns c =
     let n = c.count_within-count.result in
     let kept = c.args.self.now.kept.items in
     let past : length kept ≤ n = grind (arith, rules, c.if-count-len.false, c.len.ensures) in
-    left_same_of node.net rows used node.bids c.args.bid node.node c.args.self.now (record { kept = c.args.self.now.kept; held = c.min-self.result }) c.requires.walks c.args.depth c.requires.depth refl c.min-self.ensures
-    (all_past (λ (best : BestWalk). best.depth ≤ c.args.depth) kept n past
-    (subst (λ (list : List BestWalk). All (λ best. best.depth ≤ c.args.depth) (take n list)) c.deref.ensures.value c.count_within-count.ensures.within))
+    record {
+      first = sym (take_all (length kept) kept (omega arith));
+      within = all_past (λ (best : BestWalk). best.depth ≤ c.args.depth) kept n past
+          (subst (λ (list : List BestWalk). All (λ best. best.depth ≤ c.args.depth) (take n list)) c.deref.ensures.value c.count_within-count.ensures.within);
+      held = inr (refl, c.min-self.ensures);
+    }
