@@ -30,7 +30,7 @@ use Rattle.optra_checker.specs.Tests.{may_start_at, lets_leg, all_let, has_room,
 use Rattle.optra_checker.specs.Weights.{Weights, IsOpenWalk, IsBestWorth, IsWorthSize, worth_of}
 use Rattle.optra_checker.specs.declared.best_walk.BestWalk.{BestWalk}
 use Rattle.optra_checker.specs.declared.best_walks.BestWalks.{BestWalks}
-use Rattle.optra_checker.proofs.FreeLemmas.{sum_least, price_least}
+use Rattle.optra_checker.proofs.LeastPriceLemmas.{sum_least, price_least}
 use Rattle.optra_checker.proofs.LeafLemmas.{kind_is}
 use Rattle.optra_checker.proofs.LeafPriceLemmas.{none_left}
 use Rattle.optra_checker.proofs.LoadedLemmas.{off_free}

@@ -31,6 +31,6 @@ pub mod ReachLemmas
 pub mod AheadLemmas
 pub mod LevelLemmas
 pub mod VerdictLemmas
-pub mod FreeLemmas
+pub mod LeastPriceLemmas
 pub mod BestWalkLemmas
 pub mod ProductLemmas
