@@ -1,5 +1,5 @@
 -- The least minutes between an end of a walk and each station, by way of one stop more.
-use Rattle.std.proofs.Common.{◌≡◌, ℕ, zero, suc, ◌+◌, ◌≤◌, ◌<◌, ◌∙◌, inl, inr, Bool, sym, List, [], ◌∷◌, ◌++◌, Some, slice_get, slice_index, slice_index_or, get_or, length, refl, ap, subst, arith}
+use Rattle.std.proofs.Common.{◌≡◌, ℕ, zero, suc, ◌+◌, ◌≤◌, ◌<◌, ◌∙◌, inl, inr, Bool, sym, List, [], ◌∷◌, ◌++◌, Some, slice_get, slice_index, slice_index_or, get_or, length, ap, subst, arith}
 use Rattle.std.specs.Prelude.{All}
 use Rattle.std.proofs.lemmas.Option.{slice_get-get_or}
 use Rattle.std.proofs.lemmas.Bool.{cases_lt}

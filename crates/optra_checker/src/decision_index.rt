@@ -1,6 +1,6 @@
 //! The decisions of a node, for look-ups: all decisions and the yes decisions of each bid, and all
-//! decisions in buckets by bid, track and minute. A look-up reads one list of each, however many decisions there
-//! are.
+//! decisions in buckets by bid, track and minute. A look-up reads one list of each, however many
+//! decisions there are.
 ghost use Rattle.std.specs.Prelude.{◌≡◌, ℕ, ◌<◌, ◌++◌, ◌∷◌, ◌↔◌, [], List, OnOk, IfOk, IsTrue, map, length, replicate, vec_len, true};
 ghost use Rattle.optra_node.specs.declared.Decision.{Decision};
 ghost use Rattle.optra_node.specs.Nodes.{IsUndecided};

@@ -43,7 +43,7 @@ fn best_beside<F: RowFamily>(
 }
 
 /// What the best walk of the bid is worth that the node allows, in thousandths of a cent, by a
-/// search; `None` exactly where there is none.
+/// search; `None` exactly where there is none. `NoMemory` is its only refusal.
 pub(crate) fn best_found<F: RowFamily>(
     alloc: Global,
     node: &OpenNode<'_, F>,

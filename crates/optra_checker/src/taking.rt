@@ -9,8 +9,8 @@ use optra_node::{Decision, kind_at, may_use};
 use optra_walk::{Instance, Leg, RowFamily};
 use std::collections::BTreeMap;
 
-/// Takes away from the total of one row. A row of which nothing is used any more has none, so that searches ask of no row
-/// that only earlier nodes used.
+/// Takes away from the total of one row. A row of which nothing is used any more has none, so that
+/// searches ask of no row that only earlier nodes used.
 fn lower<R: Copy + Ord>(totals: &mut BTreeMap<R, u128>, row: R, by: u32)
     requires { by ≤ total_of R.cmp totals.old row }
     ensures { (q : R) → total_of R.cmp totals.new q + (if is_eq (R.cmp row q) then by else 0)

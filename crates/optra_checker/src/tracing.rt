@@ -47,7 +47,8 @@ struct Step {
     next: Option<State>,
 }
 
-/// The step by the way with the action at its end; none where it goes on and the table has no rest from there.
+/// The step by the way with the action at its end; none where it goes on and the table has no rest
+/// from there.
 fn step_by(table: &RestTable, bid: &Bid, way: Way, action: Action) -> Option<Step> {
     let leg = way.leg(action);
     let done = way.from.done;

@@ -1,6 +1,4 @@
-use Rattle.std.proofs.Common.{◌<◌, length, ap, arith, subst, sym, List}
-use Rattle.optra_checker.specs.declared.best_walks.BestWalks.{BestWalks}
-use Rattle.optra_checker.specs.BestWalks.{AreAllBest, AreBestOf}
+use Rattle.std.proofs.Common.{length, ap, arith}
 use Rattle.optra_checker.proofs.BestWalkLemmas.{all_set}
 use Rattle.optra_checker.proofs.all_best.bring_each.Goals as goal
 

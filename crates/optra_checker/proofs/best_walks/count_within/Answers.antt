@@ -1,4 +1,4 @@
-use Rattle.std.proofs.Common.{◌≡◌, ◌+◌, ◌≤◌, refl, sym, ap, subst, take, length, arith}
+use Rattle.std.proofs.Common.{◌+◌, ◌≤◌, refl, sym, ap, subst, take, arith}
 use Rattle.std.specs.Prelude.{All}
 use Rattle.optra_checker.specs.declared.best_walk.BestWalk.{BestWalk}
 use Rattle.optra_checker.proofs.BestWalkLemmas.{all_next}

@@ -1,4 +1,4 @@
-use Rattle.std.proofs.Common.{◌≡◌, ◌+◌, ◌<◌, ◌≤◌, length, sym, refl, arith, rules}
+use Rattle.std.proofs.Common.{◌≡◌, ◌+◌, ◌<◌, length, arith, rules}
 use Rattle.optra_checker.proofs.AtLemmas.{no_true}
 use Rattle.optra_checker.proofs.BestWalkLemmas.{still_all, still_beside}
 use Rattle.optra_node.specs.Nodes.{kind_at}

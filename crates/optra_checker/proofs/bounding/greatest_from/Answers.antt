@@ -1,4 +1,4 @@
-use Rattle.std.proofs.Common.{◌+◌, ◌≤◌, List, length, take, sym, subst, rules}
+use Rattle.std.proofs.Common.{◌+◌, List, length, take, sym, subst, rules}
 use Rattle.std.proofs.lemmas.List.{take_all}
 use Rattle.optra_bid.specs.Instances.{IsInstance}
 use Rattle.optra_node.specs.declared.Decision.{Decision}

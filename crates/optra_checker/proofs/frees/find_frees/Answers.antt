@@ -1,9 +1,7 @@
 -- One more bid.
-use Rattle.std.proofs.Common.{◌≡◌, ◌+◌, ◌∙◌, ℕ, [], length, ap, subst, sym, arith}
-use Rattle.std.proofs.lemmas.List.{length-append}
+use Rattle.std.proofs.Common.{[], length, ap, arith}
 use Rattle.optra_node.specs.Nodes.{kind_at}
 use Rattle.optra_checker.specs.BestWalks.{AreBestOf}
-use Rattle.optra_checker.specs.declared.best_walks.BestWalks.{BestWalks}
 use Rattle.optra_checker.proofs.BestWalkLemmas.{each_next, free_at}
 use Rattle.optra_checker.proofs.frees.find_frees.Goals as goal
 

@@ -1,7 +1,6 @@
-use Rattle.std.proofs.Common.{◌≡◌, ◌+◌, ◌<◌, IfSome, sym, ap, subst, arith, length}
+use Rattle.std.proofs.Common.{◌≡◌, ◌+◌, IfSome, sym, ap, subst, arith, length}
 use Rattle.std.proofs.lemmas.Int.{ints}
 use Rattle.optra_node.proofs.ChildLemmas.{some_at}
-use Rattle.optra_checker.specs.BestWalks.{AreAllBest, AreBestOf}
 use Rattle.optra_checker.specs.Leaves.{AreTerms, IsSumSize}
 use Rattle.optra_checker.proofs.BestWalkLemmas.{all_set}
 use Rattle.optra_checker.proofs.LeafLemmas.{terms_none, terms_more, size_more, size_below}
