@@ -1,5 +1,5 @@
 -- What the best walk at a node is worth bounds the walks at all nodes below it, and a walk that stays allowed stays the best.
-use Rattle.std.proofs.Common.{◌≡◌, ℕ, zero, suc, ◌+◌, ◌-◌, ◌<◌, ◌≤◌, ◌⊎◌, ◌≢◌, Bool, true, false, not, cond, List, [], ◌∷◌, ◌++◌, length, get_or, take, set, Option, None, Some, slice_get, IfSome, refl, sym, ap, ◌∙◌, subst, arith, inl, inr}
+use Rattle.std.proofs.Common.{◌≡◌, ℕ, ◌+◌, ◌-◌, ◌<◌, ◌≤◌, ◌⊎◌, ◌≢◌, Bool, true, false, not, cond, List, [], ◌∷◌, ◌++◌, length, get_or, take, set, Option, None, Some, slice_get, IfSome, refl, sym, ap, ◌∙◌, subst, arith, inl, inr}
 use Rattle.std.specs.Prelude.{All, IsSomeAnd, is_some, ◌&&◌, ◌||◌, nat_eq, nat_lt, nat_le, min}
 use Rattle.std.specs.Prelude.{ℤ, pos, ◌*ℤ◌, ◌≤ℤ◌}
 use Rattle.std.specs.List.{list_all}
@@ -481,16 +481,6 @@ none_walk net rows used bids node number best none some is = by (slice_get bids 
     by None h = h
     by (Some b) h = let e = (h.walk some).worth in cc
 
--- what holds of the elements so far and of the next one
-pub all_next : {X : Type 0} (P : X → Type 0) (xs : List X) (i : ℕ) (x : X) → i < length xs → x ≡ get_or xs i x → All P (take i xs) → P x → All P (take (i + 1) xs)
-all_next P xs i x l at before here =
-    let taken : take (i + 1) xs ≡ take i xs ++ x ∷ [] = take_more xs i x l ∙ ap (λ y. take i xs ++ y ∷ []) (sym at) in
-    subst (All P) (sym taken) (All-push P (take i xs) x before here)
-
--- and of all of them
-pub all_past : {X : Type 0} (P : X → Type 0) (xs : List X) (i : ℕ) → length xs ≤ i → All P (take i xs) → All P xs
-all_past P xs i l h = subst (All P) (take_all i xs l) h
-
 if_both : {X : Type 0} (P Q : X → Type 0) (o : Option X) → IfSome o P → IfSome o Q → IfSome o (λ x. P x × Q x)
 if_both P Q None p q = tt
 if_both P Q (Some x) p q = (p, q)
@@ -525,13 +515,6 @@ attains_there net bids net' bids' number worth legs r proper same_net same l is 
     let at = slice_get-get_or bids number r l in
     attains_usable net bids number worth legs proper (get_or bids number r) at (attains_at net bids net' bids' number worth legs r same_net same is (get_or bids number r) at)
 
--- of each element by its position, with one more
-pub each_push : {X : Type 0} (P : ℕ → X → Type 0) (xs : List X) (x : X) → ((k : ℕ) (d : X) → k < length xs → P k (get_or xs k d)) → P (length xs) x → (k : ℕ) (d : X) → k < length (xs ++ x ∷ []) → P k (get_or (xs ++ x ∷ []) k d)
-each_push P [] x before here zero d l = here
-each_push P [] x before here (suc k) d l = absurd (omega arith)
-each_push P (y ∷ ys) x before here zero d l = before 0 d (omega arith)
-each_push P (y ∷ ys) x before here (suc k) d l = each_push (λ n. P (suc n)) ys x (λ n e m. before (suc n) e (omega arith)) here k d (omega arith)
-
 -- the best of all walks of the bid at a position
 pub free_at : {R : Type 0} (cmp : R → R → Ordering) (net : Net) (rows : Rows R) (used : TypeId → Leg → List R) (bids : List Bid) (number : ℕ) (bid : Bid) → number < length bids → bid ≡ get_or bids number bid → IsProper net
     → ((leg : Leg) → IsUsable net (kind_at bids number) leg → ListsRows cmp rows.is_row (rows.uses (kind_at bids number) leg) (used (kind_at bids number) leg))
@@ -539,19 +522,6 @@ pub free_at : {R : Type 0} (cmp : R → R → Ordering) (net : Net) (rows : Rows
 free_at cmp net rows used bids number bid l at proper lists walks free kept held is =
     let there : slice_get bids number ≡ Some bid = slice_get-get_or bids number bid l ∙ ap Some (sym at) in
     subst (λ o. IsSomeAnd o (λ b. AreBestWalks net rows used bids [] number b walks)) (sym there) (free_walks net rows used bids number bid cmp there proper lists walks free kept held is)
-
-pub all_next_at : {X : Type 0} (P : X → Type 0) (xs : List X) (i : ℕ) (d : X) → i < length xs → All P (take i xs) → P (get_or xs i d) → All P (take (i + 1) xs)
-all_next_at P xs i d l before here = subst (All P) (sym (take_more xs i d l)) (All-push P (take i xs) (get_or xs i d) before here)
-
-pub record AreEach {X : Type 0} (P : ℕ → X → Type 0) (n : ℕ) (xs : List X) : Type 0 where
-  pub count : length xs ≡ n
-  pub each : (k : ℕ) (d : X) → k < length xs → P k (get_or xs k d)
-
-pub each_next : {X : Type 0} (P : ℕ → X → Type 0) (xs more : List X) (x : X) (n : ℕ) → more ≡ xs ++ x ∷ [] → AreEach P n xs → P n x → AreEach P (n + 1) more
-each_next P xs more x n made are here = subst (AreEach P (n + 1)) (sym made) (record {
-  count = let c = are.count in omega (arith, c, length-append xs (x ∷ []));
-  each = each_push P xs x are.each (subst (λ k. P k x) (sym are.count) here);
-})
 
 -- the same of the bid at a position
 module _ {R : Type 0} (net : Net) (rows : Rows R) (used : TypeId → Leg → List R) (bids : List Bid) (number : ℕ) (node : List Decision) (walks after : BestWalks) (are : AreBestOf net rows used bids node number walks) where

@@ -32,5 +32,6 @@ pub mod AheadLemmas
 pub mod LevelLemmas
 pub mod VerdictLemmas
 pub mod LeastPriceLemmas
+pub mod EachLemmas
 pub mod BestWalkLemmas
 pub mod ProductLemmas

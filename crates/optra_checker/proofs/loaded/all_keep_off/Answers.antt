@@ -4,7 +4,7 @@ use Rattle.optra_walk.specs.declared.Action.TheVariants.{Pass}
 use Rattle.optra_walk.specs.declared.Leg.{Leg}
 use Rattle.optra_checker.specs.Loaded.{KeepsOff}
 use Rattle.optra_checker.proofs.AtLemmas.{no_true}
-use Rattle.optra_checker.proofs.BestWalkLemmas.{all_next_at, all_past}
+use Rattle.optra_checker.proofs.EachLemmas.{all_next_at, all_past}
 use Rattle.optra_checker.proofs.loaded.all_keep_off.Goals as goal
 
 abbrev any_leg : Leg

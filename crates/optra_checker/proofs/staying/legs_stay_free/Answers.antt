@@ -1,14 +1,11 @@
 -- One more leg.
-use Rattle.std.proofs.Common.{arith, refl, subst, sym, false}
-use Rattle.std.specs.Prelude.{All}
-use Rattle.std.proofs.lemmas.List.{take_more, take_all}
-use Rattle.std.proofs.lemmas.List.Elements.{All-push}
-use Rattle.std.proofs.Common.{take, get_or}
+use Rattle.std.proofs.Common.{arith, refl, false}
 use Rattle.optra_walk.specs.declared.Action.TheVariants.{Pass}
 use Rattle.optra_walk.specs.declared.Leg.{Leg}
 use Rattle.optra_node.specs.Nodes.{kind_at}
 use Rattle.optra_checker.specs.Frees.{IsFreeLeg}
 use Rattle.optra_checker.specs.Leaves.{leaf_weights}
+use Rattle.optra_checker.proofs.EachLemmas.{all_next_at, all_past}
 use Rattle.optra_checker.proofs.staying.legs_stay_free.Goals as goal
 
 abbrev any_leg : Leg
@@ -20,10 +17,7 @@ legs-preserved g c =
     let rows = g.F.RowFamily.rows_of node.family node.net in
     let used = g.F.RowFamily.rows_used node.family node.net in
     let w = leaf_weights node.net rows used node.bids node.node c.args.bid c.args.prices.now (kind_at node.bids c.args.bid) in
-    let legs = c.args.legs.now in
-    let k = c.legs.leg-index in
-    subst (All (IsFreeLeg w)) (sym (take_more legs k any_leg c.legs-test.true))
-    (All-push (IsFreeLeg w) (take k legs) (get_or legs k any_leg) c.legs.invariant (c.leg_stays_free.ensures.0 c.if-not-leg_stays_free.false))
+    all_next_at (IsFreeLeg w) c.args.legs.now c.legs.leg-index any_leg c.legs-test.true c.legs.invariant (c.leg_stays_free.ensures.0 c.if-not-leg_stays_free.false)
 
 pub returns : goal.returns
 returns g c =
@@ -31,7 +25,7 @@ returns g c =
     let rows = g.F.RowFamily.rows_of node.family node.net in
     let used = g.F.RowFamily.rows_used node.family node.net in
     let w = leaf_weights node.net rows used node.bids node.node c.args.bid c.args.prices.now (kind_at node.bids c.args.bid) in (
-      λ _. subst (All (IsFreeLeg w)) (take_all c.legs.leg-index c.args.legs.now c.legs-test.false) c.legs.invariant,
+      λ _. all_past (IsFreeLeg w) c.args.legs.now c.legs.leg-index c.legs-test.false c.legs.invariant,
       λ _. refl,
     )
 
