@@ -2,6 +2,7 @@ pub mod RepairLemmas
 pub mod ListLemmas
 pub mod PriceListLemmas
 pub mod OneLemmas
+pub mod OpeningLemmas
 pub mod ValueLemmas
 pub mod ArcLemmas
 pub mod MarkLemmas

@@ -24,17 +24,18 @@ rows_part touches from to =
     let row = λ (touch : Touch). touch.row in
     sym (ap (take (to - from)) (drop-map row from touches) ∙ take-map row (to - from) (drop from touches))
 
-pub row_spans : (groups : Groups) (rows : List ℕ) → AreGroups groups.starts.items groups.touches → rows ≡ rows_touched groups.touches → AreSpans groups.starts.items (length rows)
-row_spans groups rows are is =
-    let long = ap length is ∙ length-map groups.touches (λ (touch : Touch). touch.row) in
+pub row_spans : (groups : Groups) → AreGroups groups.starts.items groups.touches → AreSpans groups.starts.items (length (rows_touched groups.touches))
+row_spans groups are =
+    let long = length-map groups.touches (λ (touch : Touch). touch.row) in
     record { ordered = are.ordered; within = λ g l. let w = are.within g l in omega arith }
 
-pub users_found : (groups : Groups) (rows : List ℕ) (users : Index) → AreGroups groups.starts.items groups.touches → rows ≡ rows_touched groups.touches → Inverts groups.starts.items rows users → FindsUsers groups users
-users_found groups rows users are is inverts g row l touched =
+pub users_found : (groups : Groups) (users : Index) → AreGroups groups.starts.items groups.touches → Inverts groups.starts.items (rows_touched groups.touches) users → FindsUsers groups users
+users_found groups users are inverts g row l touched =
+    let rows = rows_touched groups.touches in
     let start = slice_index groups.starts.items g in
     let end = slice_index groups.starts.items (g + 1) in
-    let long = ap length is ∙ length-map groups.touches (λ (touch : Touch). touch.row) in
+    let long = length-map groups.touches (λ (touch : Touch). touch.row) in
     let within = are.within (g + 1) l in
-    let part = rows_part groups.touches start end ∙ ap (λ (xs : List ℕ). slice_range xs start end) (sym is) in
+    let part = rows_part groups.touches start end in
     let at = part_place rows start end row (omega arith) (subst (λ (xs : List ℕ). Contains xs row) part touched) in
     subst (λ (r : ℕ). IndexHas users r g) at.3 (inverts g at.0 l at.1 at.2)

@@ -1,5 +1,5 @@
 //! The arcs of a bid's graph with what each adds and touches, in few bytes, since searches read them one after the other.
-ghost use Rattle.std.specs.Prelude.{◌≡◌, ◌+◌, ◌^◌, ◌<◌, ◌≤◌, [], ◌∷◌, ◌++◌, Some, IfOk, IfSome, OnOk, length, slice_get, slice_index_or, slice_set};
+ghost use Rattle.std.specs.Prelude.{◌≡◌, ◌+◌, ◌^◌, ◌<◌, ◌≤◌, [], ◌∷◌, ◌++◌, true, Some, IfOk, IfSome, OnOk, length, slice_get, slice_index_or, slice_set};
 ghost use Rattle.optra_prices.specs.NarrowArcs.{closed_one, with_mark};
 ghost use Rattle.optra_prices.specs.Tables.{Extends, no_arc};
 
@@ -55,17 +55,50 @@ fn recent(values: &[i64], value: i64) -> Option<usize>
     None
 }
 
-/// The number of a value, which is entered where it wasn't lately.
-fn number_of(values: &mut Vec<i64>, value: i64) -> Result<usize, NoMemory>
+/// Whether the value has the number.
+fn has_number(values: &[i64], number: usize, value: i64) -> bool
+    ensures { result ≡ true → slice_get values.now number ≡ Some value }
+{
+    number < values.len() && values[number] == value
+}
+
+/// The number of a value that is the last arc's or was entered next after it, as that of an arc mostly is: from departure
+/// to departure the values of a leg's actions take turns.
+fn near(values: &[i64], last: usize, value: i64) -> Option<usize>
+    ensures { IfSome result (λ number. slice_get values.now number ≡ Some value) }
+{
+    if has_number(values, last, value) {
+        return Some(last);
+    }
+    let next = last.saturating_add(1);
+    if has_number(values, next, value) {
+        return Some(next);
+    }
+    None
+}
+
+/// The number of a value, which is entered where it wasn't lately. Before those it is looked for where the last arc's is.
+fn number_of(values: &mut Vec<i64>, last: usize, value: i64) -> Result<usize, NoMemory>
     ensures number { IfOk result (λ number. slice_get values.new.items number ≡ Some value) }
     ensures more { Extends values.old.items values.new.items }
 {
+    if let Some(number) = near(values, last, value) {
+        return Ok(number);
+    }
     if let Some(number) = recent(values, value) {
         return Ok(number);
     }
     let number = values.len();
     values.push(value)?;
     Ok(number)
+}
+
+/// The number of the last arc's value, and 0 where there is no arc.
+fn last_number(narrow: &[NarrowArc]) -> usize {
+    match narrow.last() {
+        Some(arc) => arc.value as usize,
+        None => 0,
+    }
 }
 
 /// The arc with the number of its value, where both fit.
@@ -127,7 +160,8 @@ impl Arcs {
             self.wide.push(term)?;
             return Ok(());
         }
-        let number = number_of(&mut self.values, term.value())?;
+        let last = last_number(&self.narrow);
+        let number = number_of(&mut self.values, last, term.value())?;
         match narrowed(number, &term) {
             Some(arc) => {
                 self.narrow.push(arc)?;

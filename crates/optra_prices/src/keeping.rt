@@ -29,9 +29,10 @@ use crate::levels::no_levels;
 use crate::listing::widen;
 use crate::loading::no_paths;
 use crate::numbering::{BidTable, Standing};
+use crate::opening::open_tables;
 use crate::owning::Owned;
 use crate::path_ends::PathEnds;
-use crate::rooms::empty_room;
+use crate::rooms::{empty_room, has_room};
 use crate::row_numbers::RowNumbers;
 use crate::sessions::{Made, copy_standings, first_standings, made_tables, renew_all};
 use crate::telling::tell_moved;
@@ -87,6 +88,10 @@ fn allow_root<F: RowFamily>(
         (length inst.entry.bids.now) grouping.now.numbering.now.rows.items grouping.now.groups.now
         tables.new.items) }
 {
+    if has_room(&decided.room, &grouping.groups.touches.slice()) {
+        open_tables(inst, rows, grouping, decided, tables);
+        return Ok(());
+    }
     let node = Node::root(alloc);
     let mut told = vec![in alloc; true; inst.bids.len()]?;
     let summary = Owned::new(alloc, inst, rows, &node)?;

@@ -1,6 +1,6 @@
 //! How much groups use of rows, beside the index of the groups that touch each row, so that a price of a row that moves
 //! tells at once by how much the prices of groups move with it.
-ghost use Rattle.std.specs.Prelude.{◌≡◌, IfOk, OnOk};
+ghost use Rattle.std.specs.Prelude.{IfOk, OnOk};
 ghost use Rattle.optra_prices.specs.Indexes.{IsOpen};
 ghost use Rattle.optra_prices.specs.Shares.{ArePutUses};
 ghost use Rattle.optra_prices.specs.Users.{rows_touched};
@@ -8,20 +8,17 @@ ghost use Rattle.optra_prices.specs.Users.{rows_touched};
 use crate::amounts::Amounts;
 use crate::index::{Index, open_index, put};
 use crate::numbering::Groups;
-use crate::numbers::Numbers;
 use crate::touch_slice::TouchSlice;
-use crate::users::touched_rows;
 use optra_network::NoMemory;
 use std::alloc::Global;
 
 /// Puts what each touch uses where its group is put.
-fn put_uses(index: &mut Index, rows: &Numbers, touches: &TouchSlice<'_>) -> Result<(), NoMemory>
-    requires rows { rows.now.items ≡ rows_touched touches.now }
-    requires room { IsOpen rows.now.items 0 index.old }
+fn put_uses(index: &mut Index, touches: &TouchSlice<'_>) -> Result<(), NoMemory>
+    requires { IsOpen (rows_touched touches.now) 0 index.old }
     ensures { OnOk result (ArePutUses touches.now index.new.items.items) }
 {
     for place in 0..touches.len() {
-        put(index, rows, place, touches.at(place).uses as usize)?;
+        put(index, touches, place, touches.at(place).uses as usize)?;
     }
     Ok(())
 }
@@ -30,9 +27,8 @@ fn put_uses(index: &mut Index, rows: &Numbers, touches: &TouchSlice<'_>) -> Resu
 fn list_uses(alloc: Global, touches: &TouchSlice<'_>) -> Result<Index, NoMemory>
     ensures { IfOk result (λ index. ArePutUses touches.now index.items.items) }
 {
-    let rows = touched_rows(alloc, touches)?;
-    let mut index = open_index(alloc, &rows)?;
-    put_uses(&mut index, &rows, touches)?;
+    let mut index = open_index(alloc, touches)?;
+    put_uses(&mut index, touches)?;
     Ok(index)
 }
 

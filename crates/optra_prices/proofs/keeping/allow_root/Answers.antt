@@ -1,13 +1,16 @@
 use Rattle.std.proofs.Common.{◌≡◌, [], true, length, sym, ap, ◌∙◌, subst}
 use Rattle.std.proofs.lemmas.List.{length-replicate}
 use Rattle.optra_prices.specs.Terms.{Setting, setting}
-use Rattle.optra_prices.specs.Rooms.{IsDecided}
+use Rattle.optra_prices.specs.Rooms.{HasRoomForAll, IsDecided}
 use Rattle.optra_prices.specs.Standings.{AreTables}
 use Rattle.optra_prices.proofs.StayLemmas.{all_told}
 use Rattle.optra_node.specs.declared.Decision.{Decision}
 use Rattle.optra_node.specs.Summaries.{Summed, summed}
 use Rattle.std.proofs.Common.{List}
 use Rattle.optra_prices.proofs.keeping.allow_root.Goals as goal
+
+pub open_tables-requires-clause-room : goal.open_tables-requires-clause-room
+open_tables-requires-clause-room g c = subst (HasRoomForAll c.args.decided.now.room) c.slice.ensures (c.has_room.ensures.0 c.if-has_room.true)
 
 pub allow_told-requires-clause-summary : goal.allow_told-requires-clause-summary
 allow_told-requires-clause-summary g c =

@@ -1,14 +1,15 @@
 use Rattle.std.proofs.Common.{◌<◌, ◌∙◌, ap, length, sym, arith}
 use Rattle.std.proofs.lemmas.List.{get_or-map}
 use Rattle.optra_prices.specs.NarrowTouches.{no_touch}
+use Rattle.optra_prices.specs.Users.{rows_touched}
 use Rattle.optra_prices.specs.declared.touch.Touch.{Touch}
 use Rattle.optra_prices.proofs.PlacedLemmas.{uses_more}
 use Rattle.optra_prices.proofs.shares.put_uses.Goals as goal
 
 pub loop-place-preserved : goal.loop-place-preserved
 loop-place-preserved c =
-    let rows = c.args.rows.now.items in
     let touches = c.args.touches.now in
+    let rows = rows_touched touches in
     let n = c.loop-place.place in
     let inv = c.loop-place.invariant in
     let l : n < length touches = let t = c.loop-place-test.true in omega arith in
