@@ -4,9 +4,9 @@ use Rattle.std.specs.Prelude.{All, IsTrue}
 use Rattle.std.specs.declared.cmp.Ordering.{Ordering}
 use Rattle.std.proofs.lemmas.Option.{slice_get-get_or, slice_get_within, get_or_from_slice_get}
 use Rattle.std.proofs.lemmas.Bool.{cases_lt}
-use Rattle.std.proofs.lemmas.List.{append-nil}
+use Rattle.std.proofs.lemmas.List.{append-nil, take_more}
 use Rattle.std.proofs.lemmas.List.Elements.{All-head, All-tail}
-use Rattle.std.proofs.lemmas.List.Sums.{sum_by_more_le, sum_by-append, sum_by-cons}
+use Rattle.std.proofs.lemmas.List.Sums.{sum_by_more_le, sum_by-append, sum_by-cons, sum_by_push}
 use Rattle.optra_network.specs.Net.{Net}
 use Rattle.optra_network.specs.declared.TypeId.{TypeId}
 use Rattle.optra_bid.specs.declared.bids.Bid.{Bid}
@@ -104,6 +104,14 @@ module _ {R : Type 0} (rows : Rows R) where
       let all = load_map kind q legs in
       let le = sum_by_more_le f legs i d l in
       omega arith
+
+  -- with the next leg
+  pub legs_more : (kind : TypeId) (q : R) (legs : List Leg) (i : ℕ) (d : Leg) → i < length legs
+      → load_of rows q (map (λ leg. (kind, leg)) (take (i + 1) legs)) ≡ load_of rows q (map (λ leg. (kind, leg)) (take i legs)) + rows.uses kind (get_or legs i d) q
+  legs_more kind q legs i d l =
+      let f = λ (leg : Leg). rows.uses kind leg q in
+      let step = ap (sum_by f) (take_more legs i d l) ∙ sum_by_push f (take i legs) (get_or legs i d) in
+      load_map kind q (take (i + 1) legs) ∙ step ∙ ap (λ n. n + f (get_or legs i d)) (sym (load_map kind q (take i legs)))
 
   entries-cons : (bid : Bid) (bids : List Bid) (walk : Option (List Leg)) (walks : List (Option (List Leg))) → entries_of (bid ∷ bids) (walk ∷ walks) ≡ entries_of (bid ∷ []) (walk ∷ []) ++ entries_of bids walks
   entries-cons bid bids None walks = refl

@@ -17,6 +17,16 @@ level_there (x ∷ xs) zero k l = omega arith
 level_there (x ∷ xs) (suc n) k l = let i = level_there xs n k l in omega (arith, i)
 
 module _ (net : Net) (path : Path) (back : Bool) where
+  -- by way of no stop
+  pub levels_one : (least : List ℕ) → AreLeast net path.kind back (first_of back path) 0 least → AreLevels net path back (least ∷ []) 0
+  levels_one least is = record {
+    count = omega arith;
+    len = λ n few. let z : n ≡ 0 = omega (arith, few) in ap (λ k. length (slice_index_or (least ∷ []) k [])) z ∙ is.len;
+    each = λ n few t l. let z : n ≡ 0 = omega (arith, few) in subst (λ k. IsLeastAlong net path.kind back (slice_index_or (least ∷ []) k []) (track_id t)) (sym z) (is.each t l);
+    first = is.first;
+    halt = λ n s there few. absurd (omega (arith, few));
+  }
+
   -- by way of one stop more
   pub levels_more : (levels : List (List ℕ)) (passed start : ℕ) (stop : Stop) (more : List ℕ) → slice_get path.stops (place_after back (length path.stops) passed) ≡ Some stop
       → AreLeast net path.kind back stop.station start more → start ≤ stop.min_dwell + slice_index (slice_index_or levels passed []) stop.station.0

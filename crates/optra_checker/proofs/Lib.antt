@@ -29,6 +29,7 @@ pub mod LeafLemmas
 pub mod BoundLemmas
 pub mod ReachLemmas
 pub mod AheadLemmas
+pub mod AlongLemmas
 pub mod LevelLemmas
 pub mod VerdictLemmas
 pub mod LeastPriceLemmas

@@ -71,13 +71,14 @@ module _ (net : Net) (path : Path) (reach : Reach) (is : IsReach net path reach)
       let t = track_there net.tracks leg.track.0 near e in
       let h = head_is net.tracks leg.track.0 far t.0 t.1 f in
       let l = slice_get_within net.tracks leg.track.0 t.0 t.1 in
+      let m = minutes_by a b times in
       let from = is.behind.each 0 (omega arith) leg.track.0 l t.0 times a b t.1 g in
       let on = is.ahead.each 0 (omega arith) leg.track.0 l t.0 times a b t.1 g in
-      let p = ap (λ (s : StationId). slice_index (from_origin reach) s.0) t.2 in
-      let q = ap (λ (s : StationId). slice_index (from_origin reach) s.0) h in
-      let u = ap (λ (s : StationId). slice_index (to_destination reach) s.0) t.2 in
-      let v = ap (λ (s : StationId). slice_index (to_destination reach) s.0) h in
-      (omega (arith, from, p, q), omega (arith, on, u, v))
+      let on_from = λ (x : StationId). slice_index (from_origin reach) x.0 in
+      let on_to = λ (x : StationId). slice_index (to_destination reach) x.0 in (
+        subst (λ x. on_from x ≤ on_from near + m) h (subst (λ x. on_from t.0.head ≤ on_from x + m) t.2 from),
+        subst (λ x. on_to near ≤ on_to x + m) h (subst (λ x. on_to x ≤ on_to t.0.head + m) t.2 on),
+      )
 
   pub reached_start : (s : State) → s.station ≡ path.origin → path.depart.from ≤ s.minute → IsReached path reach s
   reached_start s e l = let z = is.behind.first in let p = ap (λ (x : StationId). slice_index (from_origin reach) x.0) e in omega (arith, z, p, l)

@@ -98,7 +98,7 @@ fn stand_beside<F: RowFamily>(
 }
 
 /// Whether the legs at hand are a walk of the bid that is worth as much, and that the node allows.
-fn are_best<F: RowFamily>(alloc: Global, node: &OpenNode<'_, F>, bid: u32, best: &BestWalk) -> bool
+fn are_best<F: RowFamily>(node: &OpenNode<'_, F>, bid: u32, best: &BestWalk) -> bool
     requires { bid < length node.now.bids }
     ensures walk { IsTrue result → (b : Asked) → slice_get node.now.bids bid ≡ Some b
         → Attains node.now.net b best.now.worth best.now.legs.items }
@@ -110,7 +110,7 @@ fn are_best<F: RowFamily>(alloc: Global, node: &OpenNode<'_, F>, bid: u32, best:
         return false;
     }
     node.laws();
-    let prices = Vec::new(alloc);
+    let prices: [(F::Row, i64); 0] = [];
     are_free(node, &prices, bid, best.legs())
 }
 
@@ -139,7 +139,7 @@ fn find_best<F: RowFamily>(
     requires { bid < length node.now.bids }
     ensures { IfOk result (IsFoundAt F.rows_of F.rows_used node.now bid) }
 {
-    let prices = Vec::new(alloc);
+    let prices: [(F::Row, i64); 0] = [];
     let worth = best_found(alloc, node, &prices, bid, table)?;
     let legs = trace_legs(alloc, node, bid, table)?;
     let best = BestWalk {
@@ -147,7 +147,7 @@ fn find_best<F: RowFamily>(
         worth,
         legs,
     };
-    if are_best(alloc, node, bid, &best) {
+    if are_best(node, bid, &best) {
         return Ok(best);
     }
     Ok(best.without_legs(alloc))
@@ -208,7 +208,6 @@ impl BestWalks {
     /// As [`BestWalks::standing_at`], where no row has a price.
     fn standing<F: RowFamily>(
         &self,
-        alloc: Global,
         node: &OpenNode<'_, F>,
         latest: &[F::Row],
         bid: u32,
@@ -229,7 +228,7 @@ impl BestWalks {
         if stand_beside(node, latest, bid, self.held, best.legs()) {
             return Some(best.worth);
         }
-        let prices = Vec::new(alloc);
+        let prices: [(F::Row, i64); 0] = [];
         self.standing_at(node, &prices, bid)
     }
 
@@ -251,7 +250,7 @@ impl BestWalks {
         ensures best { IfOk result (IsBestAt F.rows_of F.rows_used node.now bid []) }
         ensures size { IfOk result (λ worth. IfSome worth IsWorthSize) }
     {
-        if let Some(worth) = self.standing(alloc, node, latest, bid) {
+        if let Some(worth) = self.standing(node, latest, bid) {
             self.held = node.depth();
             return Ok(worth);
         }

@@ -108,8 +108,9 @@ fn greatest_from<F: RowFamily>(
     'items: for item in tree {
         let node = OpenNode::of(inst, rows, room);
         let depth = node.depth_after(item);
-        let cents = bound_of(alloc, &node, item, walks, depth, table)?;
-        greatest = greater(greatest, cents);
+        let cents = bound_of(alloc, &node, item, walks, depth, table);
+        drop(node);
+        greatest = greater(greatest, cents?);
         pass(room, inst, rows, item)?;
     }
     Ok(greatest)

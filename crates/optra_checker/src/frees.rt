@@ -74,7 +74,9 @@ fn find_free<F: RowFamily>(
         net,
         kind: kind_of(bid),
     };
-    let worth = search(alloc, net, bid, &weights, table)?;
+    let worth = search(alloc, net, bid, &weights, table);
+    drop(weights);
+    let worth = worth?;
     let legs = trace(alloc, net, bid, &EveryLeg, table)?;
     let free = BestWalk {
         depth: 0,

@@ -27,7 +27,7 @@ fn is_stuck<F: RowFamily>(
         IsStuck node.now.net (F.rows_of node.now.family node.now.net) node.now.bids node.now.node
         bid b)) }
 {
-    let prices = Vec::new(alloc);
+    let prices: [(F::Row, i64); 0] = [];
     let best = best_found(alloc, node, &prices, bid, table)?;
     Ok(offer_of(node, &prices, bid, best).is_none())
 }
@@ -71,7 +71,9 @@ fn leaves_hold_from<F: RowFamily>(
 {
     'items: for item in tree {
         let node = OpenNode::of(inst, rows, room);
-        if !ends_dead(alloc, &node, item, table)? {
+        let dead = ends_dead(alloc, &node, item, table);
+        drop(node);
+        if !dead? {
             return Ok(false);
         }
         pass(room, inst, rows, item)?;

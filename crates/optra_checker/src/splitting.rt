@@ -39,7 +39,9 @@ fn splits_hold_from<F: RowFamily>(
 {
     'items: for item in tree {
         let node = OpenNode::of(inst, rows, room);
-        if !is_fresh(&node, item) {
+        let fresh = is_fresh(&node, item);
+        drop(node);
+        if !fresh {
             return Ok(false);
         }
         pass(room, inst, rows, item)?;

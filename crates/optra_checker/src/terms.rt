@@ -162,7 +162,8 @@ pub(crate) fn leaf_bound<F: RowFamily>(
         node.now.bids node.now.node prices.now) }
 {
     let latest = node.latest_rows(alloc)?;
-    let sum = term_sum(alloc, node, &latest, prices, walks, table)?;
-    let value = dual_by(node.capacity_price(prices), sum);
+    let sum = term_sum(alloc, node, &latest, prices, walks, table);
+    drop(latest);
+    let value = dual_by(node.capacity_price(prices), sum?);
     Ok(whole_cents(value))
 }

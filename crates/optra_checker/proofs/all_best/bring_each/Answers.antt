@@ -20,3 +20,10 @@ bids-preserved g c =
 
 pub bids-smaller : goal.bids-smaller
 bids-smaller g c = omega (arith, c.bids-test.true)
+
+pub bring-requires-clause-walks : goal.bring-requires-clause-walks
+bring-requires-clause-walks g c =
+    let count = c.bids.invariant.count in
+    let l = c.bids-test.true in
+    let same = ap length c.inst.ensures.bids in
+    c.bids.invariant.each c.bids.bid _ (omega (arith, count, l, same))

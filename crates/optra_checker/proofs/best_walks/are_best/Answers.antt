@@ -1,4 +1,4 @@
-use Rattle.std.proofs.Common.{◌∙◌, List, [], sym, subst}
+use Rattle.std.proofs.Common.{List, [], sym, subst}
 use Rattle.std.specs.Prelude.{All}
 use Rattle.optra_walk.specs.declared.Leg.{Leg}
 use Rattle.optra_walk.specs.Families.{IsUsable}
@@ -38,5 +38,4 @@ returns-clause-free g c t =
     let rows = g.F.RowFamily.rows_of node.family node.net in
     let used = g.F.RowFamily.rows_used node.family node.net in
     let kind = kind_at node.bids c.args.bid in
-    subst (λ (ls : List Leg). IsStillFree (leaf_weights node.net rows used node.bids node.node c.args.bid [] kind) ls) c.legs.ensures
-    (subst (λ ps. IsStillFree (leaf_weights node.net rows used node.bids node.node c.args.bid ps kind) c.legs.result.now) (c.deref.ensures.value ∙ c.new-prices.ensures.items) (c.are_free.ensures.free t))
+    subst (λ (ls : List Leg). IsStillFree (leaf_weights node.net rows used node.bids node.node c.args.bid [] kind) ls) c.legs.ensures (c.are_free.ensures.free t)

@@ -1,23 +1,30 @@
-use Rattle.std.proofs.Common.{◌∙◌, subst}
-use Rattle.optra_node.specs.Nodes.{kind_at}
-use Rattle.optra_checker.specs.Leaves.{leaf_weights}
-use Rattle.optra_checker.specs.Weights.{IsBestWorth}
+use Rattle.std.proofs.Common.{◌∙◌, [], length, sym, ap, subst, arith}
+use Rattle.std.specs.Prelude.{IfSome}
+use Rattle.optra_checker.specs.BestWalks.{IsBestAt}
+use Rattle.optra_checker.specs.Weights.{IsWorthSize}
 use Rattle.optra_checker.proofs.best_walks.find_best.Goals as goal
 
 pub best_found-requires-clause-bid : goal.best_found-requires-clause-bid
 best_found-requires-clause-bid g c = c.requires
 
 pub returns-then-are_best : goal.returns-then-are_best
-returns-then-are_best g c =
-    let node = c.args.node.now in
-    let rows = g.F.RowFamily.rows_of node.family node.net in
-    let used = g.F.RowFamily.rows_used node.family node.net in
+returns-then-are_best g c = record {
+  depth = c.depth.ensures;
+  best = c.in_ok-worth.ensures.best;
+  size = c.in_ok-worth.ensures.size;
+  walk = λ some b at. c.are_best.ensures.walk c.if-are_best.true b at;
+  free = λ some. c.are_best.ensures.free c.if-are_best.true;
+}
+
+pub returns : goal.returns
+returns g c =
+    let F = g.F.RowFamily in
+    let worth = sym c.without_legs.ensures.worth in
+    let none = ap length c.without_legs.ensures.legs in
     record {
-      depth = c.depth.ensures;
-      best = λ b at.
-          subst (λ ps. IsBestWorth (leaf_weights node.net rows used node.bids node.node c.args.bid ps (kind_at node.bids c.args.bid)) node.net b c.in_ok-worth.worth) (c.deref.ensures.value ∙ c.new-prices.ensures.items)
-          (c.in_ok-worth.ensures.best b at);
-      size = c.in_ok-worth.ensures.size;
-      walk = λ some b at. c.are_best.ensures.walk c.if-are_best.true b at;
-      free = λ some. c.are_best.ensures.free c.if-are_best.true;
+      depth = c.without_legs.ensures.depth ∙ c.depth.ensures;
+      best = subst (IsBestAt F.rows_of F.rows_used c.args.node.now c.args.bid []) worth c.in_ok-worth.ensures.best;
+      size = subst (λ w. IfSome w IsWorthSize) worth c.in_ok-worth.ensures.size;
+      walk = λ some _ _. absurd (omega (arith, some, none));
+      free = λ some. absurd (omega (arith, some, none));
     }

@@ -4,7 +4,7 @@ use Rattle.optra_walk.specs.declared.Action.TheVariants.{Pass}
 use Rattle.optra_walk.specs.declared.Leg.{Leg}
 use Rattle.optra_walk.specs.Families.{load_of, total_of}
 use Rattle.optra_checker.proofs.AtLemmas.{no_true, not_both}
-use Rattle.optra_checker.proofs.FitLemmas.{within_below, within_same, legs_below}
+use Rattle.optra_checker.proofs.FitLemmas.{within_below, within_same, legs_below, legs_more}
 use Rattle.optra_checker.proofs.fitting.legs_fit.Goals as goal
 
 abbrev any_leg : Leg
@@ -21,6 +21,14 @@ returns-then-not-branch-clause-within g c =
           (within_below rows (total c.leg_fits.new.totals) (λ q. total c.args.totals.now q + load_of rows q (map (λ (leg : Leg). (kind, leg)) legs))
           (λ q. let a = c.in_ok-leg_fits.ensures.added q in let b = c.legs.invariant.added q in let l = legs_below rows kind q legs c.legs.leg-index any_leg c.legs-test.true in omega arith) within))),
     )
+
+pub legs-preserved : goal.legs-preserved
+legs-preserved g c =
+    let rows = g.F.RowFamily.rows_of c.args.rows.now c.args.net.now in
+    record {
+      added = λ q. let a = c.in_ok-leg_fits.ensures.added q in let b = c.legs.invariant.added q in let m = legs_more rows c.args.kind q c.args.legs.now c.legs.leg-index any_leg c.legs-test.true in omega (arith, a, b, m);
+      within = c.in_ok-leg_fits.ensures.within.0 c.if-not-branch.false;
+    }
 
 pub returns-clause-within : goal.returns-clause-within
 returns-clause-within g c =

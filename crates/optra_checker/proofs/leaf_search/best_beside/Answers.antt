@@ -1,5 +1,6 @@
-use Rattle.std.proofs.Common.{◌≡◌, ◌∙◌, ◌<◌, List, length, Some, ap, sym, slice_get, subst, get_or}
-use Rattle.std.proofs.lemmas.Option.{get_or_from_slice_get}
+use Rattle.std.proofs.Common.{◌≡◌, ◌∙◌, ◌<◌, List, length, Option, Some, ap, sym, slice_get, subst, get_or}
+use Rattle.std.specs.Option.{option_map_or}
+use Rattle.std.proofs.lemmas.Option.{get_or_from_slice_get, slice_get-get_or}
 use Rattle.optra_bid.specs.declared.bids.Bid.{Bid}
 use Rattle.optra_node.specs.Nodes.{kind_at}
 use Rattle.optra_checker.specs.Leaves.{leaf_weights}
@@ -13,6 +14,16 @@ invariant_of-weights g c = record { in_range = c.requires.bid; ascending = c.req
 pub search-requires-clause-path : goal.search-requires-clause-path
 search-requires-clause-path g c =
     c.inst-inst.result.paths c.args.bid c.index-inst-bid.result (subst (λ (bs : List Bid). c.args.bid < length bs) (sym c.inst-inst.ensures.bids) c.requires.bid)
+
+pub search-requires-clause-weights : goal.search-requires-clause-weights
+search-requires-clause-weights g c =
+    let bids = c.inst-inst.result.bids.now in
+    let bid = c.args.bid in
+    let there = slice_get-get_or bids bid c.index-inst-bid.result (subst (λ (bs : List Bid). bid < length bs) (sym c.inst-inst.ensures.bids) c.requires.bid) in
+    record {
+      net_is = sym c.inst-inst.ensures.net;
+      kind_is = ap (λ (bs : List Bid). kind_at bs bid) (sym c.inst-inst.ensures.bids) ∙ ap (λ (o : Option Bid). option_map_or (λ (b : Bid). b.path.kind) o (record { 0 = 0 })) there;
+    }
 
 pub returns-clause-best : goal.returns-clause-best
 returns-clause-best g c =

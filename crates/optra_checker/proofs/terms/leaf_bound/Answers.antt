@@ -12,7 +12,7 @@ pub returns-clause-bound : goal.returns-clause-bound
 returns-clause-bound g c =
     let node = c.args.node.now in
     let rows = g.F.RowFamily.rows_of node.family node.net in
-    let sum = c.in_ok-sum.sum in
+    let sum = c.in_ok-sum.field-0 in
     let fits : FitsSigned w128 c.whole_cents.result = search rules in
     let fits_value : FitsSigned w128 c.dual_by-value.result = search rules in
     let fits_capacity : FitsSigned w128 c.capacity_price.result = search rules in
@@ -24,14 +24,14 @@ returns-clause-bound g c =
 pub capacity_price-requires : goal.capacity_price-requires
 capacity_price-requires g c = c.requires.proper
 
-pub term_sum-requires-clause-ascending : goal.term_sum-requires-clause-ascending
-term_sum-requires-clause-ascending g c = c.requires.ascending
+pub term_sum-sum-requires-clause-ascending : goal.term_sum-sum-requires-clause-ascending
+term_sum-sum-requires-clause-ascending g c = c.requires.ascending
 
-pub term_sum-requires-clause-proper : goal.term_sum-requires-clause-proper
-term_sum-requires-clause-proper g c = c.requires.proper
+pub term_sum-sum-requires-clause-proper : goal.term_sum-sum-requires-clause-proper
+term_sum-sum-requires-clause-proper g c = c.requires.proper
 
-pub term_sum-requires-clause-walks : goal.term_sum-requires-clause-walks
-term_sum-requires-clause-walks g c = c.requires.walks
+pub term_sum-sum-requires-clause-walks : goal.term_sum-sum-requires-clause-walks
+term_sum-sum-requires-clause-walks g c = c.requires.walks
 
-pub term_sum-requires-clause-instance : goal.term_sum-requires-clause-instance
-term_sum-requires-clause-instance g c = c.requires.instance
+pub term_sum-sum-requires-clause-instance : goal.term_sum-sum-requires-clause-instance
+term_sum-sum-requires-clause-instance g c = c.requires.instance

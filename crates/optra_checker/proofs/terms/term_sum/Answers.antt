@@ -68,3 +68,13 @@ returns-clause-terms g c =
     let same = ap length c.inst.ensures.bids in
     let all : c.bids.bid ≡ length node.bids = omega (arith, end, past, same) in
     subst (λ n. AreTerms node.net rows node.bids node.node c.args.prices.now n c.bids.sum) all c.bids.invariant.terms
+
+pub offer_at-requires-clause-latest : goal.offer_at-requires-clause-latest
+offer_at-requires-clause-latest g c = c.requires.latest
+
+pub offer_at-requires-clause-walks : goal.offer_at-requires-clause-walks
+offer_at-requires-clause-walks g c =
+    let count = c.bids.invariant.walks.count in
+    let l = c.bids-test.true in
+    let same = ap length c.inst.ensures.bids in
+    c.bids.invariant.walks.each c.bids.bid _ (omega (arith, count, l, same))

@@ -31,3 +31,24 @@ returns-then-stand_beside-clause-best g c b there =
     stands_best node.net rows used node.bids node.node c.args.bid best is
     (subst (λ (ls : List Leg). IsStillFree (leaf_weights node.net rows used node.bids node.node c.args.bid [] (kind_at node.bids c.args.bid)) ls) c.legs.ensures (c.stand_beside.ensures.free c.if-stand_beside.true))
     (subst (λ (ls : List Leg). 0 < length ls) c.legs.ensures (c.stand_beside.ensures.some c.if-stand_beside.true)) b there
+
+pub stand_beside-requires-clause-bid : goal.stand_beside-requires-clause-bid
+stand_beside-requires-clause-bid g c = c.requires.bid
+
+pub stand_beside-requires-clause-latest : goal.stand_beside-requires-clause-latest
+stand_beside-requires-clause-latest g c = c.requires.latest
+
+pub standing_at-requires-clause-bid : goal.standing_at-requires-clause-bid
+standing_at-requires-clause-bid g c = c.requires.bid
+
+pub standing_at-requires-clause-walks : goal.standing_at-requires-clause-walks
+standing_at-requires-clause-walks g c = c.requires.walks
+
+pub returns-clause-best : goal.returns-clause-best
+returns-clause-best g c = c.standing_at.ensures.best
+
+pub returns-clause-size : goal.returns-clause-size
+returns-clause-size g c = c.standing_at.ensures.size
+
+pub returns-clause-free : goal.returns-clause-free
+returns-clause-free g c = c.standing_at.ensures.free
