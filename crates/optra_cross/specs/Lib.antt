@@ -2,5 +2,6 @@ pub mod Crosses
 pub mod Places
 pub mod PlaceLemmas
 pub mod CrossLemmas
+pub mod RowPlaces
 pub mod CrossTexts
 pub mod CrossTextLemmas

@@ -2,3 +2,4 @@ pub mod Platforms
 pub mod PlatformLemmas
 pub mod PlatformTexts
 pub mod PlatformTextLemmas
+pub mod RowPlaces

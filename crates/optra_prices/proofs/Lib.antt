@@ -59,6 +59,8 @@ pub mod TellingLemmas
 pub mod DecidedLemmas
 pub mod StayLemmas
 pub mod PlacedLemmas
+pub mod SplitLemmas
+pub mod BucketLemmas
 pub mod ShareLemmas
 pub mod AmountLemmas
 pub mod RunningLemmas

@@ -49,7 +49,6 @@ mod owning;
 pub mod parts;
 mod path_ends;
 mod paths;
-mod place;
 mod putting;
 mod ranking;
 pub mod rooms;

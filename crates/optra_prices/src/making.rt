@@ -278,8 +278,6 @@ pub(crate) fn finish_making<F: RowFamily>(
     ensures { IfOk result (IsNumbered F.Row.cmp (F.rows_of rows.now net.now) making.named.items
         making.groups) }
 {
-    let _ = net;
-    let _ = rows;
     let Making {
         named,
         mut groups,
@@ -291,6 +289,6 @@ pub(crate) fn finish_making<F: RowFamily>(
     drop(guesses);
     groups.starts.shrink_to_fit();
     groups.touches.shrink_to_fit();
-    let numbering = number_rows::<F>(alloc, named, &mut groups.touches)?;
+    let numbering = number_rows(alloc, net, rows, named, &mut groups.touches)?;
     Ok(Numbered { numbering, groups })
 }

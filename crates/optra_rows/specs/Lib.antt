@@ -6,4 +6,7 @@ pub mod HeartLemmas
 pub mod TouchedLemmas
 pub mod RuleLemmas
 pub mod EitherLemmas
+pub mod EitherPlaces
 pub mod FewRows
+pub mod PlaceOrder
+pub mod PlaceLemmas

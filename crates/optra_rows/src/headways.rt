@@ -1,5 +1,5 @@
 //! The rows of headways, as a family.
-ghost use Rattle.std.specs.Prelude.{IsTrue, ◌≡◌, ℕ, ◌+◌, ◌<◌, ◌≤◌, ◌↔◌, ◌&&◌, nat_le, nat_lt, List, length, slice_get, unwrap_or, All, Option};
+ghost use Rattle.std.specs.Prelude.{IsTrue, ◌≡◌, ℕ, ◌+◌, ◌*◌, ◌^◌, ◌<◌, ◌≤◌, ◌↔◌, ◌&&◌, nat_le, nat_lt, List, length, slice_get, unwrap_or, All, Option};
 ghost use Rattle.std.specs.List.{position_or_len};
 ghost use Rattle.std.specs.Option.{option_map};
 ghost use Rattle.optra_network.specs.Net.{Net, IsProper, MayUse};
@@ -13,6 +13,7 @@ ghost use Rattle.optra_rows.specs.FewRows.{AreFewHeadways};
 ghost use Rattle.optra_rows.specs.Headways.{is_row_of, is_used_by, headway_rows, IsFirstOver, IsFirstStarted, IsHeadwayRow, in_day, pair_of, is_started, is_not_over, ShiftsRise, kept};
 
 use crate::HRow;
+use crate::minute_places::{MINUTE_PLACES, minute_place};
 use optra_network::{Minute, Network, Partner, TrackId, TypeId};
 use optra_walk::{Leg, RowFamily};
 
@@ -46,12 +47,17 @@ pub fn headway_rows_are_few(net: &Network)
 impl RowFamily for HeadwayRows {
     ghost use Rattle.std.proofs.Common.{lit≤};
     ghost use Rattle.optra_rows.specs.TouchedLemmas.{rows_told_apart, headway_rows_listed, few_headways, unusable_none};
+    ghost use Rattle.optra_rows.specs.PlaceLemmas.{headway_places_rise, place_in, places_in};
     ghost use Rattle.optra_rows.specs.RuleLemmas.{headways_by_rows};
     ghost use Rattle.optra_rows.specs.Headways.{most_rows, touched_rows, KeepsHeadwayRule};
 
     type Row = HRow;
 
     ghost rows_of = { λ _ net. headway_rows net };
+
+    ghost place_of = { λ _ net row. place_in net row };
+
+    ghost places_of = { λ _ net. places_in net };
 
     ghost rows_used = { λ _ net kind leg. touched_rows net leg.track kind leg.depart };
 
@@ -60,6 +66,8 @@ impl RowFamily for HeadwayRows {
     ghost KeepsRule = { λ _ net entries. KeepsHeadwayRule net entries };
 
     ghost tells_apart = { rows_told_apart };
+
+    ghost places_rise = { λ f net proper. headway_places_rise net proper };
 
     ghost lists_rows = { λ f net kind leg u. headway_rows_listed net leg.track kind leg.depart u.proper u.may_use u.depart };
 
@@ -109,10 +117,32 @@ impl RowFamily for HeadwayRows {
         least + pair_count(net.partners(leg.track, kind), leg.depart)
     }
 
+    /// First stand the windows by track and minute, and then the pairs by track and first minute.
+    fn place(&self, net: &Network, row: HRow) -> usize {
+        match row {
+            HRow::Window { track, minute } => minute_place(track.0, minute),
+            HRow::Pair {
+                track, first_at, ..
+            } => track_places(net) + minute_place(track.0, first_at),
+        }
+    }
+
+    fn places(&self, net: &Network) -> usize {
+        track_places(net) + track_places(net)
+    }
+
     /// Legs of a type use the same where they enter the same track at the same minute.
     fn use_alike(&self, _net: &Network, _kind: TypeId, first: Leg, second: Leg) -> bool {
         first.track == second.track && first.depart == second.depart
     }
+}
+
+/// How many places the minutes of all tracks have.
+fn track_places(net: &Network) -> usize
+    ensures places { result ≡ length net.now.tracks * 375 }
+    ensures few { result < 2 ^ 32 }
+{
+    usize::from(net.track_count()) * MINUTE_PLACES
 }
 
 /// How many of the partners have their minutes in the day.

@@ -43,6 +43,7 @@ impl<A: RowFamily, B: RowFamily> RowFamily for Both<A, B> {
     type Row = Either<A::Row, B::Row>;
 
     ghost use Rattle.optra_rows.specs.Eithers.{both_rows, both_lists};
+    ghost use Rattle.optra_rows.specs.EitherPlaces.{either_place, sum_of_places, both_places_rise};
     ghost use Rattle.optra_rows.specs.EitherLemmas.{tell_both_apart, lists_both, few_together, few_of_both, fits_both, caps_fit, none_of_both};
     ghost use Rattle.std.specs.Prelude.{refl};
 
@@ -51,6 +52,14 @@ impl<A: RowFamily, B: RowFamily> RowFamily for Both<A, B> {
     ghost rows_used = { λ f net kind leg. both_lists (A.rows_used f.first net kind leg) (B.rows_used f.second net kind leg) };
 
     ghost most = { λ f. A.most f.first + B.most f.second };
+
+    ghost place_of = { λ f net row. either_place (A.place_of f.first net) (B.place_of f.second net) (A.places_of f.first net) row };
+
+    ghost places_of = { λ f net. sum_of_places (A.places_of f.first net) (B.places_of f.second net) };
+
+    ghost places_rise = { λ f net p. both_places_rise A.Row.cmp B.Row.cmp ⟦<Either<A::Row, B::Row> as Ord>⟧.cmp (λ a b. refl) (λ a b. refl) (λ a b. refl)
+        (A.rows_of f.first net) (B.rows_of f.second net) (A.place_of f.first net) (B.place_of f.second net) (A.places_of f.first net) (B.places_of f.second net)
+        (A.places_rise f.first net p) (B.places_rise f.second net p) };
 
     ghost KeepsRule = { λ f net entries. A.KeepsRule f.first net entries × B.KeepsRule f.second net entries };
 
@@ -111,6 +120,23 @@ impl<A: RowFamily, B: RowFamily> RowFamily for Both<A, B> {
 
     fn used_count(&self, net: &Network, kind: TypeId, leg: Leg) -> u32 {
         self.first.used_count(net, kind, leg) + self.second.used_count(net, kind, leg)
+    }
+
+    /// The rows of the second family stand past all of the first.
+    fn place(&self, net: &Network, row: Either<A::Row, B::Row>) -> usize {
+        match row {
+            Either::First(p) => self.first.place(net, p),
+            Either::Second(q) => self
+                .first
+                .places(net)
+                .saturating_add(self.second.place(net, q)),
+        }
+    }
+
+    fn places(&self, net: &Network) -> usize {
+        self.first
+            .places(net)
+            .saturating_add(self.second.places(net))
     }
 
     fn use_alike(&self, net: &Network, kind: TypeId, first: Leg, second: Leg) -> bool {
