@@ -5,6 +5,7 @@ pub mod OrderLemmas
 pub mod HorizonLemmas
 pub mod DeadlineLemmas
 pub mod ColumnLemmas
+pub mod RowLemmas
 pub mod TableLemmas
 pub mod StepLemmas
 pub mod WayLemmas
@@ -12,6 +13,7 @@ pub mod TrackLemmas
 pub mod FlagLemmas
 pub mod ReachLemmas
 pub mod NodeLemmas
+pub mod NumberLemmas
 pub mod BlockLemmas
 pub mod ListLemmas
 pub mod EmitLemmas

@@ -1,8 +1,7 @@
 -- The nodes of kept places.
-use Rattle.std.proofs.Common.{◌≡◌, ℕ, zero, suc, ◌+◌, ◌-◌, ◌≤◌, ◌<◌, ◌⊎◌, inl, inr, Bool, true, false, List, [], ◌∷◌, length, get_or, take, refl, sym, ap, ◌∙◌, arith, true≢false, add-one, set, subst, get_or-set_other, get_or-set_same}
+use Rattle.std.proofs.Common.{◌≡◌, ℕ, zero, suc, ◌+◌, ◌-◌, ◌≤◌, ◌<◌, Bool, true, false, List, [], ◌∷◌, length, get_or, take, refl, sym, ap, ◌∙◌, arith, true≢false, add-one}
 use Rattle.std.proofs.Math.ListN.{length-map}
 use Rattle.std.proofs.lemmas.List.{get_or-map}
-use Rattle.std.proofs.lemmas.Bool.{cases_lt}
 use Rattle.optra_graph.specs.declared.states.Layout.{Layout}
 use Rattle.optra_graph.specs.Flags.{is_set, IsSet}
 use Rattle.optra_graph.specs.Graphs.{state_at, no_state, IsStateNode}
@@ -55,6 +54,15 @@ kept_along flags i (suc n) =
     let s : i + suc n ≡ suc (i + n) = omega arith in
     let e = ap (kept_before flags) s in
     omega arith
+
+-- none is kept where no flag is set
+pub kept_none : (flags : List Bool) (i n : ℕ) → ((place : ℕ) → i ≤ place → place < i + n → IsSet flags place → ⊥) → kept_before flags (i + n) ≡ kept_before flags i
+kept_none flags i zero none = ap (kept_before flags) (omega arith)
+kept_none flags i (suc n) none = by (is_set flags (i + n)) refl (kept_none flags i n (λ place l m. none place l (omega arith)))
+  where
+    by : (b : Bool) → is_set flags (i + n) ≡ b → kept_before flags (i + n) ≡ kept_before flags i → kept_before flags (i + suc n) ≡ kept_before flags i
+    by true e h = absurd (none (i + n) (omega arith) (omega arith) e)
+    by false e h = let s : i + suc n ≡ suc (i + n) = omega arith in ap (kept_before flags) s ∙ kept_no flags (i + n) e ∙ h
 
 pub kept_up : (flags : List Bool) (i j : ℕ) → i ≤ j → kept_before flags i ≤ kept_before flags j
 kept_up flags i j l =
@@ -139,14 +147,3 @@ module _ (layout : Layout) (flags : List Bool) (n : ℕ) (len : length flags ≡
       let below : w.0 < n = omega (arith, w.1, t) in
       let back = kept_take flags n w.0 (omega arith) in
       (w.0, below, sym (set_take flags n w.0 below) ∙ w.2, omega (arith, w.3, back))
-
--- one more number
-pub number_more : (flags : List Bool) (numbers : List ℕ) (x i : ℕ) → i < length numbers → x ≡ node_of flags i
-    → ((place : ℕ) → place < i → get_or numbers place 0 ≡ node_of flags place) → (place : ℕ) → place < i + 1 → get_or (set numbers i x) place 0 ≡ node_of flags place
-number_more flags numbers x i w f h place l = by (cases_lt place i)
-  where
-    by : (place < i) ⊎ (i ≤ place) → get_or (set numbers i x) place 0 ≡ node_of flags place
-    by (inl m) = get_or-set_other numbers i place x 0 (λ e. omega (arith, e)) ∙ h place m
-    by (inr m) =
-        let t : i ≡ place = omega arith in
-        subst (λ p. get_or (set numbers i x) p 0 ≡ node_of flags p) t (get_or-set_same numbers i x 0 w ∙ f)

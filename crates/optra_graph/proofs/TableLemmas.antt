@@ -2,8 +2,7 @@
 use Rattle.std.proofs.Common.{◌≡◌, ℕ, ◌+◌, ◌-◌, ◌*◌, ◌≤◌, ◌<◌, ◌⊎◌, inl, inr, Bool, false, true≢false, List, [], ◌∷◌, ◌++◌, length, take, drop, sym, ap, ◌∙◌, subst, arith, length-append}
 use Rattle.std.specs.Prelude.{slice_index, slice_range}
 use Rattle.std.proofs.lemmas.Bool.{cases_lt}
-use Rattle.std.proofs.lemmas.List.{take_all, take-append-le, drop-append-le, get_or_append_left, get_or_default, get_or_past, length-drop}
-use Rattle.std.proofs.Math.Nat.{eq-or-lt_of_le}
+use Rattle.std.proofs.lemmas.List.{take_all, take-append-le, drop-append-le, get_or_append_left, length-drop}
 use Rattle.std.proofs.Math.Seq.{drop-append_seam, get_or-append_seam}
 use Rattle.optra_network.specs.Net.{Net, out_tracks_of}
 use Rattle.optra_bid.specs.Specs.{Path}
@@ -13,7 +12,8 @@ use Rattle.optra_graph.specs.declared.stepping.Step.{Step}
 use Rattle.optra_graph.specs.Flags.{is_set, IsSet}
 use Rattle.optra_graph.specs.Places.{state_of}
 use Rattle.optra_graph.specs.Steps.{AreSteps}
-use Rattle.optra_graph.specs.StepTables.{AreStepsTo, HasRange, IsGrown, IsEmpty, place_at, place_or, rows_of, steps_at}
+use Rattle.optra_graph.proofs.RowLemmas.{row_end, row_here, row_next, row_most, none_first, none_next}
+use Rattle.optra_graph.specs.StepTables.{AreListed, AreStepsTo, HasRange, IsGrown, IsEmpty, place_at, place_or, rows_of, steps_at}
 
 pub table_start : (net : Net) (path : Path) (layout : Layout) (flags : List Bool) (table : StepTable) → IsEmpty table → AreStepsTo net path layout 0 flags table
 table_start net path layout flags table e =
@@ -173,52 +173,27 @@ module _ (net : Net) (path : Path) (layout : Layout) where
     pub few_of : (row place : ℕ) (steps : List Step) → row < rows_of table → place ≡ place_at table row → steps ≡ steps_at table row → length steps ≤ 63 * length (out_tracks_of net.tracks (state_of layout place).station)
     few_of row place steps l p e = subst (λ q. length steps ≤ 63 * length (out_tracks_of net.tracks (state_of layout q).station)) (sym p) (let f = h.few row l in let n = ap length e in omega arith)
 
+    -- the places of the rows
+    pub listing : AreListed flags end table.places.items
+    listing = record { rising = h.rising; within = h.within; listed = h.listed }
+
     -- behind all rows comes the end
     pub place_end : (row : ℕ) → rows_of table ≤ row → place_or table row end ≡ end
-    place_end row l = get_or_past table.places.items row end l
+    place_end = row_end end flags table.places.items listing
 
     pub place_here : (row : ℕ) → row < rows_of table → place_or table row end ≡ place_at table row
-    place_here row l = get_or_default table.places.items row end 0 l
+    place_here = row_here end flags table.places.items listing
 
     -- the next row is of a later place, or is the end
     pub place_next : (row : ℕ) → row < rows_of table → place_at table row + 1 ≤ place_or table (row + 1) end
-    place_next row l = by (cases_lt (row + 1) (rows_of table))
-      where
-        by : (row + 1 < rows_of table) ⊎ (rows_of table ≤ row + 1) → place_at table row + 1 ≤ place_or table (row + 1) end
-        by (inl m) = let e = place_here (row + 1) m in let r = h.rising row (row + 1) (omega arith) m in omega arith
-        by (inr m) = let e = place_end (row + 1) m in let w = h.within row l in omega arith
+    place_next = row_next end flags table.places.items listing
 
     pub place_most : (row : ℕ) → place_or table row end ≤ end
-    place_most row = by (cases_lt row (rows_of table))
-      where
-        by : (row < rows_of table) ⊎ (rows_of table ≤ row) → place_or table row end ≤ end
-        by (inl m) = let e = place_here row m in let w = h.within row m in omega arith
-        by (inr m) = let e = place_end row m in omega arith
+    place_most = row_most end flags table.places.items listing
 
-    -- no flag is set behind the places of the rows before one and before its own
-    gap : (row place : ℕ) → ((r : ℕ) → r < row → r < rows_of table → place_at table r < place) → place < place_or table row end → IsSet flags place → ⊥
-    gap row place low high s =
-        let m = place_most row in
-        let w = h.listed place (omega arith) s in
-        by w.0 w.1 w.2 (cases_lt w.0 row)
-      where
-        by : (r : ℕ) → r < rows_of table → place_at table r ≡ place → (r < row) ⊎ (row ≤ r) → ⊥
-        by r l e (inl b) = let a = low r b l in absurd (omega arith)
-        by r l e (inr b) = let f = place_here row (omega arith) in on (eq-or-lt_of_le b) f
-          where
-            on : (row ≡ r) ⊎ (row < r) → place_or table row end ≡ place_at table row → ⊥
-            on (inl c) f = let g = ap (place_at table) c in absurd (omega arith)
-            on (inr c) f = let g = h.rising row r c l in absurd (omega arith)
-
+    -- no flag is set before the first row, nor between two rows
     pub gap_first : (place : ℕ) → 0 ≤ place → place < place_or table 0 end → IsSet flags place → ⊥
-    gap_first place _ high s = gap 0 place (λ r b l. absurd (omega arith)) high s
+    gap_first = none_first end flags table.places.items listing
 
     pub gap_next : (row : ℕ) → row < rows_of table → (place : ℕ) → place_at table row + 1 ≤ place → place < place_or table (row + 1) end → IsSet flags place → ⊥
-    gap_next row l place a high s = gap (row + 1) place (λ r b m. low r b m (eq-or-lt_of_le (r_most r b))) high s
-      where
-        r_most : (r : ℕ) → r < row + 1 → r ≤ row
-        r_most r b = omega arith
-
-        low : (r : ℕ) → r < row + 1 → r < rows_of table → (r ≡ row) ⊎ (r < row) → place_at table r < place
-        low r b m (inl c) = let g = ap (place_at table) c in omega arith
-        low r b m (inr c) = let g = h.rising r row c l in omega arith
+    gap_next = none_next end flags table.places.items listing

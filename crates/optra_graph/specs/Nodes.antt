@@ -1,7 +1,8 @@
 -- The nodes of the places that are kept, which come in the order of the places.
-use Rattle.std.specs.Prelude.{◌≡◌, ℕ, zero, suc, ◌+◌, ◌<◌, Bool, true, false, List, [], ◌∷◌, length, map, take, slice_index_or}
+use Rattle.std.specs.Prelude.{◌≡◌, ℕ, zero, suc, ◌+◌, ◌-◌, Bool, true, false, List, [], ◌∷◌, length, map, take, slice_index_or}
 use Rattle.optra_graph.specs.declared.states.State.{State}
 use Rattle.optra_graph.specs.declared.states.Layout.{Layout}
+use Rattle.optra_graph.specs.Flags.{IsSet}
 use Rattle.optra_graph.specs.Places.{state_of}
 
 -- how many of the flags before a place are set
@@ -15,9 +16,11 @@ kept_before (false ∷ fs) (suc k) = kept_before fs k
 abbrev pub node_of : List Bool → ℕ → ℕ
 node_of flags place = kept_before flags place + 1
 
+-- each place whose flag is set has the number of its node, and the end, which is the last place, has the next one
 pub record AreNumbers (flags : List Bool) (numbers : List ℕ) : Type 0 where
   pub len : length numbers ≡ length flags
-  pub each : (place : ℕ) → place < length flags → slice_index_or numbers place 0 ≡ node_of flags place
+  pub each : (place : ℕ) → IsSet flags place → slice_index_or numbers place 0 ≡ node_of flags place
+  pub end : slice_index_or numbers (length flags - 1) 0 ≡ node_of flags (length flags - 1)
 
 -- the places whose flags are set, the first flag being that of place i
 abbrev pub kept_from : ℕ → List Bool → List ℕ

@@ -42,6 +42,12 @@ pub record IsGrown (old : StepTable) (place : ℕ) (more : List Step) (new : Ste
   pub places : new.places.items ≡ old.places.items ++ place ∷ []
   pub starts : new.starts.items ≡ old.starts.items ++ (length old.steps.items + length more) ∷ []
 
+-- the places ascend and come before the end, and each before it whose flag is set is one of them
+pub record AreListed (flags : List Bool) (end : ℕ) (places : List ℕ) : Type 0 where
+  pub rising : (j k : ℕ) → j < k → k < length places → slice_index places j < slice_index places k
+  pub within : (row : ℕ) → row < length places → slice_index places row < end
+  pub listed : (place : ℕ) → place < end → IsSet flags place → (row : ℕ) × (row < length places) × (slice_index places row ≡ place)
+
 -- the table has the steps of some places before one, among them all whose flags are set
 pub record AreStepsTo (net : Net) (path : Path) (layout : Layout) (before : ℕ) (flags : List Bool) (table : StepTable) : Type 0 where
   pub count : length table.starts.items ≡ rows_of table + 1

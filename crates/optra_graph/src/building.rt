@@ -87,7 +87,7 @@ fn make_graph(alloc: Global, net: &Network, bid: &Bid) -> Result<TimeGraph, NoMe
     let mut table = StepTable::new(alloc)?;
     let mut flags = reach(alloc, net, bid, layout, &mut table)?;
     let arcs = trim(net, bid, layout, &mut flags, &table);
-    let numbers = number(alloc, &flags)?;
+    let numbers = number(alloc, &flags, &table.places)?;
     let kept = Kept {
         flags: &flags,
         numbers: &numbers,

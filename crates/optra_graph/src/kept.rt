@@ -1,7 +1,8 @@
 //! The places that are kept, and their nodes.
 ghost use Rattle.optra_graph.specs.Nodes.{AreNumbers};
 
-/// Whether each place is kept, and one more than the number of kept places before it, which is its node where it is kept.
+/// Whether each place is kept. A place that is kept has the number of its node, which is one more than the number of kept
+/// places before it, and the end has the next number, also where it is not kept. What stands at other places is never read.
 #[derive(Clone, Copy)]
 pub struct Kept<'k> {
     pub flags: &'k [bool],

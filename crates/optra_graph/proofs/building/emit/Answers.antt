@@ -8,6 +8,7 @@ use Rattle.optra_graph.specs.Timed.{IsGraphOf}
 use Rattle.optra_graph.proofs.EmitLemmas.{starts_from, starts_few}
 use Rattle.optra_graph.proofs.GraphLemmas.{graph_of_timed}
 use Rattle.optra_graph.proofs.NodeLemmas.{kept_few}
+use Rattle.optra_graph.proofs.NumberLemmas.{end_number}
 use Rattle.optra_graph.proofs.TimedLemmas.{timed_is}
 use Rattle.optra_graph.proofs.building.emit.Goals as goal
 
@@ -16,7 +17,7 @@ overflow_add-end c =
     let v = c.places.ensures.value in
     let s = c.places.ensures.small in
     let k = c.requires.kept.len in
-    let n = c.args.kept.numbered.each c.places.result (omega (arith, v, k)) in
+    let n = end_number c.args.kept.flags.now c.args.kept.numbers.now c.places.result (omega (arith, v, k)) c.args.kept.numbered in
     omega (arith, n, s, kept_few c.args.kept.flags.now c.places.result)
 
 pub add_legs-requires-clause-starts : goal.add_legs-requires-clause-starts
@@ -33,7 +34,7 @@ is_graph : (c : goal.After-arcs-arcs) → IsGraphOf c.args.net.now c.args.bid.no
 is_graph c =
     let v = c.places.ensures.value in
     let k = c.requires.kept.len in
-    let n : get_or c.args.kept.numbers.now c.places.result 0 ≡ node_of c.args.kept.flags.now (places_of c.args.layout) = c.args.kept.numbered.each c.places.result (omega (arith, v, k)) ∙ ap (node_of c.args.kept.flags.now) v in
+    let n : get_or c.args.kept.numbers.now c.places.result 0 ≡ node_of c.args.kept.flags.now (places_of c.args.layout) = end_number c.args.kept.flags.now c.args.kept.numbers.now c.places.result (omega (arith, v, k)) c.args.kept.numbered ∙ ap (node_of c.args.kept.flags.now) v in
     let made = subst (λ (g : Graph). Emits c.args.net.now c.args.bid.now.path c.args.layout c.args.kept.flags.now (places_of c.args.layout) g.arcs c.add_legs.new.dag.arcs c.add_legs.new.legs) c.reserve.ensures c.in_ok-add_legs.ensures.arcs in
     let ends : c.add_legs.new.dag.ends ≡ set (replicate (node_of c.args.kept.flags.now (places_of c.args.layout) + 1) false) (node_of c.args.kept.flags.now (places_of c.args.layout)) true =
     c.in_ok-add_legs.ensures.ends ∙ ap (λ (g : Graph). g.ends) c.reserve.ensures ∙ c.in_ok-add_starts.ensures.ends ∙ c.set_end.ensures.ends

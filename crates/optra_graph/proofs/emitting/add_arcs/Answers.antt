@@ -10,7 +10,7 @@ use Rattle.optra_graph.proofs.emitting.add_arcs.Goals as goal
 pub loop-step-preserved : goal.loop-step-preserved
 loop-step-preserved c = record {
   arcs = keep_step (arc_of c.args.kept.flags.now c.args.from) (is_kept c.args.kept.flags.now) c.args.steps.now c.loop-step.step-index no_step _ c.loop-step.dag.arcs _ c.loop-step-test.true c.if-not-kept-to.false c.loop-step.invariant.arcs
-      (c.in_ok-arc.ensures.ok ∙ ap (λ n. c.loop-step.dag.arcs ++ record { from = c.args.from; to = n } ∷ []) (c.args.kept.numbered.each (get_or c.args.steps.now c.loop-step.step-index no_step).to (c.requires.within c.loop-step.step-index no_step c.loop-step-test.true)));
+      (c.in_ok-arc.ensures.ok ∙ ap (λ n. c.loop-step.dag.arcs ++ record { from = c.args.from; to = n } ∷ []) (c.args.kept.numbered.each (get_or c.args.steps.now c.loop-step.step-index no_step).to c.if-not-kept-to.false));
   legs = keep_step leg_of_step (is_kept c.args.kept.flags.now) c.args.steps.now c.loop-step.step-index no_step _ c.loop-step.legs _ c.loop-step-test.true c.if-not-kept-to.false c.loop-step.invariant.legs c.in_ok-push.ensures;
   ends = c.in_ok-arc.ensures.ends ∙ c.loop-step.invariant.ends;
   sorted = rw c.in_ok-arc.ensures.ok (All-push (λ (before : Arc). before.from ≤ c.args.from) c.loop-step.dag.arcs _ c.loop-step.invariant.sorted (le_refl c.args.from));

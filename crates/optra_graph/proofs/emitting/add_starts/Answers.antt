@@ -38,7 +38,7 @@ pub arc-requires-clause-node : goal.arc-requires-clause-node
 arc-requires-clause-node c =
     let b = c.place-place.ensures.within in
     let f = c.requires.flags in
-    let n = c.args.kept.numbered.each c.place-place.result (omega (arith, b, f)) in
+    let n = c.args.kept.numbered.each c.place-place.result c.if-not-kept-place.false in
     let u = kept_up c.args.kept.flags.now c.place-place.result (places_of c.args.layout) (omega (arith, b)) in
     let e = ap length c.loop-minute.invariant.ends in
     let g = c.requires.ends in
@@ -62,7 +62,7 @@ loop-minute-preserved c =
     let i = c.loop-minute.invariant in
     let b = c.place-place.ensures.within in
     let f = c.requires.flags in
-    let n = c.args.kept.numbered.each c.place-place.result (omega (arith, b, f)) ∙ ap (node_of c.args.kept.flags.now) e in
+    let n = c.args.kept.numbered.each c.place-place.result c.if-not-kept-place.false ∙ ap (node_of c.args.kept.flags.now) e in
     let first = c.requires.setting.laid.first in
     let is : IsKeptStart c.args.bid.now.path c.args.layout c.args.kept.flags.now c.loop-minute.minute = record {
       within = (omega arith, omega arith);

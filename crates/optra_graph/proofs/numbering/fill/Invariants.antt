@@ -1,12 +1,13 @@
--- The numbers of the places so far, and the next number.
-use Rattle.std.proofs.Common.{◌≡◌, ℕ, ◌+◌, ◌<◌, ◌≤◌, length, get_or}
-use Rattle.optra_graph.specs.Nodes.{kept_before, node_of}
+-- The numbers of the kept places before that of this row, and the next number.
+use Rattle.std.proofs.Common.{◌≡◌, ◌-◌, length}
+use Rattle.std.specs.Prelude.{slice_index_or}
+use Rattle.optra_graph.specs.Nodes.{node_of}
+use Rattle.optra_graph.proofs.NumberLemmas.{AreBefore}
 use Rattle.optra_graph.proofs.numbering.fill.Given as goal
 
-abbrev pub invariant-loop-place : goal.invariant-loop-place
-invariant-loop-place l = record {
-  next : l.next ≡ kept_before l.flags l.place + 1;
+abbrev pub invariant-loop-row : goal.invariant-loop-row
+invariant-loop-row l = record {
   len : length l.numbers ≡ length l.flags;
-  within : l.place ≤ length l.flags;
-  each : (place : ℕ) → place < l.place → get_or l.numbers place 0 ≡ node_of l.flags place;
+  next : l.next ≡ node_of l.flags (slice_index_or l.places l.row (length l.flags - 1));
+  each : AreBefore l.flags (slice_index_or l.places l.row (length l.flags - 1)) l.numbers;
 }
