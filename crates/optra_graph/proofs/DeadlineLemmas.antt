@@ -1,5 +1,5 @@
 -- Who runs on from a state leaves its station before the deadline, and deadlines that no pass over the stations changes are right.
-use Rattle.std.proofs.Common.{◌≡◌, ℕ, zero, suc, ◌+◌, ◌≤◌, ◌<◌, ◌⊎◌, inl, inr, Bool, true, false, not, cond, List, [], ◌∷◌, length, get_or, set, length-set, get_or-set_same, get_or-set_other, replicate, All, Option, None, Some, nat_eq, eq-eqb, slice_get, refl, sym, ap, ◌∙◌, subst, arith}
+use Rattle.std.proofs.Common.{◌≡◌, ℕ, zero, suc, ◌+◌, ◌-◌, ◌||◌, true≢false, ◌≤◌, ◌<◌, ◌⊎◌, inl, inr, Bool, true, false, not, cond, List, [], ◌∷◌, length, get_or, set, length-set, get_or-set_same, get_or-set_other, replicate, All, Option, None, Some, nat_eq, eq-eqb, slice_get, refl, sym, ap, ◌∙◌, subst, arith}
 use Rattle.std.specs.Option.{option_map}
 use Rattle.std.proofs.lemmas.Bool.{cases_eq, cases_lt}
 use Rattle.std.proofs.lemmas.List.{length-replicate, get_or-replicate}
@@ -138,6 +138,21 @@ left_more net path deadlines n here before s l = by (cases_lt s.0 n)
     by : (s.0 < n) ⊎ (n ≤ s.0) → IsLeftTooLate net path deadlines s
     by (inl m) = before s m
     by (inr m) = let e : n ≡ s.0 = omega arith in let same : record { 0 = n } ≡ s = (λ i. record { 0 = e i }) in subst (IsLeftTooLate net path deadlines) same here
+
+-- the same from the last station down
+pub left_below : (net : Net) (path : Path) (deadlines : List ℕ) (count passed : ℕ) → count ≡ length net.stations → IsLeftTooLate net path deadlines (record { 0 = count - 1 - passed })
+    → ((s : StationId) → s.0 < length net.stations → length net.stations ≤ s.0 + passed → IsLeftTooLate net path deadlines s)
+    → (s : StationId) → s.0 < length net.stations → length net.stations ≤ s.0 + (passed + 1) → IsLeftTooLate net path deadlines s
+left_below net path deadlines count passed n here before s l m = by (cases_lt (s.0 + passed) (length net.stations))
+  where
+    by : (s.0 + passed < length net.stations) ⊎ (length net.stations ≤ s.0 + passed) → IsLeftTooLate net path deadlines s
+    by (inl a) = let e : count - 1 - passed ≡ s.0 = omega arith in let same : record { 0 = count - 1 - passed } ≡ s = (λ i. record { 0 = e i }) in subst (IsLeftTooLate net path deadlines) same here
+    by (inr a) = before s l a
+
+-- neither of two has changed
+pub neither : (a b : Bool) → (a || b) ≡ false → (a ≡ false) × (b ≡ false)
+neither true b e = absurd (true≢false e)
+neither false b e = (refl, e)
 
 pub all_left : (net : Net) (path : Path) (deadlines : List ℕ) (n : ℕ) → length net.stations ≤ n → AreBounded net path deadlines → ((s : StationId) → s.0 < n → IsLeftTooLate net path deadlines s) → AreDeadlines net path deadlines
 all_left net path deadlines n l h late = record {

@@ -11,15 +11,16 @@ use optra_network::{Minute, Network, NoMemory, StationId, TrackId};
 use std::alloc::Global;
 
 /// The deadline of each station. All begin with the first departure, and each pass over the stations makes them later by
-/// what their tracks allow, until none changes. A line of stations takes a pass or two, and no network more than one for
-/// each station; were one to take more, the last minute of the arrival window would do for all.
+/// what their tracks allow, until one changes none. The passes go down and up by turns: a line of stations takes three, the
+/// last of which changes nothing, and no network more than one for each station; were one to take more, the last minute
+/// of the arrival window would do for all.
 pub fn make_deadlines(alloc: Global, net: &Network, bid: &Bid) -> Result<Vec<Minute>, NoMemory>
     requires { IsPathOn net.now bid.now.path }
     ensures { IfOk result (λ deadlines. AreDeadlines net.now bid.now.path deadlines.items) }
 {
     let mut deadlines = vec![in alloc; first_minute(bid); net.station_count() as usize]?;
     for _ in 0..=net.station_count() {
-        if !raise_all(net, bid, &mut deadlines) {
+        if !raise_down(net, bid, &mut deadlines) || !raise_up(net, bid, &mut deadlines) {
             return Ok(deadlines);
         }
     }
@@ -34,19 +35,31 @@ fn first_minute(bid: &Bid) -> Minute
     bid.path.depart.from.min(bid.path.arrive.to)
 }
 
-/// Makes the deadlines later in one pass over the stations, which goes up and down at once, and tells whether one has
-/// changed.
-fn raise_all(net: &Network, bid: &Bid, deadlines: &mut [Minute]) -> bool
+/// Makes the deadlines later in one pass from the last station to the first, and tells whether one has changed.
+fn raise_down(net: &Network, bid: &Bid, deadlines: &mut [Minute]) -> bool
     requires { AreBounded net.now bid.now.path deadlines.old }
     ensures bounded { AreBounded net.now bid.now.path deadlines.new }
     ensures done { result ≡ false → AreDeadlines net.now bid.now.path deadlines.new }
 {
     let count = net.station_count();
     let mut changed = false;
-    for station in 0..count {
-        let down = raise(net, bid, deadlines, StationId(count - 1 - station));
-        let up = raise(net, bid, deadlines, StationId(station));
-        changed = changed | down | up;
+    for passed in 0..count {
+        let raised = raise(net, bid, deadlines, StationId(count - 1 - passed));
+        changed = changed | raised;
+    }
+    changed
+}
+
+/// Makes the deadlines later in one pass from the first station to the last, and tells whether one has changed.
+fn raise_up(net: &Network, bid: &Bid, deadlines: &mut [Minute]) -> bool
+    requires { AreBounded net.now bid.now.path deadlines.old }
+    ensures bounded { AreBounded net.now bid.now.path deadlines.new }
+    ensures done { result ≡ false → AreDeadlines net.now bid.now.path deadlines.new }
+{
+    let mut changed = false;
+    for station in 0..net.station_count() {
+        let raised = raise(net, bid, deadlines, StationId(station));
+        changed = changed | raised;
     }
     changed
 }

@@ -2,7 +2,7 @@
 use Rattle.std.proofs.Common.{◌≡◌, ◌<◌, false}
 use Rattle.optra_network.specs.declared.StationId.{StationId}
 use Rattle.optra_graph.specs.Deadlines.{AreBounded, IsLeftTooLate}
-use Rattle.optra_graph.proofs.deadlines.raise_all.Given as goal
+use Rattle.optra_graph.proofs.deadlines.raise_up.Given as goal
 
 abbrev pub invariant-loop-station : goal.invariant-loop-station
 invariant-loop-station l = record {
