@@ -13,7 +13,7 @@ use Rattle.optra_walk.specs.Walks.{MeetsStop}
 use Rattle.optra_graph.specs.declared.states.State.{State}
 use Rattle.optra_graph.specs.declared.states.Layout.{Layout}
 use Rattle.optra_graph.specs.declared.stepping.Step.{Step}
-use Rattle.optra_graph.specs.Flags.{is_set, IsSet, IsStartPlace, IsSteppedTo, AreStartsSet, Marks, IsReached, IsReachedTo, IsTrimmedTo, IsKept}
+use Rattle.optra_graph.specs.Flags.{is_set, IsPassed, IsSet, IsStartPlace, IsSteppedTo, AreStartsSet, Marks, IsReached, IsReachedTo, IsTrimmedTo, IsKept}
 use Rattle.optra_graph.specs.Moves.{start_state, FitsAction, IsMove, IsAfter, Runs, done_after}
 use Rattle.optra_graph.specs.Places.{IsPlaced, IsTimely, deadline_of, mode_of, place_of, places_of, state_of}
 use Rattle.optra_graph.specs.Settings.{IsSetting}
@@ -73,18 +73,18 @@ module _ (net : Net) (path : Path) (layout : Layout) (setting : IsSetting net pa
       by place (inl o) = absurd (none_set (places_of layout + 1) place (subst (λ fs. IsSet fs place) e o))
       by place (inr s) = inl s
 
-  -- a place that is not reached adds nothing
-  pub reached_skip : (place : ℕ) (flags : List Bool) → is_set flags place ≡ false → IsReachedTo net path layout place flags → IsReachedTo net path layout (place + 1) flags
-  reached_skip place flags e h = record {
+  -- places that are not reached add nothing
+  pub reached_to : (place next : ℕ) (flags : List Bool) → IsPassed flags place next → IsReachedTo net path layout place flags → IsReachedTo net path layout next flags
+  reached_to place next flags passed h = record {
     len = h.len;
     starts = h.starts;
     closed = λ q step l b s w. by q step l b s w (cases_lt q place);
     from = h.from;
   }
     where
-      by : (q : ℕ) (step : Step) → q < place + 1 → q < places_of layout → IsSet flags q → At q step → (q < place) ⊎ (place ≤ q) → IsSet flags step.to
+      by : (q : ℕ) (step : Step) → q < next → q < places_of layout → IsSet flags q → At q step → (q < place) ⊎ (place ≤ q) → IsSet flags step.to
       by q step l b s w (inl m) = h.closed q step m b s w
-      by q step l b s w (inr m) = let f : q ≡ place = omega arith in absurd (true≢false (sym s ∙ ap (is_set flags) f ∙ e))
+      by q step l b s w (inr m) = absurd (passed q m l s)
 
   -- the steps of a place lead to no place before it
   pub marks_later : (place : ℕ) (steps : List Step) (flags new : List Bool) → place < places_of layout → AreSteps net path layout (state_of layout place) steps → Marks steps flags new

@@ -1,5 +1,5 @@
 -- A table of steps with the steps of one more place.
-use Rattle.std.proofs.Common.{◌≡◌, ℕ, ◌+◌, ◌-◌, ◌*◌, ◌≤◌, ◌<◌, ◌⊎◌, inl, inr, Bool, false, true≢false, List, [], ◌∷◌, ◌++◌, length, take, drop, sym, ap, ◌∙◌, subst, arith, length-append}
+use Rattle.std.proofs.Common.{◌≡◌, ℕ, ◌+◌, ◌-◌, ◌*◌, ◌≤◌, ◌<◌, ◌⊎◌, inl, inr, Bool, List, [], ◌∷◌, ◌++◌, length, take, drop, sym, ap, ◌∙◌, subst, arith, length-append}
 use Rattle.std.specs.Prelude.{slice_index, slice_range}
 use Rattle.std.proofs.lemmas.Bool.{cases_lt}
 use Rattle.std.proofs.lemmas.List.{take_all, take-append-le, drop-append-le, get_or_append_left, length-drop}
@@ -9,7 +9,7 @@ use Rattle.optra_bid.specs.Specs.{Path}
 use Rattle.optra_graph.specs.declared.states.Layout.{Layout}
 use Rattle.optra_graph.specs.declared.step_table.StepTable.{StepTable}
 use Rattle.optra_graph.specs.declared.stepping.Step.{Step}
-use Rattle.optra_graph.specs.Flags.{is_set, IsSet}
+use Rattle.optra_graph.specs.Flags.{IsPassed, IsSet}
 use Rattle.optra_graph.specs.Places.{state_of}
 use Rattle.optra_graph.specs.Steps.{AreSteps}
 use Rattle.optra_graph.proofs.RowLemmas.{row_end, row_here, row_next, row_most, none_first, none_next}
@@ -134,9 +134,9 @@ module _ (net : Net) (path : Path) (layout : Layout) (before : ℕ) (flags more 
       list place l s (inr m) = let e : before ≡ place = omega arith in let n = more_rows in (rows, omega (arith, n), place_new ∙ e)
 
 module _ (net : Net) (path : Path) (layout : Layout) where
-  -- a place whose flag is not set adds no row
-  pub table_skip : (before : ℕ) (flags : List Bool) (table : StepTable) → is_set flags before ≡ false → AreStepsTo net path layout before flags table → AreStepsTo net path layout (before + 1) flags table
-  table_skip before flags table unset h = record {
+  -- places whose flags are not set add no row
+  pub table_to : (before next : ℕ) (flags : List Bool) (table : StepTable) → before ≤ next → IsPassed flags before next → AreStepsTo net path layout before flags table → AreStepsTo net path layout next flags table
+  table_to before next flags table later passed h = record {
     count = h.count;
     last = h.last;
     rising = h.rising;
@@ -147,9 +147,9 @@ module _ (net : Net) (path : Path) (layout : Layout) where
     few = h.few;
   }
     where
-      list : (place : ℕ) → place < before + 1 → IsSet flags place → (place < before) ⊎ (before ≤ place) → (row : ℕ) × (row < rows_of table) × (place_at table row ≡ place)
+      list : (place : ℕ) → place < next → IsSet flags place → (place < before) ⊎ (before ≤ place) → (row : ℕ) × (row < rows_of table) × (place_at table row ≡ place)
       list place l s (inl m) = h.listed place m s
-      list place l s (inr m) = let e : place ≡ before = omega arith in absurd (true≢false (sym s ∙ ap (is_set flags) e ∙ unset))
+      list place l s (inr m) = absurd (passed place m l s)
 
   -- fewer flags, fewer places that are known to have a row
   pub table_fewer : (before : ℕ) (flags fewer : List Bool) (table : StepTable) → ((place : ℕ) → IsSet fewer place → IsSet flags place)

@@ -20,6 +20,17 @@ abbrev pub IsStartPlace : Path → Layout → ℕ → Type 0
 IsStartPlace path layout place =
     (m : ℕ) × IsFromTo path.depart.from path.depart.to m × IsTimely layout (start_state path m) × (place ≡ place_of layout (start_state path m))
 
+-- no flag is set from one place on and before another
+abbrev pub IsPassed : List Bool → ℕ → ℕ → Type 0
+IsPassed flags from to = (place : ℕ) → from ≤ place → place < to → IsSet flags place → ⊥
+
+-- the first place from one on and before the end whose flag is set, or else the end
+pub record IsNext (flags : List Bool) (from end next : ℕ) : Type 0 where
+  pub later : from ≤ next
+  pub within : next ≤ end
+  pub passed : IsPassed flags from next
+  pub set : next < end → IsSet flags next
+
 -- a step leads to the place from an earlier one that is set
 abbrev pub IsSteppedTo : Net → Path → Layout → List Bool → ℕ → Type 0
 IsSteppedTo net path layout flags place =

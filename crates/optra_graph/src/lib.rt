@@ -10,6 +10,7 @@ mod kept;
 mod legs;
 mod numbering;
 mod packed_leg;
+mod passing;
 mod reaching;
 mod serving;
 mod states;

@@ -7,6 +7,7 @@ ghost use Rattle.optra_graph.specs.Settings.{IsSetting};
 ghost use Rattle.optra_graph.specs.StepTables.{AreStepsTo, IsEmpty};
 ghost use Rattle.optra_graph.specs.Moves.{start_state};
 
+use crate::passing::next_set;
 use crate::states::{Layout, State};
 use crate::step_table::StepTable;
 use crate::stepping::{Step, fill_steps};
@@ -52,14 +53,15 @@ pub fn reach(
         (places_of layout.entry) flags.items table.new) }
 {
     let mut steps = Vec::new(alloc);
-    let mut flags = vec![in alloc; false; layout.places() as usize + 1]?;
+    let end = layout.places();
+    let mut flags = vec![in alloc; false; end as usize + 1]?;
     mark_starts(net, bid, layout, &mut flags);
-    for place in 0..layout.places() {
-        if flags[place as usize] {
-            fill_steps(net, bid, layout, layout.state(place), &mut steps)?;
-            mark(&mut flags, &steps);
-            table.add(place, &steps)?;
-        }
+    let mut place = next_set(&flags, 0, end);
+    while place < end {
+        fill_steps(net, bid, layout, layout.state(place), &mut steps)?;
+        mark(&mut flags, &steps);
+        table.add(place, &steps)?;
+        place = next_set(&flags, place + 1, end);
     }
     Ok(flags)
 }
