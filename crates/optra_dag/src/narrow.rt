@@ -202,7 +202,9 @@ fn sum_before(best: i64, node: u32, from: u32) -> i64
     if from == node { best } else { FAR }
 }
 
-/// As [`sweep_any`], where no arc leaves an end: the sum of a node is kept at hand while its arcs are gone through.
+/// As [`sweep_any`], where no arc leaves an end: the sum of a node is kept at hand while its arcs are gone through. Searches
+/// spend their time in its loop, which has all registers to itself where it is no part of its caller.
+#[inline(never)]
 fn sweep_inner<W: NarrowWeight>(
     sums: &mut [i64],
     arcs: &NarrowSlice<'_>,

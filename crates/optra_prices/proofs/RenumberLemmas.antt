@@ -9,6 +9,7 @@ use Rattle.optra_bid.specs.declared.bids.Bid.{Bid}
 use Rattle.optra_walk.specs.declared.Leg.{Leg}
 use Rattle.optra_walk.specs.Families.{Rows}
 use Rattle.optra_graph.specs.Timed.{Timed}
+use Rattle.optra_prices.specs.NarrowTouches.{touch_of, touches_of}
 use Rattle.optra_prices.specs.Rankings.{renumbered, AreNumbersOf, Renumbers}
 use Rattle.optra_prices.specs.Tables.{AreTouches, group_at, uses_in_all, AreGroups}
 use Rattle.optra_prices.specs.Terms.{AreTerms, AreArcs}
@@ -37,6 +38,11 @@ uses_renumbered numbers (touch ∷ touches) =
     let b = sum_by-cons (λ (t : Touch). t.uses) touch touches in
     let i = uses_renumbered numbers touches in
     omega arith
+
+-- narrow touches are renumbered by their rows
+pub each_renumbered : (numbers narrow : List ℕ) (wide : List Touch) → touches_of (map (slice_index numbers) narrow) (map (renumbered numbers) wide) ≡ map (renumbered numbers) (touches_of narrow wide)
+each_renumbered numbers [] wide = refl
+each_renumbered numbers (row ∷ narrow) wide = ap (λ (ts : List Touch). touch_of (slice_index numbers row) ∷ ts) (each_renumbered numbers narrow wide)
 
 pub groups_renumbered : (numbers starts : List ℕ) (touches : List Touch) → AreGroups starts touches → AreGroups starts (map (renumbered numbers) touches)
 groups_renumbered numbers starts touches are =

@@ -1,5 +1,5 @@
 //! Lists of numbers, in 32 bits each while all of them fit.
-ghost use Rattle.std.specs.Prelude.{◌≡◌, ◌<◌, ◌^◌, ◌+◌, [], ◌∷◌, ◌++◌, IfOk, OnOk, length, replicate, slice_index, slice_set};
+ghost use Rattle.std.specs.Prelude.{◌≡◌, ◌<◌, ◌^◌, ◌+◌, [], ◌∷◌, ◌++◌, IfOk, IfSome, OnOk, length, replicate, slice_index, slice_set};
 
 use optra_network::NoMemory;
 use std::alloc::Global;
@@ -138,6 +138,17 @@ impl Numbers {
     {
         self.narrow.shrink_to_fit();
         self.wide.shrink_to_fit();
+    }
+
+    /// The numbers in 32 bits each, where all of them fit.
+    pub(crate) fn narrow(&self) -> Option<&[u32]>
+        ensures { IfSome result (λ numbers. numbers.now ≡ self.now.items) }
+    {
+        if self.is_narrow {
+            Some(&self.narrow)
+        } else {
+            None
+        }
     }
 
     /// The number at a place, and 0 past the last one.

@@ -1,7 +1,8 @@
 //! Touches in four bytes each, since nearly all of them use their row once, and counting uses waits for memory.
-ghost use Rattle.std.specs.Prelude.{◌≡◌, ◌≤◌, ◌<◌, [], ◌∷◌, ◌++◌, IfOk, IfSome, OnOk, length};
+ghost use Rattle.std.specs.Prelude.{◌≡◌, ◌≤◌, ◌<◌, [], ◌∷◌, ◌++◌, IfOk, IfSome, OnOk, length, map, slice_index};
 ghost use Rattle.std.specs.List.{slice_range};
 ghost use Rattle.optra_prices.specs.NarrowTouches.{touch_of};
+ghost use Rattle.optra_prices.specs.Rankings.{renumbered};
 
 use crate::touch::Touch;
 use crate::touch_slice::TouchSlice;
@@ -36,6 +37,31 @@ fn narrowed(touch: Touch) -> Option<u32>
     } else {
         None
     }
+}
+
+/// Each row by the number that stands at its place.
+fn renumber_rows(rows: &mut [u32], numbers: &[u32])
+    ensures { rows.new ≡ map (slice_index numbers.now) rows.old }
+{
+    for k in 0..rows.len() {
+        rows[k] = number_at(numbers, rows[k] as usize);
+    }
+}
+
+/// Each touch by the number that stands at the place of its row.
+fn renumber_each(touches: &mut [Touch], numbers: &[u32])
+    ensures { touches.new ≡ map (renumbered numbers.now) touches.old }
+{
+    for k in 0..touches.len() {
+        touches[k].row = number_at(numbers, touches[k].row) as usize;
+    }
+}
+
+/// The number at a place, and 0 past the last one.
+fn number_at(numbers: &[u32], place: usize) -> u32
+    ensures { result ≡ slice_index numbers.now place }
+{
+    numbers.get(place).copied().unwrap_or(0)
 }
 
 impl Touches {
@@ -74,6 +100,14 @@ impl Touches {
             None => self.wide.push(touch)?,
         }
         Ok(())
+    }
+
+    /// Names rows by the numbers that stand at their places. No memory is taken.
+    pub(crate) fn renumber(&mut self, numbers: &[u32])
+        ensures { self.new ≡ map (renumbered numbers.now) self.old }
+    {
+        renumber_rows(&mut self.narrow, numbers);
+        renumber_each(&mut self.wide, numbers);
     }
 
     /// Lets go the room for more touches.

@@ -60,7 +60,7 @@ pub(crate) fn push_touches<F: RowFamily>(
         };
         let guess = row_at(&touches.slice(), like.saturating_add(k as usize));
         let place = name_row::<F>(named, guess, row)?;
-        let uses = rows.leg_use(net, kind, leg, row);
+        let uses = rows.touched_use(net, kind, leg, row);
         touches.push(Touch { row: place, uses })?;
     }
     Ok(())

@@ -56,6 +56,29 @@ few_of_both {P} {Q} {m} {n} {use_p} {use_q} {ps} {qs} p q = record {
       let c = p.total in let d = q.total in omega (arith, l, a, b, c, d);
 }
 
+-- of the rows of both lists, those of a family stand in its list
+module _ {P Q : Type 0} (ps : List P) (qs : List Q) where
+  first_is : (a b : P) → ◌≡◌ {A = Either P Q} (First a) (First b) → a ≡ b
+  first_is a b e = cc
+
+  second_is : (a b : Q) → ◌≡◌ {A = Either P Q} (Second a) (Second b) → a ≡ b
+  second_is a b e = cc
+
+  apart : {X : Type 0} (a : P) (b : Q) → ◌≡◌ {A = Either P Q} (First a) (Second b) → X
+  apart a b e = cc
+
+  pub first_listed : (p : P) → Contains (both_lists ps qs) (First p) → Contains ps p
+  first_listed p c = elim (in_append (map First ps) (map Second qs) (First p) (in_from (both_lists ps qs) (First p) c)) [
+    | inl i ↦ let m = in_map_from First ps (First p) i in subst (λ r. Contains ps r) (first_is m.source p m.is) (contains_from ps m.source m.inside)
+    | inr i ↦ let m = in_map_from Second qs (First p) i in apart p m.source (sym m.is)
+  ]
+
+  pub second_listed : (q : Q) → Contains (both_lists ps qs) (Second q) → Contains qs q
+  second_listed q c = elim (in_append (map First ps) (map Second qs) (Second q) (in_from (both_lists ps qs) (Second q) c)) [
+    | inl i ↦ let m = in_map_from First ps (Second q) i in apart m.source q m.is
+    | inr i ↦ let m = in_map_from Second qs (Second q) i in subst (λ r. Contains qs r) (second_is m.source q m.is) (contains_from qs m.source m.inside)
+  ]
+
 module _ {P Q : Type 0} (cmp_p : P → P → Ordering) (cmp_q : Q → Q → Ordering) (cmp : Either P Q → Either P Q → Ordering)
     (firsts : (a b : P) → cmp (First a) (First b) ≡ cmp_p a b) (seconds : (a b : Q) → cmp (Second a) (Second b) ≡ cmp_q a b)
     (across : (a : P) (b : Q) → cmp (First a) (Second b) ≡ Less) where
@@ -80,29 +103,14 @@ module _ {P Q : Type 0} (cmp_p : P → P → Ordering) (cmp_q : Q → Q → Orde
         let b : sum_by u sq ≡ sum_by use_q qs = sum_by_along Second u qs in let f = few.total in omega (arith, l, a, b, f);
   }
     where
-      first_is : (a b : P) → ◌≡◌ {A = Either P Q} (First a) (First b) → a ≡ b
-      first_is a b e = cc
-
-      second_is : (a b : Q) → ◌≡◌ {A = Either P Q} (Second a) (Second b) → a ≡ b
-      second_is a b e = cc
-
-      apart : {X : Type 0} (a : P) (b : Q) → ◌≡◌ {A = Either P Q} (First a) (Second b) → X
-      apart a b e = cc
-
       used : (row : Either P Q) → 0 < either_of use_p use_q row ↔ Contains (both_lists ps qs) row
       used (First p) = (
         (λ h. contains_from (both_lists ps qs) (First p) (in_append_left (map First ps) (map Second qs) (First p) (in_map First ps p (in_from ps p ((lp.used p).0 h))))),
-        (λ c. elim (in_append (map First ps) (map Second qs) (First p) (in_from (both_lists ps qs) (First p) c)) [
-          | inl i ↦ let m = in_map_from First ps (First p) i in (lp.used p).1 (subst (λ r. Contains ps r) (first_is m.source p m.is) (contains_from ps m.source m.inside))
-          | inr i ↦ let m = in_map_from Second qs (First p) i in apart p m.source (sym m.is)
-        ]),
+        (λ c. (lp.used p).1 (first_listed ps qs p c)),
       )
       used (Second q) = (
         (λ h. contains_from (both_lists ps qs) (Second q) (in_append_right (map First ps) (map Second qs) (Second q) (in_map Second qs q (in_from qs q ((lq.used q).0 h))))),
-        (λ c. elim (in_append (map First ps) (map Second qs) (Second q) (in_from (both_lists ps qs) (Second q) c)) [
-          | inl i ↦ let m = in_map_from First ps (Second q) i in apart m.source q m.is
-          | inr i ↦ let m = in_map_from Second qs (Second q) i in (lq.used q).1 (subst (λ r. Contains qs r) (second_is m.source q m.is) (contains_from qs m.source m.inside))
-        ]),
+        (λ c. (lq.used q).1 (second_listed ps qs q c)),
       )
 
       are_rows : (row : Either P Q) → 0 < either_of use_p use_q row → either_of test_p test_q row ≡ true

@@ -100,6 +100,11 @@ impl RowFamily for HeadwayRows {
         }
     }
 
+    /// A leg uses each of its rows once.
+    fn touched_use(&self, _net: &Network, _kind: TypeId, _leg: Leg, _row: HRow) -> u32 {
+        1
+    }
+
     fn touched(&self, net: &Network, kind: TypeId, leg: Leg, k: u32) -> Option<HRow> {
         let least = u32::from(least_of(net, leg.track, kind));
         if k < least {
@@ -122,7 +127,9 @@ impl RowFamily for HeadwayRows {
         match row {
             HRow::Window { track, minute } => minute_place(track.0, minute),
             HRow::Pair {
-                track, first_at, ..
+                track,
+                first_at,
+                ..
             } => track_places(net) + minute_place(track.0, first_at),
         }
     }

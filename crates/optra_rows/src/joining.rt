@@ -102,6 +102,19 @@ impl<A: RowFamily, B: RowFamily> RowFamily for Both<A, B> {
         }
     }
 
+    fn touched_use(
+        &self,
+        net: &Network,
+        kind: TypeId,
+        leg: Leg,
+        row: Either<A::Row, B::Row>,
+    ) -> u32 {
+        match row {
+            Either::First(p) => self.first.touched_use(net, kind, leg, p),
+            Either::Second(q) => self.second.touched_use(net, kind, leg, q),
+        }
+    }
+
     fn touched(
         &self,
         net: &Network,

@@ -4,7 +4,7 @@
 //! This is the packing form of train timetabling: R. Borndörfer and T. Schlechte, "Models for Railway Track
 //! Allocation", 2007. Searches, prices and certificates speak of rows alone, so a rule that is stated by a new family
 //! needs no change in them.
-ghost use Rattle.std.specs.Prelude.{◌≡◌, ℕ, ◌≤◌, ◌↔◌, List, Option, length, slice_get, true, All};
+ghost use Rattle.std.specs.Prelude.{◌≡◌, ℕ, ◌≤◌, ◌↔◌, List, Option, length, slice_get, true, All, Contains};
 ghost use Rattle.optra_network.specs.Net.{Net, IsProper, MayUse};
 ghost use Rattle.optra_network.specs.declared.TypeId.{TypeId as Kind};
 ghost use Rattle.optra_walk.specs.declared.Leg.{Leg as Step};
@@ -54,6 +54,16 @@ pub trait RowFamily {
     fn leg_use(&self, net: &Network, kind: TypeId, leg: Leg, row: Self::Row) -> u32
         requires { IsUsable net.now kind leg }
         ensures { result ≡ (rows_of self.now net.now).uses kind leg row };
+
+    /// How much of a row a usable leg of the type uses, where it uses the row. Of such a row, as `touched` answers them, a
+    /// family may know it without a look at the network.
+    fn touched_use(&self, net: &Network, kind: TypeId, leg: Leg, row: Self::Row) -> u32
+        requires usable { IsUsable net.now kind leg }
+        requires used { Contains (rows_used self.now net.now kind leg) row }
+        ensures { result ≡ (rows_of self.now net.now).uses kind leg row }
+    {
+        self.leg_use(net, kind, leg, row)
+    }
 
     /// The row at place `k`, from 0, of the rows that a usable leg of the type uses, in ascending order, or `None` from
     /// the end on. There are at most 8,192, each use is above zero, and the uses add up to at most 8,192.

@@ -25,8 +25,8 @@ loop-k-preserved g c =
       rows = all_grows (λ row. rows.is_row row ≡ true) old new c.in-Some.row number.more c.loop-k.invariant.rows
           (lists.are_rows c.in-Some.row ((lists.used c.in-Some.row).1 (at_contains (g.F.RowFamily.rows_used f net c.args.kind c.args.leg) c.loop-k.k c.in-Some.row at)));
       extends = extends_more _ old new c.loop-k.invariant.extends grown;
-      touches = adds_touch old new (rows.uses c.args.kind c.args.leg) (g.F.RowFamily.rows_used f net c.args.kind c.args.leg) c.loop-k.k c.in_ok-place.place c.leg_use-uses.result c.in-Some.row _ _ _
-          c.loop-k.invariant.touches grown at number.place c.leg_use-uses.ensures c.in_ok-push.ensures;
+      touches = adds_touch old new (rows.uses c.args.kind c.args.leg) (g.F.RowFamily.rows_used f net c.args.kind c.args.leg) c.loop-k.k c.in_ok-place.place c.touched_use-uses.result c.in-Some.row _ _ _
+          c.loop-k.invariant.touches grown at number.place c.touched_use-uses.ensures c.in_ok-push.ensures;
     }
 
 pub returns-in_default : goal.returns-in_default
@@ -53,3 +53,7 @@ returns g c =
       extends = c.loop-k.invariant.extends;
       touches = all_touches _ _ used c.loop-k.k _ _ c.loop-k.invariant.touches past;
     }
+
+pub touched_use-uses-requires-clause-used : goal.touched_use-uses-requires-clause-used
+touched_use-uses-requires-clause-used g c =
+    at_contains (g.F.RowFamily.rows_used c.args.rows.now c.args.net.now c.args.kind c.args.leg) c.loop-k.k c.in-Some.row (sym c.touched.ensures ∙ c.in-Some.is)
