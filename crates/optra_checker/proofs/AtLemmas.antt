@@ -9,6 +9,7 @@ use Rattle.optra_node.specs.declared.Item.{Item}
 use Rattle.optra_node.specs.Trees.{children, open_after, placed, root, places, IsTree}
 use Rattle.optra_node.proofs.LoadLemmas.{contains_head}
 use Rattle.optra_node.proofs.PlaceLemmas.{one_more}
+pub use Rattle.optra_rests.proofs.BoolLemmas.{not_both}
 use Rattle.optra_checker.specs.ToCome.{to_come, open_with, IsNextWay, IsAt}
 
 placed-append : {R : Type 0} (ways : List (List Decision)) (items later : List (Item R)) → placed ways (items ++ later) ≡ placed ways items ++ placed (open_after ways items) later
@@ -84,9 +85,6 @@ module _ {R : Type 0} (tree : List (Item R)) where
 -- false is not true
 pub no_true : IsTrue false → ⊥
 no_true t = false≢true t
-
-pub not_both : (r : Bool) → r ≡ false → IsTrue r → ⊥
-not_both r e t = false≢true (sym e ∙ t)
 
 pub is_not : (b : Bool) (P : Type 0) → (IsTrue b ↔ P) → IsTrue (not b) ↔ (P → ⊥)
 is_not true P h = ((λ t. absurd (no_true t)), (λ n. absurd (n (h.0 refl))))

@@ -27,7 +27,7 @@ use Rattle.optra_checker.specs.Frees.{free_weights, Attains, IsFree, IsStillFree
 use Rattle.optra_checker.specs.Leaves.{leaf_weights}
 use Rattle.optra_checker.specs.Loaded.{IsMissing, KeepsOff}
 use Rattle.optra_checker.specs.Tests.{may_start_at, lets_leg, all_let, has_room, may_have_leg}
-use Rattle.optra_checker.specs.Weights.{Weights, IsOpenWalk, IsBestWorth, IsWorthSize, worth_of}
+use Rattle.optra_rests.specs.Weights.{Weights, IsOpenWalk, IsBestWorth, IsWorthSize, worth_of}
 use Rattle.optra_checker.specs.declared.best_walk.BestWalk.{BestWalk}
 use Rattle.optra_checker.specs.declared.best_walks.BestWalks.{BestWalks}
 use Rattle.optra_checker.proofs.LeastPriceLemmas.{sum_least, price_least}

@@ -19,7 +19,7 @@ use Rattle.optra_node.specs.Certificates.{IsBoundOf, IsWithin, IsGreatestBound}
 use Rattle.optra_node.proofs.LoadLemmas.{contains_head}
 use Rattle.optra_node.proofs.UniqueLemmas.{bound_unique}
 use Rattle.optra_checker.specs.Bounds.{IsUnpriced, IsItemBound, IsGreatestOf}
-use Rattle.optra_checker.specs.Rests.{greater_of}
+use Rattle.optra_rests.specs.Rests.{greater_of}
 
 le_or : (a b : ℤ) → (b ≤ℤ a) ⊎ (a ≤ℤ b)
 le_or (pos m) (pos n) = elim (cases_lt m n) as (λ _. (pos n ≤ℤ pos m) ⊎ (pos m ≤ℤ pos n)) [ inl l ↦ inr (omega (arith, ints)) | inr l ↦ inl (omega (arith, ints)) ]

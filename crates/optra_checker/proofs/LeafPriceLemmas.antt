@@ -19,7 +19,7 @@ use Rattle.optra_walk.specs.Families.{Rows}
 use Rattle.std.proofs.lemmas.List.Sorted.{searchable_from_sorted}
 use Rattle.optra_node.specs.Duals.{sum_of, PriceList, ArePrices, price_of, capacity_price}
 use Rattle.optra_node.specs.Certificates.{AreAscending}
-use Rattle.optra_checker.specs.Sizes.{IsLegPrice}
+use Rattle.optra_rests.specs.Sizes.{IsLegPrice}
 use Rattle.optra_node.proofs.SumLemmas.{sum_of-cons, sum_of-append}
 
 default_same : {X : Type 0} (xs : List X) (k : ℕ) (d e : X) → k < length xs → get_or xs k d ≡ get_or xs k e

@@ -8,7 +8,7 @@ use Rattle.optra_walk.specs.Families.{Rows}
 use Rattle.optra_node.specs.Duals.{sum_of, PriceList, ArePrices, leg_price}
 use Rattle.optra_node.proofs.SumLemmas.{sum_of-cons}
 use Rattle.optra_checker.proofs.LeafPriceLemmas.{prices_small}
-use Rattle.optra_checker.proofs.ProductLemmas.{product_within}
+use Rattle.optra_rests.proofs.ProductLemmas.{product_within}
 
 -- a sum of nothing below zero
 pub sum_least : {X : Type 0} (f : X → ℤ) (xs : List X) → ((k : ℕ) (d : X) → k < length xs → pos 0 ≤ℤ f (get_or xs k d)) → pos 0 ≤ℤ sum_of f xs

@@ -15,7 +15,7 @@ use Rattle.optra_node.specs.Summaries.{Summed}
 use Rattle.optra_checker.specs.Frees.{Attains, IsStillFree}
 use Rattle.optra_checker.specs.Leaves.{leaf_weights, weights_at}
 use Rattle.optra_checker.specs.Loaded.{AreRising, IsMissing}
-use Rattle.optra_checker.specs.Weights.{Weights, IsOpenWalk, IsBestWorth, IsWorthSize}
+use Rattle.optra_rests.specs.Weights.{Weights, IsOpenWalk, IsBestWorth, IsWorthSize}
 use Rattle.optra_checker.specs.declared.best_walk.BestWalk.{BestWalk}
 use Rattle.optra_checker.specs.declared.best_walks.BestWalks.{BestWalks}
 

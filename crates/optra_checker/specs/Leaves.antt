@@ -11,7 +11,7 @@ use Rattle.optra_node.specs.Nodes.{kind_at}
 use Rattle.optra_node.specs.Summaries.{Summed}
 use Rattle.optra_node.specs.Duals.{sum_of, PriceList, leg_price, IsGreatest, IsOffer, IsStuck, IsTerm}
 use Rattle.optra_checker.specs.Tests.{may_start_at, may_have_leg}
-use Rattle.optra_checker.specs.Weights.{Weights}
+use Rattle.optra_rests.specs.Weights.{Weights}
 
 -- the starts and legs that the node allows a walk of the bid, and the prices of the legs
 abbrev pub leaf_weights : {R : Type 0} → Net → Rows R → (TypeId → Leg → List R) → List Bid → List Decision → ℕ → PriceList R → TypeId → Weights

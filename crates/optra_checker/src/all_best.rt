@@ -4,8 +4,8 @@ ghost use Rattle.optra_checker.specs.BestWalks.{AreAllBest, AreAllBestAt, AreLat
 
 use crate::best_walks::BestWalks;
 use crate::open_node::OpenNode;
-use crate::rest_table::RestTable;
 use optra_network::NoMemory;
+use optra_rests::RestTable;
 use optra_walk::RowFamily;
 use std::alloc::Global;
 

@@ -11,17 +11,16 @@ ghost use Rattle.optra_node.specs.Nodes.{kind_at};
 ghost use Rattle.optra_walk.specs.Families.{IsUsable};
 ghost use Rattle.optra_checker.specs.BestWalks.{AreBestAt, AreFreeAt, AreLatestAt, AreTurned, IsBestAt, IsFoundAt, last_best, weights_within};
 ghost use Rattle.optra_checker.specs.Frees.{Attains, IsStillFree};
-ghost use Rattle.optra_checker.specs.Weights.{IsWorthSize};
+ghost use Rattle.optra_rests.specs.Weights.{IsWorthSize};
 
 use crate::best_walk::BestWalk;
 use crate::leaf_prices::are_none;
 use crate::leaf_search::best_found;
 use crate::open_node::OpenNode;
-use crate::rest_table::RestTable;
 use crate::staying::{are_free, stays_best};
-use crate::tracing::{Admits, trace};
 use optra_network::{Minute, NoMemory};
 use optra_node::is_formed_leg;
+use optra_rests::{Admits, RestTable, trace};
 use optra_walk::{Leg, RowFamily};
 use std::alloc::Global;
 

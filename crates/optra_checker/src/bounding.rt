@@ -12,11 +12,10 @@ use crate::best_walks::BestWalks;
 use crate::frees::find_frees;
 use crate::node_room::{NodeRoom, pass, root_room};
 use crate::open_node::OpenNode;
-use crate::rest_table::RestTable;
-use crate::rests::greater;
 use crate::terms::leaf_bound;
 use optra_network::{Cents, NoMemory};
 use optra_node::{Item, Prices};
+use optra_rests::{RestTable, greater};
 use optra_walk::{Instance, RowFamily};
 use std::alloc::Global;
 

@@ -7,13 +7,13 @@ use crate::bounding::bound_holds;
 use crate::fitting::rule_holds;
 use crate::leaves::leaves_hold;
 use crate::pricing::prices_hold;
-use crate::rest_table::RestTable;
 use crate::splitting::splits_hold;
 use crate::walks::{revenue, walks_hold};
 use crate::{Reason, Verdict};
 use optra_cert::Certificate;
 use optra_network::NoMemory;
 use optra_node::Item;
+use optra_rests::RestTable;
 use optra_walk::{Instance, RowFamily, Walk};
 use std::alloc::Global;
 

@@ -6,9 +6,9 @@ ghost use Rattle.optra_walk.specs.Choices.{IsChoice};
 ghost use Rattle.optra_walk.specs.Families.{IsUsable, entries_of, load_of, total_of};
 ghost use Rattle.optra_checker.specs.Fits.{AreWithin};
 
-use crate::ways::kind_of;
 use optra_bid::Bid;
 use optra_network::{Network, NoMemory, TypeId};
+use optra_rests::kind_of;
 use optra_walk::{Leg, RowFamily, Walk};
 use std::alloc::Global;
 use std::collections::BTreeMap;

@@ -10,13 +10,9 @@ ghost use Rattle.optra_checker.specs.Loaded.{KeepsOff};
 use crate::best_walk::BestWalk;
 use crate::best_walks::BestWalks;
 use crate::loaded::all_keep_off;
-use crate::rest_table::RestTable;
-use crate::table::search;
-use crate::tracing::{EveryLeg, trace};
-use crate::ways::kind_of;
-use crate::weighing::Weighing;
 use optra_bid::Bid;
 use optra_network::{Minute, Network, NoMemory, TypeId};
+use optra_rests::{EveryLeg, RestTable, Weighing, kind_of, search, trace};
 use optra_walk::{Instance, Leg, RowFamily};
 use std::alloc::Global;
 

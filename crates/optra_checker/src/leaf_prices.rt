@@ -4,7 +4,7 @@ ghost use Rattle.std.specs.Ordering.{eq_by_cmp};
 ghost use Rattle.optra_walk.specs.Families.{IsUsable};
 ghost use Rattle.optra_node.specs.Duals.{ArePrices, price_of, leg_price, capacity_price};
 ghost use Rattle.optra_node.specs.Certificates.{AreAscending};
-ghost use Rattle.optra_checker.specs.Sizes.{IsRowPrice, IsLegPrice, IsCapacityPrice};
+ghost use Rattle.optra_rests.specs.Sizes.{IsRowPrice, IsLegPrice, IsCapacityPrice};
 
 use optra_network::{Network, TypeId};
 use optra_node::prices_by_used_rows;

@@ -5,8 +5,8 @@ ghost use Rattle.optra_node.specs.Certificates.{AreAscending};
 ghost use Rattle.optra_checker.specs.Loaded.{AreRising, AreLoaded};
 
 use crate::open_node::OpenNode;
-use crate::weighing::Weighing;
 use optra_network::Minute;
+use optra_rests::Weighing;
 use optra_walk::{Leg, RowFamily};
 
 /// A bid at a node, with prices: a leg costs its price, and a walk may have the starts and the legs

@@ -8,10 +8,10 @@ ghost use Rattle.optra_checker.specs.Opens.{IsRoom};
 use crate::leaf_search::best_found;
 use crate::node_room::{NodeRoom, pass, root_room};
 use crate::open_node::OpenNode;
-use crate::rest_table::RestTable;
 use crate::terms::offer_of;
 use optra_network::NoMemory;
 use optra_node::Item;
+use optra_rests::RestTable;
 use optra_walk::{Instance, RowFamily};
 use std::alloc::Global;
 

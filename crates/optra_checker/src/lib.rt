@@ -10,15 +10,13 @@
 //! walks of each bid, where nothing is decided, used or priced, and keeps the legs of one. Where a
 //! split no longer allows them, the best walk that it allows is found, which serves the nodes below
 //! ([`best_walks`]). At a leaf that still allows the walk, at no price, nothing is better. Only where
-//! the leaf doesn't, [`table`] searches the bid's walks by a table over minutes, stations and stops
-//! done, that is filled once from late to early: only where and when a train of the bid may be, and
-//! in room that stays from search to search.
+//! the leaf doesn't, [`optra_rests`] searches the bid's walks by a table over minutes, stations and
+//! stops done, in room that stays from search to search.
 #![tactic(auto)]
 
 use optra_network::Cents;
 
 mod all_best;
-mod asks;
 mod best_walk;
 mod best_walks;
 mod bounding;
@@ -35,20 +33,11 @@ mod loaded;
 mod node_room;
 mod open_node;
 mod pricing;
-mod reach;
-mod rest_table;
-mod rests;
-mod shares;
 mod splitting;
-mod states;
 mod staying;
-mod table;
 mod taking;
 mod terms;
-mod tracing;
 mod walks;
-mod ways;
-mod weighing;
 
 pub use checking::check;
 

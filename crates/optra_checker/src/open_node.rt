@@ -12,10 +12,10 @@ ghost use Rattle.optra_checker.specs.BestWalks.{AreLatestAt};
 ghost use Rattle.optra_checker.specs.Leaves.{weights_at};
 ghost use Rattle.optra_checker.specs.Keyed.{yes_part};
 ghost use Rattle.optra_checker.specs.Loaded.{AreRising, AreLoaded, KeepsOff};
-ghost use Rattle.optra_checker.specs.Sizes.{IsLegPrice, IsCapacityPrice};
+ghost use Rattle.optra_rests.specs.Sizes.{IsLegPrice, IsCapacityPrice};
 ghost use Rattle.optra_checker.specs.Tests.{may_have_leg, may_start_at};
 ghost use Rattle.optra_checker.specs.ToCome.{AreKept};
-ghost use Rattle.optra_checker.specs.Weights.{AreAlike};
+ghost use Rattle.optra_rests.specs.Weights.{AreAlike};
 
 use crate::decision_rows::rows_of_decision;
 use crate::leaf_prices::{capacity_price, leg_price};

@@ -6,13 +6,13 @@ ghost use Rattle.optra_node.specs.Duals.{ArePrices, whole_cents};
 ghost use Rattle.optra_node.specs.Certificates.{AreAscending, IsBoundOf};
 ghost use Rattle.optra_checker.specs.BestWalks.{AreAllBestAt, AreBestAt, AreLatestAt, IsBestAt};
 ghost use Rattle.optra_checker.specs.Leaves.{IsBestOffer, AreTerms, IsSumSize, plus_of, dual_by};
-ghost use Rattle.optra_checker.specs.Sizes.{IsCapacityPrice};
-ghost use Rattle.optra_checker.specs.Weights.{IsWorthSize};
+ghost use Rattle.optra_rests.specs.Sizes.{IsCapacityPrice};
+ghost use Rattle.optra_rests.specs.Weights.{IsWorthSize};
 
 use crate::best_walks::BestWalks;
 use crate::open_node::OpenNode;
-use crate::rest_table::RestTable;
 use optra_network::NoMemory;
+use optra_rests::RestTable;
 use optra_walk::RowFamily;
 use std::alloc::Global;
 

@@ -1,7 +1,7 @@
 use Rattle.std.proofs.Common.{◌∙◌, [], length, sym, ap, subst, arith}
 use Rattle.std.specs.Prelude.{IfSome}
 use Rattle.optra_checker.specs.BestWalks.{IsBestAt}
-use Rattle.optra_checker.specs.Weights.{IsWorthSize}
+use Rattle.optra_rests.specs.Weights.{IsWorthSize}
 use Rattle.optra_checker.proofs.best_walks.find_best.Goals as goal
 
 pub best_found-requires-clause-bid : goal.best_found-requires-clause-bid

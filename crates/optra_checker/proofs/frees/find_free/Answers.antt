@@ -2,7 +2,7 @@ use Rattle.std.proofs.Common.{length, refl, sym, ap, subst, arith}
 use Rattle.std.specs.Prelude.{IfSome}
 use Rattle.optra_network.specs.declared.TypeId.{TypeId}
 use Rattle.optra_checker.specs.Frees.{free_weights}
-use Rattle.optra_checker.specs.Weights.{IsBestWorth, IsWorthSize}
+use Rattle.optra_rests.specs.Weights.{IsBestWorth, IsWorthSize}
 use Rattle.optra_checker.proofs.frees.find_free.Goals as goal
 
 pub search-worth-requires-clause-path : goal.search-worth-requires-clause-path

@@ -4,9 +4,9 @@ use Rattle.std.specs.Int.{w128}
 use Rattle.std.proofs.lemmas.Int.{ints}
 use Rattle.std.proofs.lemmas.List.{take_all}
 use Rattle.optra_node.specs.Duals.{IsPrice, capacity_price}
-use Rattle.optra_checker.specs.Sizes.{IsRowPrice}
+use Rattle.optra_rests.specs.Sizes.{IsRowPrice}
 use Rattle.optra_checker.proofs.LeafPriceLemmas.{capacity_more}
-use Rattle.optra_checker.proofs.ProductLemmas.{row_price_same, product_is, more_least, more_most, more_fit, more_same}
+use Rattle.optra_rests.proofs.ProductLemmas.{row_price_same, product_is, more_least, more_most, more_fit, more_same}
 use Rattle.optra_checker.proofs.leaf_prices.capacity_price.Goals as goal
 
 pub times-total-requires : goal.times-total-requires

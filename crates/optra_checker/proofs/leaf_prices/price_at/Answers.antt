@@ -1,8 +1,8 @@
 use Rattle.std.proofs.Common.{◌<◌, ◌≤◌, length, get_or, rules, sym, ◌∙◌, subst}
 use Rattle.std.specs.Prelude.{MatchResult}
 use Rattle.std.proofs.lemmas.List.Sorted.{answers_always}
-use Rattle.optra_checker.specs.Sizes.{IsRowPrice}
-use Rattle.optra_checker.proofs.ProductLemmas.{row_price_same}
+use Rattle.optra_rests.specs.Sizes.{IsRowPrice}
+use Rattle.optra_rests.proofs.ProductLemmas.{row_price_same}
 use Rattle.optra_checker.proofs.LeafPriceLemmas.{price_found, price_missing, may_search, found_at, missing_at}
 use Rattle.optra_checker.proofs.leaf_prices.price_at.Goals as goal
 

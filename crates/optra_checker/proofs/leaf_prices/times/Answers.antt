@@ -1,5 +1,5 @@
 use Rattle.std.proofs.Common.{arith, ◌<◌}
-use Rattle.optra_checker.proofs.ProductLemmas.{price_times_fit, price_times_value}
+use Rattle.optra_rests.proofs.ProductLemmas.{price_times_fit, price_times_value}
 use Rattle.optra_checker.proofs.leaf_prices.times.Goals as goal
 
 pub overflow_mul-result : goal.overflow_mul-result

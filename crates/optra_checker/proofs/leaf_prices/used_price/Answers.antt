@@ -3,8 +3,8 @@ use Rattle.std.specs.Prelude.{ℤ, pos, ◌+ℤ◌, ◌*ℤ◌, ◌≤ℤ◌}
 use Rattle.std.specs.Int.{w128}
 use Rattle.optra_checker.proofs.LeafPriceLemmas.{term_more, uses_more, priced_all, prices_small}
 use Rattle.optra_checker.proofs.LoadedLemmas.{no_more}
-use Rattle.optra_checker.proofs.ProductLemmas.{row_price_same, product_is, more_least, more_most, more_fit, more_same}
-use Rattle.optra_checker.specs.Sizes.{IsRowPrice}
+use Rattle.optra_rests.proofs.ProductLemmas.{row_price_same, product_is, more_least, more_most, more_fit, more_same}
+use Rattle.optra_rests.specs.Sizes.{IsRowPrice}
 use Rattle.optra_checker.proofs.leaf_prices.used_price.Goals as goal
 
 pub touched-requires : goal.touched-requires

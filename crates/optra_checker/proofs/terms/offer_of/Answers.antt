@@ -4,7 +4,7 @@ use Rattle.std.specs.Int.{w128}
 use Rattle.std.proofs.lemmas.Int.{to_z-of_z}
 use Rattle.optra_network.specs.Net.{IsProper}
 use Rattle.optra_node.specs.Duals.{IsGreatest, IsOffer}
-use Rattle.optra_checker.specs.Weights.{IsWorthSize}
+use Rattle.optra_rests.specs.Weights.{IsWorthSize}
 use Rattle.optra_checker.proofs.LeafLemmas.{best_yes, best_no, size_above}
 use Rattle.optra_checker.proofs.terms.offer_of.Goals as goal
 

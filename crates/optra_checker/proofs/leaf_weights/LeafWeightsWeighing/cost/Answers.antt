@@ -1,5 +1,5 @@
 use Rattle.std.proofs.Common.{◌∙◌, sym}
-use Rattle.optra_checker.proofs.ProductLemmas.{leg_price_same, price_is_cost}
+use Rattle.optra_rests.proofs.ProductLemmas.{leg_price_same, price_is_cost}
 use Rattle.optra_checker.proofs.leaf_weights.LeafWeightsWeighing.cost.Goals as goal
 
 pub leg_ok_beside-requires-clause-rising : goal.leg_ok_beside-requires-clause-rising

@@ -1,8 +1,8 @@
 use Rattle.std.proofs.Common.{◌≡◌, ◌∙◌, sym, subst}
 use Rattle.optra_node.specs.Duals.{ArePrices, capacity_price}
 use Rattle.optra_node.specs.Summaries.{Summed}
-use Rattle.optra_checker.specs.Sizes.{IsCapacityPrice}
-use Rattle.optra_checker.proofs.ProductLemmas.{capacity_price_same}
+use Rattle.optra_rests.specs.Sizes.{IsCapacityPrice}
+use Rattle.optra_rests.proofs.ProductLemmas.{capacity_price_same}
 use Rattle.optra_checker.proofs.open_node.OpenNode.capacity_price.Goals as goal
 
 pub capacity_price-requires : goal.capacity_price-requires

@@ -4,8 +4,8 @@ use Rattle.optra_walk.specs.Families.{IsUsable}
 use Rattle.optra_node.specs.Nodes.{kind_at}
 use Rattle.optra_node.specs.Duals.{ArePrices, leg_price}
 use Rattle.optra_node.specs.Summaries.{Summed}
-use Rattle.optra_checker.specs.Sizes.{IsLegPrice}
-use Rattle.optra_checker.proofs.ProductLemmas.{leg_price_same}
+use Rattle.optra_rests.specs.Sizes.{IsLegPrice}
+use Rattle.optra_rests.proofs.ProductLemmas.{leg_price_same}
 use Rattle.optra_checker.proofs.open_node.OpenNode.leg_price.Goals as goal
 
 pub leg_price-requires-clause-ascending : goal.leg_price-requires-clause-ascending

@@ -1,4 +1,0 @@
-use Rattle.optra_checker.proofs.rest_table.RestTable.is_late.Goals as goal
-
-pub end-requires : goal.end-requires
-end-requires c = c.requires.table

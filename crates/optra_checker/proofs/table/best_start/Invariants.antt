@@ -1,6 +1,0 @@
--- The best of the walks that start before the minute.
-use Rattle.optra_checker.specs.Starts.{IsBestStart, IsBefore}
-use Rattle.optra_checker.proofs.table.best_start.Given as goal
-
-abbrev pub invariant-loop-minute : goal.invariant-loop-minute
-invariant-loop-minute g l = IsBestStart (g.W.Weighing.weights l.weighing) l.net l.bid (IsBefore l.minute) l.best

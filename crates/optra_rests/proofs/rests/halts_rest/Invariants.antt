@@ -1,0 +1,11 @@
+-- The best of the halts with shorter dwells.
+use Rattle.optra_rests.specs.Asks.{AreAsked}
+use Rattle.optra_rests.specs.Rests.{IsBestRest}
+use Rattle.optra_rests.specs.Ways.{IsHaltBelow}
+use Rattle.optra_rests.proofs.rests.halts_rest.Given as goal
+
+abbrev pub invariant-loop-dwell : goal.invariant-loop-dwell
+invariant-loop-dwell g l = record {
+  best : IsBestRest (g.W.Weighing.weights l.weighing) l.net l.bid l.way.from (IsHaltBelow l.way.from l.way.track l.dwell) l.best;
+  asks : AreAsked (g.W.Weighing.weights l.weighing) l.asks;
+}
