@@ -22,19 +22,19 @@ use Rattle.optra_node.specs.declared.Decision.{Decision}
 use Rattle.optra_node.specs.Nodes.{IsBlocked, is_yes_for, kind_at, others_load, uses_at, yes_uses}
 use Rattle.optra_node.specs.Duals.{PriceList, ArePrices}
 use Rattle.optra_node.specs.Spans.{Lets}
-use Rattle.optra_checker.specs.BestWalks.{IsCeiling, weights_within, IsBestWalk, last_best, AreBestWalks, AreBestOf, AreTurned, AreAllBest, AreLastRows}
+use Rattle.optra_checker.specs.BestWalks.{IsCeiling, weights_within, IsBestWalk, last_best, AreBestWalks, AreBestOf, AreTurned, AreAllBest}
+use Rattle.optra_open.specs.Loaded.{AreLastRows, IsMissing, KeepsOff}
 use Rattle.optra_checker.specs.Frees.{free_weights, Attains, IsFree, IsStillFree}
-use Rattle.optra_checker.specs.Leaves.{leaf_weights}
-use Rattle.optra_checker.specs.Loaded.{IsMissing, KeepsOff}
-use Rattle.optra_checker.specs.Tests.{may_start_at, lets_leg, all_let, has_room, may_have_leg}
+use Rattle.optra_open.specs.NodeWeights.{leaf_weights}
+use Rattle.optra_open.specs.Tests.{may_start_at, lets_leg, all_let, has_room, may_have_leg}
 use Rattle.optra_rests.specs.Weights.{Weights, IsOpenWalk, IsBestWorth, IsWorthSize, worth_of}
 use Rattle.optra_checker.specs.declared.best_walk.BestWalk.{BestWalk}
 use Rattle.optra_checker.specs.declared.best_walks.BestWalks.{BestWalks}
 use Rattle.optra_checker.proofs.LeastPriceLemmas.{sum_least, price_least}
 use Rattle.optra_checker.proofs.LeafLemmas.{kind_is}
-use Rattle.optra_checker.proofs.LeafPriceLemmas.{none_left}
-use Rattle.optra_checker.proofs.LoadedLemmas.{off_free}
-use Rattle.optra_checker.proofs.TestLemmas.{start_tested, leg_tested}
+use Rattle.optra_open.proofs.LeafPriceLemmas.{none_left}
+use Rattle.optra_open.proofs.LoadedLemmas.{off_free}
+use Rattle.optra_open.proofs.TestLemmas.{start_tested, leg_tested}
 
 -- a test of each element, of the first ones alone
 list_all_take : {X : Type 0} (p : X → Bool) (xs : List X) (k : ℕ) → list_all p xs ≡ true → list_all p (take k xs) ≡ true

@@ -21,9 +21,10 @@ use Rattle.optra_node.specs.Duals.{sum_of, PriceList, capacity_price, IsGreatest
 use Rattle.optra_node.specs.Certificates.{IsBoundOf}
 use Rattle.optra_node.proofs.SpanLemmas.{tests_pass, passes_allowed}
 use Rattle.optra_node.proofs.SumLemmas.{sum_of-cons, sum_of-append}
-use Rattle.optra_checker.specs.Leaves.{leaf_weights, IsBestOffer, IsStuckBelow, AreTerms, IsSumSize, plus_of, dual_by}
+use Rattle.optra_checker.specs.Leaves.{IsBestOffer, IsStuckBelow, AreTerms, IsSumSize, plus_of, dual_by}
+use Rattle.optra_open.specs.NodeWeights.{leaf_weights}
 use Rattle.optra_rests.specs.Weights.{Weights, IsOpenWalk, IsWorth, IsBestWorth, IsWorthSize}
-use Rattle.optra_checker.proofs.TestLemmas.{start_tested, leg_tested}
+use Rattle.optra_open.proofs.TestLemmas.{start_tested, leg_tested}
 
 module _ {R : Type 0} (cmp : R → R → Ordering) (net : Net) (proper : IsProper net) (rows : Rows R) (used : TypeId → Leg → List R) (lists : (kind : TypeId) (leg : Leg) → IsUsable net kind leg → ListsRows cmp rows.is_row (rows.uses kind leg) (used kind leg))
     (bids : List Bid) (node : List Decision) (prices : PriceList R) (number : ℕ) (bid : Bid) where

@@ -7,7 +7,7 @@ use Rattle.optra_walk.specs.declared.Leg.{Leg}
 use Rattle.optra_walk.specs.Families.{Rows}
 use Rattle.optra_node.specs.Duals.{sum_of, PriceList, ArePrices, leg_price}
 use Rattle.optra_node.proofs.SumLemmas.{sum_of-cons}
-use Rattle.optra_checker.proofs.LeafPriceLemmas.{prices_small}
+use Rattle.optra_open.proofs.LeafPriceLemmas.{prices_small}
 use Rattle.optra_rests.proofs.ProductLemmas.{product_within}
 
 -- a sum of nothing below zero

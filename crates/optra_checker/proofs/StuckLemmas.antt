@@ -9,7 +9,7 @@ use Rattle.optra_node.specs.declared.Decision.{Decision}
 use Rattle.optra_node.specs.Duals.{PriceList, IsOffer, IsStuck}
 use Rattle.optra_node.proofs.ChildLemmas.{some_at}
 use Rattle.optra_checker.specs.Leaves.{IsBestOffer}
-use Rattle.optra_checker.proofs.AtLemmas.{no_true}
+use Rattle.optra_open.proofs.AtLemmas.{no_true}
 
 pub flip : (r s : Bool) → s ≡ not r → r ≡ not s
 flip true s e = sym (ap not e)

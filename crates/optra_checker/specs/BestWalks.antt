@@ -13,8 +13,8 @@ use Rattle.optra_node.specs.Duals.{PriceList}
 use Rattle.optra_node.specs.Nodes.{kind_at, yes_uses}
 use Rattle.optra_node.specs.Summaries.{Summed}
 use Rattle.optra_checker.specs.Frees.{Attains, IsStillFree}
-use Rattle.optra_checker.specs.Leaves.{leaf_weights, weights_at}
-use Rattle.optra_checker.specs.Loaded.{AreRising, IsMissing}
+use Rattle.optra_open.specs.NodeWeights.{leaf_weights, weights_at}
+use Rattle.optra_open.specs.Loaded.{AreRising, IsMissing}
 use Rattle.optra_rests.specs.Weights.{Weights, IsOpenWalk, IsBestWorth, IsWorthSize}
 use Rattle.optra_checker.specs.declared.best_walk.BestWalk.{BestWalk}
 use Rattle.optra_checker.specs.declared.best_walks.BestWalks.{BestWalks}
@@ -84,16 +84,3 @@ pub record AreAllBest {R : Type 0} (net : Net) (rows : Rows R) (used : TypeId �
 
 abbrev pub AreAllBestAt : {X R : Type 0} → (X → Net → Rows R) → (X → Net → TypeId → Leg → List R) → Summed X → List BestWalks → Type 0
 AreAllBestAt rows_of rows_used s walks = AreAllBest s.net (rows_of s.family s.net) (rows_used s.family s.net) s.bids s.node walks
-
--- the last decision uses nothing of any other row
-abbrev pub AreLastRows : {R : Type 0} → (R → R → Ordering) → Rows R → List Bid → List Decision → List R → Type 0
-AreLastRows {R} cmp rows bids node listed = IfSome (slice_get node (length node - 1)) (λ last. (row : R) → IsMissing cmp listed row → yes_uses rows bids row last ≡ 0)
-
--- the rows that the last decision uses, ascending
-pub record AreLatest {R : Type 0} (cmp : R → R → Ordering) (rows : Rows R) (bids : List Bid) (node : List Decision) (listed : List R) : Type 0 where
-  pub rising : AreRising cmp listed
-  pub all : AreLastRows cmp rows bids node listed
-
--- of the node that is seen
-abbrev pub AreLatestAt : {X R : Type 0} → (R → R → Ordering) → (X → Net → Rows R) → Summed X → List R → Type 0
-AreLatestAt cmp rows_of s listed = AreLatest cmp (rows_of s.family s.net) s.bids s.node listed

@@ -10,7 +10,7 @@ use Rattle.optra_walk.specs.Families.{Rows}
 use Rattle.optra_walk.specs.Walks.{IsWalk}
 use Rattle.optra_walk.specs.Values.{value_of, first_departure}
 use Rattle.optra_rests.specs.Weights.{Weights, IsBestWorth, IsWorthSize}
-use Rattle.optra_checker.specs.Loaded.{KeepsOff}
+use Rattle.optra_open.specs.Loaded.{KeepsOff}
 use Rattle.optra_checker.specs.declared.best_walk.BestWalk.{BestWalk}
 
 -- a walk may have every start and every leg, at no cost

@@ -1,10 +1,11 @@
 //! The best walks of all bids, as a tree is gone through.
 ghost use Rattle.std.specs.Prelude.{◌≤◌, OnOk, length, take};
-ghost use Rattle.optra_checker.specs.BestWalks.{AreAllBest, AreAllBestAt, AreLatestAt};
+ghost use Rattle.optra_checker.specs.BestWalks.{AreAllBest, AreAllBestAt};
+ghost use Rattle.optra_open.specs.Loaded.{AreLatestAt};
 
 use crate::best_walks::BestWalks;
-use crate::open_node::OpenNode;
 use optra_network::NoMemory;
+use optra_open::OpenNode;
 use optra_rests::RestTable;
 use optra_walk::RowFamily;
 use std::alloc::Global;

@@ -5,16 +5,15 @@ ghost use Rattle.optra_node.specs.Trees.{places};
 ghost use Rattle.optra_node.specs.Certificates.{IsFormedItem, HasPrices, IsGreatestBound};
 ghost use Rattle.optra_checker.specs.BestWalks.{AreAllBest, AreAllBestAt};
 ghost use Rattle.optra_checker.specs.Bounds.{IsItemBound, IsGreatestOf, IsSoundTree};
-ghost use Rattle.optra_checker.specs.Opens.{IsRoom};
+ghost use Rattle.optra_open.specs.Opens.{IsRoom};
 
 use crate::all_best::{bring_all, leave_all};
 use crate::best_walks::BestWalks;
 use crate::frees::find_frees;
-use crate::node_room::{NodeRoom, pass, root_room};
-use crate::open_node::OpenNode;
 use crate::terms::leaf_bound;
 use optra_network::{Cents, NoMemory};
 use optra_node::{Item, Prices};
+use optra_open::{NodeRoom, OpenNode, pass, root_room};
 use optra_rests::{RestTable, greater};
 use optra_walk::{Instance, RowFamily};
 use std::alloc::Global;

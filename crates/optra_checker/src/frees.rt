@@ -5,13 +5,13 @@ ghost use Rattle.std.specs.Prelude.{[], All, IfOk, IsTrue};
 ghost use Rattle.optra_bid.specs.Specs.{IsPathOn};
 ghost use Rattle.optra_checker.specs.BestWalks.{AreAllBest};
 ghost use Rattle.optra_checker.specs.Frees.{Attains, IsFree};
-ghost use Rattle.optra_checker.specs.Loaded.{KeepsOff};
+ghost use Rattle.optra_open.specs.Loaded.{KeepsOff};
 
 use crate::best_walk::BestWalk;
 use crate::best_walks::BestWalks;
-use crate::loaded::all_keep_off;
 use optra_bid::Bid;
 use optra_network::{Minute, Network, NoMemory, TypeId};
+use optra_open::all_keep_off;
 use optra_rests::{EveryLeg, RestTable, Weighing, kind_of, search, trace};
 use optra_walk::{Instance, Leg, RowFamily};
 use std::alloc::Global;

@@ -3,12 +3,12 @@ ghost use Rattle.std.specs.Prelude.{◌<◌, length, IfOk, IfSome};
 ghost use Rattle.optra_node.specs.Duals.{ArePrices};
 ghost use Rattle.optra_node.specs.Certificates.{AreAscending};
 ghost use Rattle.optra_checker.specs.BestWalks.{IsBestAt};
-ghost use Rattle.optra_checker.specs.Loaded.{AreRising, AreLoaded};
+ghost use Rattle.optra_open.specs.Loaded.{AreRising, AreLoaded};
 ghost use Rattle.optra_rests.specs.Weights.{IsWorthSize};
 
 use crate::leaf_weights::LeafWeights;
-use crate::open_node::OpenNode;
 use optra_network::NoMemory;
+use optra_open::OpenNode;
 use optra_rests::{RestTable, search};
 use optra_walk::RowFamily;
 use std::alloc::Global;

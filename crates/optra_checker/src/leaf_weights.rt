@@ -2,10 +2,10 @@
 ghost use Rattle.std.specs.Prelude.{◌≡◌, ◌<◌, length};
 ghost use Rattle.optra_node.specs.Duals.{ArePrices};
 ghost use Rattle.optra_node.specs.Certificates.{AreAscending};
-ghost use Rattle.optra_checker.specs.Loaded.{AreRising, AreLoaded};
+ghost use Rattle.optra_open.specs.Loaded.{AreRising, AreLoaded};
 
-use crate::open_node::OpenNode;
 use optra_network::Minute;
+use optra_open::OpenNode;
 use optra_rests::Weighing;
 use optra_walk::{Leg, RowFamily};
 
@@ -27,7 +27,7 @@ pub(crate) struct LeafWeights<'a, 'b, F: RowFamily> {
 }
 
 impl<'a, 'b, F: RowFamily> Weighing for LeafWeights<'a, 'b, F> {
-    ghost use Rattle.optra_checker.specs.Leaves.{weights_at};
+    ghost use Rattle.optra_open.specs.NodeWeights.{weights_at};
 
     ghost weights = { λ s. weights_at F.rows_of F.rows_used s.node.now s.bid s.prices.now };
 

@@ -3,14 +3,13 @@ ghost use Rattle.std.specs.Prelude.{◌≡◌, ◌<◌, ◌↔◌, [], All, IsTr
 ghost use Rattle.optra_node.specs.Duals.{IsStuck};
 ghost use Rattle.optra_node.specs.Trees.{IsTree, places};
 ghost use Rattle.optra_node.specs.Certificates.{IsFormedItem, SplitsUndecided, EndsDead};
-ghost use Rattle.optra_checker.specs.Opens.{IsRoom};
+ghost use Rattle.optra_open.specs.Opens.{IsRoom};
 
 use crate::leaf_search::best_found;
-use crate::node_room::{NodeRoom, pass, root_room};
-use crate::open_node::OpenNode;
 use crate::terms::offer_of;
 use optra_network::NoMemory;
 use optra_node::Item;
+use optra_open::{NodeRoom, OpenNode, pass, root_room};
 use optra_rests::RestTable;
 use optra_walk::{Instance, RowFamily};
 use std::alloc::Global;

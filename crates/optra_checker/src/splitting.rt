@@ -2,12 +2,11 @@
 ghost use Rattle.std.specs.Prelude.{◌≡◌, ◌↔◌, [], All, IsTrue, IfOk, length};
 ghost use Rattle.optra_node.specs.Trees.{IsTree, places};
 ghost use Rattle.optra_node.specs.Certificates.{IsFormedItem, SplitsUndecided};
-ghost use Rattle.optra_checker.specs.Opens.{IsRoom};
+ghost use Rattle.optra_open.specs.Opens.{IsRoom};
 
-use crate::node_room::{NodeRoom, pass, root_room};
-use crate::open_node::OpenNode;
 use optra_network::NoMemory;
 use optra_node::Item;
+use optra_open::{NodeRoom, OpenNode, pass, root_room};
 use optra_walk::{Instance, RowFamily};
 use std::alloc::Global;
 

@@ -7,11 +7,11 @@ ghost use Rattle.optra_walk.specs.Families.{IsUsable};
 ghost use Rattle.optra_walk.specs.Values.{first_departure};
 ghost use Rattle.optra_checker.specs.BestWalks.{AreFreeAt, IsBestAt, IsBestWalk};
 ghost use Rattle.optra_checker.specs.Frees.{IsFreeLeg};
-ghost use Rattle.optra_checker.specs.Leaves.{weights_at};
-ghost use Rattle.optra_checker.specs.Tests.{may_start_at};
+ghost use Rattle.optra_open.specs.NodeWeights.{weights_at};
+ghost use Rattle.optra_open.specs.Tests.{may_start_at};
 
 use crate::best_walk::BestWalk;
-use crate::open_node::OpenNode;
+use optra_open::OpenNode;
 use optra_walk::{Leg, RowFamily};
 
 /// Whether the price is zero.

@@ -4,14 +4,15 @@ ghost use Rattle.optra_bid.specs.Instances.{IsInstance};
 ghost use Rattle.optra_bid.specs.declared.bids.Bid.{Bid as Asked};
 ghost use Rattle.optra_node.specs.Duals.{ArePrices, whole_cents};
 ghost use Rattle.optra_node.specs.Certificates.{AreAscending, IsBoundOf};
-ghost use Rattle.optra_checker.specs.BestWalks.{AreAllBestAt, AreBestAt, AreLatestAt, IsBestAt};
+ghost use Rattle.optra_checker.specs.BestWalks.{AreAllBestAt, AreBestAt, IsBestAt};
+ghost use Rattle.optra_open.specs.Loaded.{AreLatestAt};
 ghost use Rattle.optra_checker.specs.Leaves.{IsBestOffer, AreTerms, IsSumSize, plus_of, dual_by};
 ghost use Rattle.optra_rests.specs.Sizes.{IsCapacityPrice};
 ghost use Rattle.optra_rests.specs.Weights.{IsWorthSize};
 
 use crate::best_walks::BestWalks;
-use crate::open_node::OpenNode;
 use optra_network::NoMemory;
+use optra_open::OpenNode;
 use optra_rests::RestTable;
 use optra_walk::RowFamily;
 use std::alloc::Global;

@@ -4,8 +4,8 @@ use Rattle.optra_walk.specs.declared.Leg.{Leg}
 use Rattle.optra_walk.specs.Families.{IsUsable}
 use Rattle.optra_node.specs.Nodes.{kind_at}
 use Rattle.optra_checker.specs.Frees.{IsStillFree}
-use Rattle.optra_checker.specs.Leaves.{leaf_weights}
-use Rattle.optra_checker.proofs.AtLemmas.{no_true}
+use Rattle.optra_open.specs.NodeWeights.{leaf_weights}
+use Rattle.optra_open.proofs.AtLemmas.{no_true}
 use Rattle.optra_checker.proofs.BestWalkLemmas.{attains_at, attains_there}
 use Rattle.optra_checker.proofs.best_walks.are_best.Goals as goal
 

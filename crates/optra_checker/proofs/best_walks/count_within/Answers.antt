@@ -1,7 +1,7 @@
 use Rattle.std.proofs.Common.{◌+◌, ◌≤◌, refl, sym, ap, subst, take, arith}
 use Rattle.std.specs.Prelude.{All}
 use Rattle.optra_checker.specs.declared.best_walk.BestWalk.{BestWalk}
-use Rattle.optra_checker.proofs.EachLemmas.{all_next}
+use Rattle.optra_open.proofs.EachLemmas.{all_next}
 use Rattle.optra_checker.proofs.best_walks.count_within.Goals as goal
 
 pub kept-init : goal.kept-init

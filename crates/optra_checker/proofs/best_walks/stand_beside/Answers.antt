@@ -1,5 +1,5 @@
 use Rattle.std.proofs.Common.{◌≡◌, ◌+◌, ◌<◌, length, arith, rules}
-use Rattle.optra_checker.proofs.AtLemmas.{no_true}
+use Rattle.optra_open.proofs.AtLemmas.{no_true}
 use Rattle.optra_checker.proofs.BestWalkLemmas.{still_all, still_beside}
 use Rattle.optra_node.specs.Nodes.{kind_at}
 use Rattle.optra_checker.proofs.best_walks.stand_beside.Goals as goal

@@ -8,9 +8,9 @@ use Rattle.optra_node.specs.Trees.{placed, root, places}
 use Rattle.optra_node.specs.Certificates.{IsFormedItem, SplitsUndecided, HasPrices}
 use Rattle.optra_checker.specs.Bounds.{IsItemBound, IsGreatestOf}
 use Rattle.optra_checker.specs.BestWalks.{AreAllBest}
-use Rattle.optra_checker.specs.ToCome.{AreKept}
+use Rattle.optra_open.specs.ToCome.{AreKept}
 use Rattle.optra_rests.specs.Rests.{greater_of}
-use Rattle.optra_checker.proofs.AtLemmas.{at_first, at_more, here_of_all, place_is}
+use Rattle.optra_open.proofs.AtLemmas.{at_first, at_more, here_of_all, place_is}
 use Rattle.optra_checker.proofs.BestWalkLemmas.{all_turned}
 use Rattle.optra_checker.proofs.BoundLemmas.{bound_more}
 use Rattle.optra_checker.proofs.HereLemmas.{all_here}

@@ -2,8 +2,8 @@ use Rattle.std.proofs.Common.{take}
 use Rattle.optra_node.specs.Trees.{placed, root}
 use Rattle.optra_checker.specs.BestWalks.{AreAllBest}
 use Rattle.optra_checker.specs.Bounds.{IsGreatestOf}
-use Rattle.optra_checker.specs.Opens.{IsRoom}
-use Rattle.optra_checker.specs.ToCome.{IsAt}
+use Rattle.optra_open.specs.Opens.{IsRoom}
+use Rattle.optra_open.specs.ToCome.{IsAt}
 use Rattle.optra_checker.proofs.bounding.greatest_from.Given as goal
 
 abbrev pub invariant-items : goal.invariant-items

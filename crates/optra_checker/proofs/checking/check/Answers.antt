@@ -2,7 +2,7 @@ use Rattle.std.proofs.Common.{◌≡◌, ◌↔◌}
 use Rattle.optra_node.specs.Certificates.{IsValid}
 use Rattle.optra_checker.specs.Verdicts.{IsVerdict}
 use Rattle.optra_checker.specs.declared.Verdict.TheVariants.{Yes}
-use Rattle.optra_checker.proofs.ToComeLemmas.{if_ok}
+use Rattle.optra_open.proofs.ToComeLemmas.{if_ok}
 use Rattle.optra_checker.proofs.VerdictLemmas.{yes_is_valid}
 use Rattle.optra_checker.proofs.checking.check.Goals as goal
 

@@ -6,7 +6,7 @@ use Rattle.optra_walk.specs.declared.Leg.{Leg}
 use Rattle.optra_walk.specs.Choices.{IsChoice, revenue_of}
 use Rattle.optra_walk.specs.Families.{entries_of}
 use Rattle.optra_cert.specs.Certs.{Cert}
-use Rattle.optra_checker.proofs.AtLemmas.{not_both}
+use Rattle.optra_open.proofs.AtLemmas.{not_both}
 use Rattle.optra_checker.proofs.checking.choice_fault.Goals as goal
 
 pub walks_hold-requires : goal.walks_hold-requires

@@ -5,7 +5,7 @@ use Rattle.optra_node.specs.declared.Item.{Item}
 use Rattle.optra_node.specs.Trees.{IsTree, places}
 use Rattle.optra_node.specs.Certificates.{IsFormedItem, SplitsUndecided, EndsDead, HasPrices, IsGreatestBound}
 use Rattle.optra_cert.specs.Certs.{Cert}
-use Rattle.optra_checker.proofs.AtLemmas.{not_both}
+use Rattle.optra_open.proofs.AtLemmas.{not_both}
 use Rattle.optra_checker.proofs.checking.tree_fault.Goals as goal
 
 pub splits_hold-requires-clause-whole : goal.splits_hold-requires-clause-whole

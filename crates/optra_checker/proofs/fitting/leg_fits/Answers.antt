@@ -3,7 +3,7 @@ use Rattle.optra_walk.specs.Families.{total_of}
 use Rattle.optra_node.proofs.LeastLemmas.{none_past}
 use Rattle.optra_node.proofs.RaiseLemmas.{raised_all, raised_more, still}
 use Rattle.optra_checker.proofs.FitLemmas.{fits_more, fits_all}
-use Rattle.optra_checker.proofs.LoadedLemmas.{used_is_row}
+use Rattle.optra_open.proofs.LoadedLemmas.{used_is_row}
 use Rattle.optra_checker.proofs.fitting.leg_fits.Goals as goal
 
 pub cap-requires : goal.cap-requires

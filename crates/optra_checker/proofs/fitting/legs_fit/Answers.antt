@@ -3,7 +3,7 @@ use Rattle.std.proofs.lemmas.List.{take_all}
 use Rattle.optra_walk.specs.declared.Action.TheVariants.{Pass}
 use Rattle.optra_walk.specs.declared.Leg.{Leg}
 use Rattle.optra_walk.specs.Families.{load_of, total_of}
-use Rattle.optra_checker.proofs.AtLemmas.{no_true, not_both}
+use Rattle.optra_open.proofs.AtLemmas.{no_true, not_both}
 use Rattle.optra_checker.proofs.FitLemmas.{within_below, within_same, legs_below, legs_more}
 use Rattle.optra_checker.proofs.fitting.legs_fit.Goals as goal
 

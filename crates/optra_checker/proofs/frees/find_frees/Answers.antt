@@ -3,7 +3,7 @@ use Rattle.std.proofs.Common.{[], length, ap, arith}
 use Rattle.optra_node.specs.Nodes.{kind_at}
 use Rattle.optra_checker.specs.BestWalks.{AreBestOf}
 use Rattle.optra_checker.proofs.BestWalkLemmas.{free_at}
-use Rattle.optra_checker.proofs.EachLemmas.{each_next}
+use Rattle.optra_open.proofs.EachLemmas.{each_next}
 use Rattle.optra_checker.proofs.frees.find_frees.Goals as goal
 
 pub bids-init : goal.bids-init

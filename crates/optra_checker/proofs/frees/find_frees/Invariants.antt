@@ -1,7 +1,7 @@
 -- One for each of the bids so far.
 use Rattle.std.proofs.Common.{[]}
 use Rattle.optra_checker.specs.BestWalks.{AreBestOf}
-use Rattle.optra_checker.proofs.EachLemmas.{AreEach}
+use Rattle.optra_open.proofs.EachLemmas.{AreEach}
 use Rattle.optra_checker.proofs.frees.find_frees.Given as goal
 
 abbrev pub invariant-bids : goal.invariant-bids

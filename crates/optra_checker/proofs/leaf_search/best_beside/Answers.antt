@@ -3,9 +3,9 @@ use Rattle.std.specs.Option.{option_map_or}
 use Rattle.std.proofs.lemmas.Option.{get_or_from_slice_get, slice_get-get_or}
 use Rattle.optra_bid.specs.declared.bids.Bid.{Bid}
 use Rattle.optra_node.specs.Nodes.{kind_at}
-use Rattle.optra_checker.specs.Leaves.{leaf_weights}
+use Rattle.optra_open.specs.NodeWeights.{leaf_weights}
 use Rattle.optra_rests.specs.Weights.{IsBestWorth}
-use Rattle.optra_checker.proofs.ToComeLemmas.{if_ok}
+use Rattle.optra_open.proofs.ToComeLemmas.{if_ok}
 use Rattle.optra_checker.proofs.leaf_search.best_beside.Goals as goal
 
 pub invariant_of-weights : goal.invariant_of-weights

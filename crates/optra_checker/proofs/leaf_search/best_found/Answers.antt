@@ -1,5 +1,5 @@
 use Rattle.std.proofs.Common.{sym, subst}
-use Rattle.optra_checker.specs.Loaded.{AreRising, AreLoaded}
+use Rattle.optra_open.specs.Loaded.{AreRising, AreLoaded}
 use Rattle.optra_checker.proofs.leaf_search.best_found.Goals as goal
 
 pub best_beside-best-requires-clause-bid : goal.best_beside-best-requires-clause-bid

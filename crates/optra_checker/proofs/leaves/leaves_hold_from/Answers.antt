@@ -4,7 +4,7 @@ use Rattle.optra_node.specs.declared.Decision.{Decision}
 use Rattle.optra_node.specs.declared.Item.{Item}
 use Rattle.optra_node.specs.Summaries.{Summed}
 use Rattle.optra_node.specs.Certificates.{IsFormedItem, SplitsUndecided, EndsDead}
-use Rattle.optra_checker.proofs.AtLemmas.{all_more, all_past, at_first, at_more, here_of_all, no_true, not_both}
+use Rattle.optra_open.proofs.AtLemmas.{all_more, all_past, at_first, at_more, here_of_all, no_true, not_both}
 use Rattle.optra_checker.proofs.HereLemmas.{all_here}
 use Rattle.optra_checker.proofs.leaves.leaves_hold_from.Goals as goal
 

@@ -3,7 +3,7 @@ use Rattle.std.specs.Prelude.{All}
 use Rattle.std.proofs.lemmas.List.{take_all}
 use Rattle.std.proofs.lemmas.List.Elements.{All-more}
 use Rattle.optra_node.specs.Duals.{IsPrice}
-use Rattle.optra_checker.proofs.AtLemmas.{no_true, not_both}
+use Rattle.optra_open.proofs.AtLemmas.{no_true, not_both}
 use Rattle.optra_checker.proofs.HereLemmas.{all_here}
 use Rattle.optra_checker.proofs.pricing.are_prices.Goals as goal
 

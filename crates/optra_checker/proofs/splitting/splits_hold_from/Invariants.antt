@@ -2,8 +2,8 @@ use Rattle.std.proofs.Common.{take}
 use Rattle.std.specs.Prelude.{All}
 use Rattle.optra_node.specs.Trees.{placed, root}
 use Rattle.optra_node.specs.Certificates.{SplitsUndecided}
-use Rattle.optra_checker.specs.Opens.{IsRoom}
-use Rattle.optra_checker.specs.ToCome.{IsAt}
+use Rattle.optra_open.specs.Opens.{IsRoom}
+use Rattle.optra_open.specs.ToCome.{IsAt}
 use Rattle.optra_checker.proofs.splitting.splits_hold_from.Given as goal
 
 abbrev pub invariant-items : goal.invariant-items

@@ -1,4 +1,4 @@
-use Rattle.optra_checker.proofs.AtLemmas.{no_true}
+use Rattle.optra_open.proofs.AtLemmas.{no_true}
 use Rattle.optra_checker.proofs.staying.are_free.Goals as goal
 
 pub returns-then-not-start_stays_free-clause-free : goal.returns-then-not-start_stays_free-clause-free

@@ -5,10 +5,10 @@ use Rattle.std.proofs.lemmas.Bool.{false≢true}
 use Rattle.std.proofs.lemmas.Int.{to_z-of_z}
 use Rattle.std.proofs.lemmas.Bool.Decides.{same_from_decides}
 use Rattle.optra_node.specs.Nodes.{kind_at}
-use Rattle.optra_checker.specs.Tests.{may_have_leg}
-use Rattle.optra_checker.proofs.TestLemmas.{leg_tested}
-use Rattle.optra_checker.proofs.UsedLemmas.{usable_is_formed}
-use Rattle.optra_checker.proofs.AtLemmas.{no_true}
+use Rattle.optra_open.specs.Tests.{may_have_leg}
+use Rattle.optra_open.proofs.TestLemmas.{leg_tested}
+use Rattle.optra_open.proofs.UsedLemmas.{usable_is_formed}
+use Rattle.optra_open.proofs.AtLemmas.{no_true}
 use Rattle.optra_checker.proofs.staying.leg_stays_free.Goals as goal
 
 pub leg_ok-requires-clause-leg : goal.leg_ok-requires-clause-leg

@@ -4,8 +4,8 @@ use Rattle.optra_walk.specs.declared.Action.TheVariants.{Pass}
 use Rattle.optra_walk.specs.declared.Leg.{Leg}
 use Rattle.optra_node.specs.Nodes.{kind_at}
 use Rattle.optra_checker.specs.Frees.{IsFreeLeg}
-use Rattle.optra_checker.specs.Leaves.{leaf_weights}
-use Rattle.optra_checker.proofs.EachLemmas.{all_next_at, all_past}
+use Rattle.optra_open.specs.NodeWeights.{leaf_weights}
+use Rattle.optra_open.proofs.EachLemmas.{all_next_at, all_past}
 use Rattle.optra_checker.proofs.staying.legs_stay_free.Goals as goal
 
 abbrev any_leg : Leg

@@ -3,7 +3,7 @@ use Rattle.std.proofs.Common.{take}
 use Rattle.std.specs.Prelude.{All}
 use Rattle.optra_node.specs.Nodes.{kind_at}
 use Rattle.optra_checker.specs.Frees.{IsFreeLeg}
-use Rattle.optra_checker.specs.Leaves.{leaf_weights}
+use Rattle.optra_open.specs.NodeWeights.{leaf_weights}
 use Rattle.optra_checker.proofs.staying.legs_stay_free.Given as goal
 
 abbrev pub invariant-legs : goal.invariant-legs

@@ -5,7 +5,7 @@ use Rattle.optra_walk.specs.Families.{IsUsable}
 use Rattle.optra_node.specs.Nodes.{kind_at}
 use Rattle.optra_checker.specs.BestWalks.{IsBestWalk}
 use Rattle.optra_checker.specs.Frees.{IsStillFree}
-use Rattle.optra_checker.specs.Leaves.{leaf_weights}
+use Rattle.optra_open.specs.NodeWeights.{leaf_weights}
 use Rattle.optra_checker.proofs.BestWalkLemmas.{best_usable, best_below, none_below, none_walk, missing_none, some_has}
 use Rattle.optra_checker.proofs.staying.stays_best.Goals as goal
 

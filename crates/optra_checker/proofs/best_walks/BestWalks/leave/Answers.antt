@@ -2,7 +2,7 @@ use Rattle.std.proofs.Common.{◌≡◌, ◌<◌, ◌≤◌, ◌∙◌, List, le
 use Rattle.std.specs.Prelude.{All}
 use Rattle.std.proofs.lemmas.List.{length-take-le, take_all}
 use Rattle.optra_checker.specs.declared.best_walk.BestWalk.{BestWalk}
-use Rattle.optra_checker.proofs.EachLemmas.{all_past}
+use Rattle.optra_open.proofs.EachLemmas.{all_past}
 use Rattle.optra_checker.proofs.best_walks.BestWalks.leave.Goals as goal
 
 pub returns-then-count-len : goal.returns-then-count-len

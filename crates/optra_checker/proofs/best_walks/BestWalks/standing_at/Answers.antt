@@ -3,7 +3,7 @@ use Rattle.std.specs.Prelude.{IfSome}
 use Rattle.optra_node.specs.Nodes.{kind_at}
 use Rattle.optra_checker.specs.BestWalks.{last_best}
 use Rattle.optra_checker.specs.Frees.{IsStillFree}
-use Rattle.optra_checker.specs.Leaves.{leaf_weights}
+use Rattle.optra_open.specs.NodeWeights.{leaf_weights}
 use Rattle.optra_checker.specs.declared.best_walk.BestWalk.{BestWalk}
 use Rattle.optra_checker.proofs.BestWalkLemmas.{last_is}
 use Rattle.optra_checker.proofs.best_walks.BestWalks.standing_at.Goals as goal

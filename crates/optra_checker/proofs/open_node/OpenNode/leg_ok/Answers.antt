@@ -1,4 +1,0 @@
-use Rattle.optra_checker.proofs.open_node.OpenNode.leg_ok.Goals as goal
-
-pub blocked-requires-clause-leg : goal.blocked-requires-clause-leg
-blocked-requires-clause-leg g c = c.requires.leg

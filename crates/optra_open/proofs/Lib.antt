@@ -1,0 +1,11 @@
+pub mod LowerLemmas
+pub mod OwnLemmas
+pub mod OpenLemmas
+pub mod ToComeLemmas
+pub mod AtLemmas
+pub mod LeafPriceLemmas
+pub mod LoadedLemmas
+pub mod TestLemmas
+pub mod IndexLemmas
+pub mod UsedLemmas
+pub mod EachLemmas
