@@ -6,7 +6,7 @@ use Rattle.std.proofs.lemmas.Int.{ints}
 use Rattle.std.proofs.lemmas.List.{length-replicate, length-set, length-take-le, get_or-set_same, get_or-set_other, get_or-take, get_or_default, get_or_past, get_or_append_left, length-append}
 use Rattle.std.proofs.Math.Seq.{get_or-append_seam}
 use Rattle.std.specs.List.{swap_remove}
-use Rattle.std.proofs.lemmas.List.Elements.{All-head, All-tail, All-map, All-push, All-weaker, All-contains, Contains-push, Contains-append_left, Contains-get_or}
+use Rattle.std.proofs.lemmas.List.Elements.{All-head, All-tail, All-map, All-push, All-replicate, All-weaker, All-contains, Contains-push, Contains-append_left, Contains-get_or}
 use Rattle.std.proofs.lemmas.Nat.{mul-le}
 use Rattle.std.proofs.Math.IntN.{pos-*ℤ-pos, zero-*ℤ}
 use Rattle.optra_bid.specs.Specs.{IsBetween}
@@ -584,6 +584,39 @@ pushed_levels old new capacity is unused fits prices capacities uses active mark
       | inl within ↦ get_or_append_left old.listed.items (false ∷ []) false n within
       | inr past ↦ push_last old.listed.items false false n refl past ∙ sym (get_or_past old.listed.items n false past)
     ]
+
+none_below : (capacities : List ℕ) (m n : ℕ) → capacity_below (replicate m (pos 0)) capacities n ≡ pos 0
+none_below capacities m zero = refl
+none_below capacities m (suc n) =
+    let here = ap (λ (z : ℤ). z *ℤ pos (slice_index capacities n)) (zeros_at m n) in
+    let zero = zero-*ℤ (pos (slice_index capacities n)) in
+    let before = none_below capacities m n in
+    omega (arith, ints)
+
+unmarked : (n k : ℕ) → slice_index_or (replicate n false) k false ≡ false
+unmarked zero k = refl
+unmarked (suc n) zero = refl
+unmarked (suc n) (suc k) = unmarked n k
+
+-- rows of which nothing is used, at no price
+pub free_are : (l : Levels) (count : ℕ) → l.prices.items ≡ replicate count (pos 0) → l.listed.items ≡ replicate count false → l.active.items ≡ [] → l.capacity ≡ pos 0
+    → length l.loads.uses ≡ count → length l.loads.capacities ≡ count → All (λ capacity. capacity ≤ 65535) l.loads.capacities → AreUnused l → IsLevels l
+free_are l count prices marks none total uses capacities small unused = record {
+  use_count = uses ∙ sym prices_count;
+  capacity_count = capacities ∙ sym prices_count;
+  mark_count = ap length marks ∙ length-replicate count false ∙ sym prices_count;
+  range = subst (All IsRowPrice) (sym prices) (All-replicate IsRowPrice count (pos 0) (omega (arith, ints), omega (arith, ints)));
+  small = small;
+  capacity_is = total ∙ sym (none_below l.loads.capacities count (length l.prices.items)) ∙ ap (λ (ps : List ℤ). capacity_below ps l.loads.capacities (length l.prices.items)) (sym prices);
+  within = subst (All (λ (n : ℕ). n < length l.prices.items)) (sym none) (λ k d within. absurd (omega arith));
+  once = subst StandOnce (sym none) (λ i j before within same. absurd (omega arith));
+  marked = subst (All (λ (n : ℕ). is_listed l n ≡ true)) (sym none) (λ k d within. absurd (omega arith));
+  found = λ n marked. absurd (let off = ap (λ (ms : List Bool). slice_index_or ms n false) marks ∙ unmarked count n in let both : false ≡ true = sym off ∙ marked in cc);
+  covers = λ n l'. inl (ap (λ (ps : List ℤ). slice_index_or ps n (pos 0)) prices ∙ zeros_at count n, let u = unused n in omega arith);
+}
+  where
+    prices_count : length l.prices.items ≡ count
+    prices_count = ap length prices ∙ length-replicate count (pos 0)
 
 pub push_unused : (uses : List ℕ) (n : ℕ) → slice_index uses n ≡ 0 → slice_index (uses ++ 0 ∷ []) n ≡ 0
 push_unused [] zero none = refl

@@ -66,3 +66,4 @@ pub mod AmountLemmas
 pub mod RunningLemmas
 pub mod ActiveOrderLemmas
 pub mod RangeLemmas
+pub mod RowPriceLemmas

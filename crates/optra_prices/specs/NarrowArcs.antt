@@ -1,28 +1,31 @@
--- How the arcs of a bid's graph are kept in few bytes: the values that the bid has stand once each or a little more, and most arcs name theirs by number.
-use Rattle.std.specs.Prelude.{◌≡◌, ℕ, ◌<◌, Bool, true, cond, List, ◌++◌, map, length, All, slice_index_or, sum_by}
-use Rattle.std.specs.Prelude.{ℤ, pos}
+-- How the arcs of a bid's graph are kept in few bytes: most have their value in 32 bits, and their mark tells the group and whether they may be taken.
+use Rattle.std.specs.Prelude.{◌≡◌, ℕ, ◌-◌, ◌<◌, Bool, true, cond, List, ◌++◌, map, length, nat_lt, All, sum_by}
+use Rattle.std.specs.Prelude.{ℤ, pos, ◌*ℤ◌, if◌then◌else◌}
 use Rattle.optra_prices.specs.ArcTerms.{ArcTerm}
 use Rattle.optra_prices.specs.declared.narrow_arc.NarrowArc.{NarrowArc}
 
--- the narrow arc, by the bid's values
-abbrev pub term_of : List ℤ → NarrowArc → ArcTerm
-term_of values arc = record { value = slice_index_or values arc.value (pos 0); group = arc.group; allowed = arc.allowed }
+-- a mark below 2^31 is the group of an arc that may be taken, and another one is greater by 2^31
+abbrev pub is_open : ℕ → Bool
+is_open mark = nat_lt mark 2147483648
+
+abbrev pub group_of : ℕ → ℕ
+group_of mark = if is_open mark then mark else mark - 2147483648
+
+-- the arc that a narrow one stands for
+abbrev pub term_of : NarrowArc → ArcTerm
+term_of arc = record { value = pos 1000 *ℤ arc.cents; group = group_of arc.mark; allowed = is_open arc.mark }
 
 -- the narrow arcs and then the others
-abbrev pub terms_of : List ℤ → List NarrowArc → List ArcTerm → List ArcTerm
-terms_of values narrow wide = map (term_of values) narrow ++ wide
-
--- the value of each narrow arc has its number
-abbrev pub AreNumbered : List ℤ → List NarrowArc → Type 0
-AreNumbered values narrow = All (λ arc. arc.value < length values) narrow
+abbrev pub terms_of : List NarrowArc → List ArcTerm → List ArcTerm
+terms_of narrow wide = map term_of narrow ++ wide
 
 -- the groups of the arcs are below a number
 abbrev pub AreBelow : ℕ → List NarrowArc → Type 0
-AreBelow groups narrow = All (λ arc. arc.group < groups) narrow
+AreBelow groups narrow = All (λ arc. group_of arc.mark < groups) narrow
 
 -- all arcs may be taken
 abbrev pub AreOpen : List NarrowArc → Type 0
-AreOpen narrow = All (λ arc. arc.allowed ≡ true) narrow
+AreOpen narrow = All (λ arc. is_open arc.mark ≡ true) narrow
 
 -- 1 for an arc that may not be taken
 abbrev pub closed_one : Bool → ℕ
@@ -30,18 +33,12 @@ closed_one allowed = cond allowed 0 1
 
 -- how many of the arcs may not be taken
 abbrev pub closed_in : List NarrowArc → ℕ
-closed_in narrow = sum_by (λ arc. closed_one arc.allowed) narrow
+closed_in narrow = sum_by (λ arc. closed_one (is_open arc.mark)) narrow
 
--- what is kept of narrow arcs: their values have numbers, their groups are below a number, and so many may not be taken
-pub record AreListed (values : List ℤ) (narrow : List NarrowArc) (groups closed : ℕ) : Type 0 where
-  pub numbered : AreNumbered values narrow
+-- what is kept of narrow arcs: their groups are below a number, and so many may not be taken
+pub record AreListed (narrow : List NarrowArc) (groups closed : ℕ) : Type 0 where
   pub below : AreBelow groups narrow
   pub closed_is : closed ≡ closed_in narrow
-
--- each narrow arc has a value, and its group a price
-pub record ArePriced (values : List ℤ) (narrow : List NarrowArc) (grouped : List ℤ) : Type 0 where
-  pub numbered : AreNumbered values narrow
-  pub below : AreBelow (length grouped) narrow
 
 -- the arc, where it may be taken or not
 abbrev pub with_mark : ArcTerm → Bool → ArcTerm

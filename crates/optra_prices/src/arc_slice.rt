@@ -10,11 +10,10 @@ use crate::open_weights::OpenWeights;
 use optra_dag::FAR;
 use std::marker::Model;
 
-/// Arcs: first the narrow ones, whose values are known by number, and then the others.
+/// Arcs: first the narrow ones, and then the others.
 #[derive(Drop)]
 pub(crate) struct ArcSlice<'a> {
     pub(crate) narrow: &'a [NarrowArc],
-    pub(crate) values: &'a [i64],
     pub(crate) wide: &'a [ArcTerm],
     /// The narrow arcs touch groups below this one.
     pub(crate) groups: usize,
@@ -29,9 +28,9 @@ impl<'a> Model for ArcSlice<'a> {
 
     ghost Value = { List ArcTerm };
 
-    ghost view = { λ a. terms_of a.values.now a.narrow.now a.wide.now };
+    ghost view = { λ a. terms_of a.narrow.now a.wide.now };
 
-    ghost invariant = { λ a. AreListed a.values.now a.narrow.now a.groups a.closed };
+    ghost invariant = { λ a. AreListed a.narrow.now a.groups a.closed };
 }
 
 impl<'a> ArcSlice<'a> {
@@ -48,7 +47,7 @@ impl<'a> ArcSlice<'a> {
         ensures { result ≡ (slice_index_or self.now k no_arc).value }
     {
         match self.narrow.get(k) {
-            Some(arc) => self.values[arc.value as usize],
+            Some(arc) => arc.value(),
             None => self.wide[k - self.narrow.len()].value(),
         }
     }
@@ -59,7 +58,7 @@ impl<'a> ArcSlice<'a> {
         ensures { result ≡ (slice_index_or self.now k no_arc).group }
     {
         match self.narrow.get(k) {
-            Some(arc) => arc.group as usize,
+            Some(arc) => arc.group() as usize,
             None => self.wide[k - self.narrow.len()].group(),
         }
     }
@@ -70,7 +69,7 @@ impl<'a> ArcSlice<'a> {
         ensures { result ≡ allows_by self.now k }
     {
         match self.narrow.get(k) {
-            Some(arc) => arc.allowed,
+            Some(arc) => arc.allowed(),
             None => self.wide[k - self.narrow.len()].allowed(),
         }
     }
@@ -99,11 +98,11 @@ impl<'a> ArcSlice<'a> {
         let Some(arc) = self.narrow.get(k) else {
             return self.any_weight(grouped, k);
         };
-        if !arc.allowed {
+        if !arc.allowed() {
             return FAR;
         }
-        let price = grouped.get(arc.group as usize).copied().unwrap_or(0);
-        self.values[arc.value as usize].wrapping_sub(price)
+        let price = grouped.get(arc.group() as usize).copied().unwrap_or(0);
+        arc.value().wrapping_sub(price)
     }
 
     /// The arcs at prices of groups, where all of them are narrow and all groups have a price.
@@ -115,7 +114,6 @@ impl<'a> ArcSlice<'a> {
         }
         Some(NarrowWeights {
             arcs: self.narrow,
-            values: self.values,
             grouped,
         })
     }
@@ -129,7 +127,6 @@ impl<'a> ArcSlice<'a> {
         }
         Some(OpenWeights {
             arcs: self.narrow,
-            values: self.values,
             grouped,
         })
     }

@@ -1,26 +1,20 @@
 //! The arcs of a bid's graph with what each adds and touches, in few bytes, since searches read them one after the other.
-ghost use Rattle.std.specs.Prelude.{◌≡◌, ◌+◌, ◌^◌, ◌<◌, ◌≤◌, [], ◌∷◌, ◌++◌, true, Some, IfOk, IfSome, OnOk, length, slice_get, slice_index_or, slice_set};
-ghost use Rattle.optra_prices.specs.NarrowArcs.{closed_one, with_mark};
+ghost use Rattle.std.specs.Prelude.{◌≡◌, ◌+◌, ◌^◌, ◌<◌, ◌≤◌, [], ◌∷◌, ◌++◌, true, Some, IfOk, IfSome, OnOk, length, slice_get, slice_index_or, slice_set, pos, ◌*ℤ◌};
+ghost use Rattle.optra_prices.specs.NarrowArcs.{closed_one, group_of, term_of, with_mark};
 ghost use Rattle.optra_prices.specs.Tables.{Extends, no_arc};
 
 use crate::arc_slice::ArcSlice;
 use crate::arc_term::ArcTerm;
-use crate::narrow_arc::NarrowArc;
+use crate::narrow_arc::{CLOSED, NarrowArc};
 use optra_network::NoMemory;
 use std::alloc::Global;
 use std::marker::Model;
 
-/// Among so many of the values that were entered last, that of a new arc is looked for: more than a leg has actions with
-/// values of their own, which are a wait's minutes, at most 30, and one for all others. A bid has few different values.
-const RECENT: usize = 40;
-
 /// Arcs in the order in which they were entered: first the narrow ones, and then the others, from the first one on that
-/// has too high a group or too many values before it.
+/// has too high a group or too great a value.
 #[derive(Drop)]
 pub(crate) struct Arcs {
     narrow: Vec<NarrowArc>,
-    /// The values of narrow arcs, by number. One may stand more than once.
-    values: Vec<i64>,
     wide: Vec<ArcTerm>,
     /// The narrow arcs touch groups below this one.
     groups: usize,
@@ -35,87 +29,32 @@ impl Model for Arcs {
 
     ghost Value = { List ArcTerm };
 
-    ghost view = { λ a. terms_of a.values.items a.narrow.items a.wide.items };
+    ghost view = { λ a. terms_of a.narrow.items a.wide.items };
 
-    ghost invariant = { λ a. AreListed a.values.items a.narrow.items a.groups a.closed };
+    ghost invariant = { λ a. AreListed a.narrow.items a.groups a.closed };
 }
 
-/// The number of a value that was entered lately.
-fn recent(values: &[i64], value: i64) -> Option<usize>
-    ensures { IfSome result (λ number. slice_get values.now number ≡ Some value) }
+/// A value in whole cents, where it is one and fits into 32 bits.
+fn cents_of(value: i64) -> Option<i32>
+    ensures { IfSome result (λ cents. pos 1000 *ℤ cents ≡ value) }
 {
-    let mut left = values.len();
-    let end = left.saturating_sub(RECENT);
-    'values: while left > end {
-        left -= 1;
-        if values[left] == value {
-            return Some(left);
-        }
+    let cents = value / 1000;
+    if 1000 * cents != value {
+        return None;
     }
-    None
+    i32::try_from(cents).ok()
 }
 
-/// Whether the value has the number.
-fn has_number(values: &[i64], number: usize, value: i64) -> bool
-    ensures { result ≡ true → slice_get values.now number ≡ Some value }
+/// The arc, where its value and its group fit.
+fn narrowed(term: &ArcTerm) -> Option<NarrowArc>
+    ensures { IfSome result (λ arc. term_of arc ≡ term.now) }
 {
-    number < values.len() && values[number] == value
-}
-
-/// The number of a value that is the last arc's or was entered next after it, as that of an arc mostly is: from departure
-/// to departure the values of a leg's actions take turns.
-fn near(values: &[i64], last: usize, value: i64) -> Option<usize>
-    ensures { IfSome result (λ number. slice_get values.now number ≡ Some value) }
-{
-    if has_number(values, last, value) {
-        return Some(last);
-    }
-    let next = last.saturating_add(1);
-    if has_number(values, next, value) {
-        return Some(next);
-    }
-    None
-}
-
-/// The number of a value, which is entered where it wasn't lately. Before those it is looked for where the last arc's is.
-fn number_of(values: &mut Vec<i64>, last: usize, value: i64) -> Result<usize, NoMemory>
-    ensures number { IfOk result (λ number. slice_get values.new.items number ≡ Some value) }
-    ensures more { Extends values.old.items values.new.items }
-{
-    if let Some(number) = near(values, last, value) {
-        return Ok(number);
-    }
-    if let Some(number) = recent(values, value) {
-        return Ok(number);
-    }
-    let number = values.len();
-    values.push(value)?;
-    Ok(number)
-}
-
-/// The number of the last arc's value, and 0 where there is no arc.
-fn last_number(narrow: &[NarrowArc]) -> usize {
-    match narrow.last() {
-        Some(arc) => arc.value as usize,
-        None => 0,
-    }
-}
-
-/// The arc with the number of its value, where both fit.
-fn narrowed(number: usize, term: &ArcTerm) -> Option<NarrowArc>
-    ensures { IfSome result (λ arc. arc ≡ record {
-      group = term.now.group;
-      value = number;
-      allowed = term.now.allowed;
-    }) }
-{
-    let value = u16::try_from(number).ok()?;
+    let cents = cents_of(term.value())?;
     let group = u32::try_from(term.group()).ok()?;
-    Some(NarrowArc {
-        group,
-        value,
-        allowed: term.allowed(),
-    })
+    if group >= CLOSED {
+        return None;
+    }
+    Some(NarrowArc::new(group, cents, term.allowed()))
 }
 
 /// A bound on the groups of arcs, with one more arc.
@@ -145,7 +84,6 @@ impl Arcs {
         narrow.reserve_exact(count)?;
         Ok(Arcs {
             narrow,
-            values: Vec::new(alloc),
             wide: Vec::new(alloc),
             groups: 0,
             closed: 0,
@@ -160,13 +98,11 @@ impl Arcs {
             self.wide.push(term)?;
             return Ok(());
         }
-        let last = last_number(&self.narrow);
-        let number = number_of(&mut self.values, last, term.value())?;
-        match narrowed(number, &term) {
+        match narrowed(&term) {
             Some(arc) => {
                 self.narrow.push(arc)?;
-                self.groups = groups_with(self.groups, arc.group);
-                self.closed = closed_after(self.closed, true, arc.allowed);
+                self.groups = groups_with(self.groups, arc.group());
+                self.closed = closed_after(self.closed, true, arc.allowed());
             }
             None => self.wide.push(term)?,
         }
@@ -181,8 +117,9 @@ impl Arcs {
     {
         let count = self.narrow.len();
         if k < count {
-            self.closed = closed_after(self.closed, self.narrow[k].allowed, allowed);
-            self.narrow[k].allowed = allowed;
+            let arc = self.narrow[k];
+            self.closed = closed_after(self.closed, arc.allowed(), allowed);
+            self.narrow[k] = NarrowArc::new(arc.group(), arc.cents, allowed);
         } else {
             self.wide[k - count].allow(allowed);
         }
@@ -194,7 +131,6 @@ impl Arcs {
     {
         ArcSlice {
             narrow: &self.narrow,
-            values: &self.values,
             wide: &self.wide,
             groups: self.groups,
             closed: self.closed,

@@ -25,8 +25,7 @@ use crate::following::go_along;
 use crate::group_prices::GroupPrices;
 use crate::holders::find_holders;
 use crate::index::Index;
-use crate::levels::no_levels;
-use crate::listing::widen;
+use crate::listing::first_levels;
 use crate::loading::no_paths;
 use crate::numbering::{BidTable, Standing};
 use crate::opening::open_tables;
@@ -189,8 +188,7 @@ pub fn keep_arcs<'g, F: RowFamily, G: Graphs>(
     };
     let decided = decided_root(alloc, inst, rows, &grouping, &mut tables)?;
     let known = first_known(alloc, &tables)?;
-    let mut levels = no_levels(alloc);
-    widen(&mut levels, inst.net, rows, numbering.rows())?;
+    let levels = first_levels(alloc, inst.net, rows, numbering.rows())?;
     let columns = new_columns(alloc, groups)?;
     Ok(ArcTables {
         numbering,

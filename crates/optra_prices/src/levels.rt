@@ -2,7 +2,7 @@
 //!
 //! Rows with a price, or with more uses than capacity, are active. A step moves these alone: the price of any other row is
 //! 0 and stays 0. The price of all capacity is kept by difference.
-ghost use Rattle.std.specs.Prelude.{◌≡◌, ◌+◌, ◌<◌, ◌≤◌, true, [], ◌∷◌, ◌++◌, pos, ◌+ℤ◌, ◌-ℤ◌, ◌*ℤ◌, All, IfOk, OnOk, length, slice_set};
+ghost use Rattle.std.specs.Prelude.{◌≡◌, ◌+◌, ◌<◌, ◌≤◌, true, [], ◌∷◌, ◌++◌, pos, ◌+ℤ◌, ◌-ℤ◌, ◌*ℤ◌, All, IfOk, OnOk, length, slice_set, ℕ, replicate, slice_index};
 ghost use Rattle.optra_prices.specs.Bounds.{IsCapacityPrice, IsStepLength, IsWholePrice, most_capacity};
 ghost use Rattle.optra_prices.specs.Columns.{IsColumns, IsPriceMove, PricesAllButDue};
 ghost use Rattle.optra_prices.specs.Levels.{IsLevels, IsMove, AreUnused, KeepsPrices, KeepsUses, Wakes, WakesAbove, Rests, MovesRow, MovesTo, HoldsPrices, moved_by, is_listed, next_at, use_of};
@@ -62,19 +62,27 @@ fn price_move(old: i64, new: i64) -> i64
     new - old
 }
 
-/// No row yet.
-pub(crate) fn no_levels(alloc: Global) -> Levels
-    ensures levels { IsLevels result }
-    ensures unused { AreUnused result }
-    ensures none { (result.prices.items ≡ []) × (result.loads.capacities ≡ []) }
+/// Rows of which nothing is used, at no price.
+pub(crate) fn free_levels(alloc: Global, loads: Loads) -> Result<Levels, NoMemory>
+    requires unused { (n : ℕ) → slice_index loads.uses n ≡ 0 }
+    requires count { length loads.capacities ≡ length loads.uses }
+    requires small { All (λ capacity. capacity ≤ 65535) loads.capacities }
+    ensures levels { IfOk result IsLevels }
+    ensures unused { IfOk result AreUnused }
+    ensures capacities { IfOk result (λ levels. levels.loads.capacities ≡ loads.capacities) }
+    ensures prices { IfOk result (λ levels. levels.prices.items
+        ≡ replicate (length loads.uses) (pos 0)) }
 {
-    Levels {
-        prices: RowPrices::new(alloc),
-        loads: Loads::new(alloc),
+    let count = loads.len();
+    let prices = RowPrices::zeros(alloc, count)?;
+    let listed = vec![in alloc; false; count]?;
+    Ok(Levels {
+        prices,
+        loads,
         active: Vec::new(alloc),
-        listed: Vec::new(alloc),
+        listed,
         capacity: 0,
-    }
+    })
 }
 
 /// Takes the memory for so many rows, and no more.

@@ -1,12 +1,13 @@
 //! The prices and capacities of rows that have numbers.
-ghost use Rattle.std.specs.Prelude.{◌≡◌, ◌≤◌, true, All, Contains, IfOk, OnOk, length, map, take};
+ghost use Rattle.std.specs.Prelude.{◌≡◌, ◌≤◌, true, pos, All, Contains, IfOk, OnOk, length, map, replicate, take};
 ghost use Rattle.optra_node.specs.Duals.{ArePrices};
 ghost use Rattle.optra_prices.specs.Courses.{listed, HaveCapacities};
 ghost use Rattle.optra_prices.specs.Levels.{IsLevels, AreUnused};
 ghost use Rattle.optra_prices.specs.Listings.{AddsZeros, rows_at};
 ghost use Rattle.optra_prices.specs.Tables.{IsNumbering, Extends};
 
-use crate::levels::{Levels, push_level, reserve_levels};
+use crate::levels::{Levels, free_levels, push_level, reserve_levels};
+use crate::rooms::unused;
 use crate::row_numbers::{RowNumbers, number};
 use crate::stepping::push_price;
 use optra_network::{Network, NoMemory};
@@ -37,6 +38,27 @@ pub(crate) fn number_more<F: RowFamily>(
         number::<F>(numbering, entry.0)?;
     }
     Ok(())
+}
+
+/// All rows that have numbers, at no price and with no use.
+pub(crate) fn first_levels<F: RowFamily>(
+    alloc: Global,
+    net: &Network,
+    rows: &F,
+    numbered: &[F::Row],
+) -> Result<Levels, NoMemory>
+    requires { All (λ row. (F.rows_of rows.now net.now).is_row row ≡ true) numbered.now }
+    ensures levels { IfOk result IsLevels }
+    ensures unused { IfOk result AreUnused }
+    ensures capacities { IfOk result (λ levels. HaveCapacities (F.rows_of rows.now net.now)
+        numbered.now levels.loads.capacities) }
+    ensures prices { IfOk result (λ levels. levels.prices.items
+        ≡ replicate (length numbered.now) (pos 0)) }
+{
+    net.laws();
+    let loads = unused(alloc, net, rows, numbered)?;
+    let levels = free_levels(alloc, loads)?;
+    Ok(levels)
 }
 
 /// Makes room for all rows that have numbers, at no price and with no use.

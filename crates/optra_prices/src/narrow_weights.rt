@@ -3,23 +3,22 @@ use crate::narrow_arc::NarrowArc;
 use optra_dag::{FAR, NarrowWeight};
 use std::marker::Model;
 
-/// Narrow arcs, whose values are known by number, and the prices of the groups that they touch. Each of these has one.
+/// Narrow arcs and the prices of the groups that they touch. Each of these has one.
 #[derive(Drop)]
 pub(crate) struct NarrowWeights<'a> {
     pub(crate) arcs: &'a [NarrowArc],
-    pub(crate) values: &'a [i64],
     pub(crate) grouped: &'a [i64],
 }
 
 impl<'a> Model for NarrowWeights<'a> {
-    ghost use Rattle.std.specs.Prelude.{[]};
-    ghost use Rattle.optra_prices.specs.NarrowArcs.{PricedArcs, priced_arcs, terms_of, ArePriced};
+    ghost use Rattle.std.specs.Prelude.{[], length};
+    ghost use Rattle.optra_prices.specs.NarrowArcs.{PricedArcs, priced_arcs, terms_of, AreBelow};
 
     ghost Value = { PricedArcs };
 
-    ghost view = { λ w. priced_arcs (terms_of w.values.now w.arcs.now []) w.grouped.now };
+    ghost view = { λ w. priced_arcs (terms_of w.arcs.now []) w.grouped.now };
 
-    ghost invariant = { λ w. ArePriced w.values.now w.arcs.now w.grouped.now };
+    ghost invariant = { λ w. AreBelow (length w.grouped.now) w.arcs.now };
 }
 
 impl NarrowWeight for NarrowWeights<'_> {
@@ -34,9 +33,9 @@ impl NarrowWeight for NarrowWeights<'_> {
 
     fn of(&self, arc: u32) -> i64 {
         let arc = &self.arcs[arc as usize];
-        if !arc.allowed {
+        if !arc.allowed() {
             return FAR;
         }
-        self.values[arc.value as usize].wrapping_sub(self.grouped[arc.group as usize])
+        arc.value().wrapping_sub(self.grouped[arc.group() as usize])
     }
 }

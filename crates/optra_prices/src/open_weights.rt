@@ -3,24 +3,23 @@ use crate::narrow_arc::NarrowArc;
 use optra_dag::NarrowWeight;
 use std::marker::Model;
 
-/// Narrow arcs that may all be taken, whose values are known by number, and the prices of the groups that they touch. Each
+/// Narrow arcs that may all be taken and the prices of the groups that they touch. Each
 /// of these has one.
 #[derive(Drop)]
 pub(crate) struct OpenWeights<'a> {
     pub(crate) arcs: &'a [NarrowArc],
-    pub(crate) values: &'a [i64],
     pub(crate) grouped: &'a [i64],
 }
 
 impl<'a> Model for OpenWeights<'a> {
-    ghost use Rattle.std.specs.Prelude.{[]};
-    ghost use Rattle.optra_prices.specs.NarrowArcs.{PricedArcs, priced_arcs, terms_of, ArePriced, AreOpen};
+    ghost use Rattle.std.specs.Prelude.{[], length};
+    ghost use Rattle.optra_prices.specs.NarrowArcs.{PricedArcs, priced_arcs, terms_of, AreBelow, AreOpen};
 
     ghost Value = { PricedArcs };
 
-    ghost view = { λ w. priced_arcs (terms_of w.values.now w.arcs.now []) w.grouped.now };
+    ghost view = { λ w. priced_arcs (terms_of w.arcs.now []) w.grouped.now };
 
-    ghost invariant = { λ w. ArePriced w.values.now w.arcs.now w.grouped.now × AreOpen w.arcs.now };
+    ghost invariant = { λ w. AreBelow (length w.grouped.now) w.arcs.now × AreOpen w.arcs.now };
 }
 
 impl NarrowWeight for OpenWeights<'_> {
@@ -35,6 +34,6 @@ impl NarrowWeight for OpenWeights<'_> {
 
     fn of(&self, arc: u32) -> i64 {
         let arc = &self.arcs[arc as usize];
-        self.values[arc.value as usize].wrapping_sub(self.grouped[arc.group as usize])
+        arc.value().wrapping_sub(self.grouped[arc.mark as usize])
     }
 }

@@ -21,7 +21,7 @@ pub struct Room {
 }
 
 /// Rows of which nothing is used, with their capacities.
-fn unused<F: RowFamily>(
+pub(crate) fn unused<F: RowFamily>(
     alloc: Global,
     net: &Network,
     rows: &F,

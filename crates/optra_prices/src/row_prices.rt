@@ -1,5 +1,5 @@
 //! Prices of rows by number, in 32 bits each while all of them fit.
-ghost use Rattle.std.specs.Prelude.{◌≡◌, ◌<◌, [], ◌∷◌, ◌++◌, pos, IfSome, OnOk, length, slice_index_or, slice_set};
+ghost use Rattle.std.specs.Prelude.{◌≡◌, ◌<◌, [], ◌∷◌, ◌++◌, pos, IfOk, IfSome, OnOk, length, replicate, slice_index_or, slice_set};
 ghost use Rattle.optra_prices.specs.RowPrices.{prices_of};
 
 use optra_network::NoMemory;
@@ -44,15 +44,16 @@ fn narrowed(price: i64) -> Option<u32>
 }
 
 impl RowPrices {
-    /// No prices.
-    pub(crate) fn new(alloc: Global) -> RowPrices
-        ensures { result.items ≡ [] }
+    /// So many prices of 0.
+    pub(crate) fn zeros(alloc: Global, count: usize) -> Result<RowPrices, NoMemory>
+        ensures { IfOk result (λ prices. prices.items ≡ replicate count (pos 0)) }
     {
-        RowPrices {
+        let narrow = vec![in alloc; 0; count]?;
+        Ok(RowPrices {
             is_narrow: true,
-            narrow: Vec::new(alloc),
+            narrow,
             wide: Vec::new(alloc),
-        }
+        })
     }
 
     /// How many there are.

@@ -1,5 +1,5 @@
-use Rattle.std.proofs.Common.{◌≡◌, List, [], true, length, sym, ap, ◌∙◌, subst, arith}
-use Rattle.std.specs.Prelude.{All}
+use Rattle.std.proofs.Common.{◌≡◌, List, [], true, length, refl, sym, ap, ◌∙◌, subst, arith}
+use Rattle.std.specs.Prelude.{All, pos}
 use Rattle.std.proofs.lemmas.List.{length-replicate}
 use Rattle.optra_prices.specs.Courses.{HaveCapacities}
 use Rattle.optra_prices.specs.Holders.{AreHolders}
@@ -45,39 +45,40 @@ returns g c =
     let copies = known.standings.items in
     let columns = c.in_ok-columns.columns in
     let made = c.in_ok-columns.ensures in
-    let wide = c.in_ok-widen.ensures in
-    let levels = c.widen.new.levels in
+    let free = c.in_ok-levels.ensures in
+    let levels = c.in_ok-levels.levels in
+    let none = length c.rows.result.now in
     let stand : AllStand tables [] zero = subst (λ (ts : List BidTable). AllStand ts [] zero) c.deref.ensures.value c.in_ok-known.ensures.zero in
     let same : AreCopies zero copies = c.in_ok-known.ensures.standings in
     let groups = made.columns.groups_are in
-    let none = c.in_ok-known.ensures.counted in
-    let counted_count : length (lists_in known.counted.items) ≡ length tables = ap length none ∙ length-replicate (length c.deref.result.now) [] ∙ ap length c.deref.ensures.value in
-    let counted_empty = subst AreEmpty (sym none) (empty_all _) in
+    let uncounted = c.in_ok-known.ensures.counted in
+    let counted_count : length (lists_in known.counted.items) ≡ length tables = ap length uncounted ∙ length-replicate (length c.deref.result.now) [] ∙ ap length c.deref.ensures.value in
+    let counted_empty = subst AreEmpty (sym uncounted) (empty_all _) in
     let prices : AreGroupPrices [] columns.groups.starts.items columns.groups.touches columns.running.items = subst (λ gs. AreGroupPrices [] gs.starts.items gs.touches columns.running.items) (sym groups) made.running in
-    let free : AreGroupPrices [] columns.groups.starts.items columns.groups.touches columns.grouped.items = subst (λ gs. AreGroupPrices [] gs.starts.items gs.touches columns.grouped.items) (sym groups) made.zero in (
+    let searched : AreGroupPrices [] columns.groups.starts.items columns.groups.touches columns.grouped.items = subst (λ gs. AreGroupPrices [] gs.starts.items gs.touches columns.grouped.items) (sym groups) made.zero in (
       [],
       record {
         is = record {
           numbering = is.numbering;
           rows = is.rows_are;
-          capacities = subst (λ (rs : List g.row.F-Row.Denot). HaveCapacities rows rs levels.loads.capacities) c.rows.ensures wide.capacities;
-          price_count = wide.count ∙ ap length c.rows.ensures;
-          levels = wide.levels;
-          counted = none_counted columns.groups (length tables) (lists_in known.counted.items) levels.loads.uses counted_count counted_empty wide.unused;
+          capacities = subst (λ (rs : List g.row.F-Row.Denot). HaveCapacities rows rs levels.loads.capacities) c.rows.ensures free.capacities;
+          price_count = ap length free.prices ∙ length-replicate none (pos 0) ∙ ap length c.rows.ensures;
+          levels = free.levels;
+          counted = none_counted columns.groups (length tables) (lists_in known.counted.items) levels.loads.uses counted_count counted_empty free.unused;
           columns = own_columns making.groups columns made.columns;
           tables = subst (λ gs. AreTables s (length s.bids) numbered gs tables) (sym groups) tables_at;
-          stand = stand_free tables columns.grouped.items copies (free_groups columns.groups.starts.items columns.groups.touches columns.grouped.items made.columns.count free) (copies_stand tables [] zero copies same stand);
+          stand = stand_free tables columns.grouped.items copies (free_groups columns.groups.starts.items columns.groups.touches columns.grouped.items made.columns.count searched) (copies_stand tables [] zero copies same stand);
           zero = stand;
           holders = subst (λ (ts : List BidTable). AreHolders ts known.holders) c.deref.ensures.value c.in_ok-known.ensures.holders;
           decided = c.in_ok-decided.ensures.decided;
         };
         still = made.still;
-        running = λ h l. prices h l ∙ sym (free_listed levels.prices.items c.no_levels-levels.result.prices.items c.no_levels-levels.ensures.none.0 wide.prices columns.groups h);
-        grouped = λ h l. free h l ∙ sym (free_listed levels.prices.items c.no_levels-levels.result.prices.items c.no_levels-levels.ensures.none.0 wide.prices columns.groups h);
+        running = λ h l. prices h l ∙ sym (free_listed levels.prices.items [] refl (none, free.prices) columns.groups h);
+        grouped = λ h l. searched h l ∙ sym (free_listed levels.prices.items [] refl (none, free.prices) columns.groups h);
       },
     )
 
-pub widen-requires-clause-rows : goal.widen-requires-clause-rows
-widen-requires-clause-rows g c =
+pub first_levels-requires : goal.first_levels-requires
+first_levels-requires g c =
     let rows = g.F.RowFamily.rows_of c.args.rows.now c.args.inst.net.now in
     subst (All (λ (row : g.row.F-Row.Denot). rows.is_row row ≡ true)) (sym c.rows.ensures) c.in_ok-made.ensures.rows_are
