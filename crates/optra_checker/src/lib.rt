@@ -11,7 +11,8 @@
 //! split no longer allows them, the best walk that it allows is found, which serves the nodes below
 //! ([`best_walks`]). At a leaf that still allows the walk, at no price, nothing is better. Only where
 //! the leaf doesn't, [`optra_rests`] searches the bid's walks by a table over minutes, stations and
-//! stops done, in room that stays from search to search.
+//! stops done, in room that stays from search to search. The node that is open while the tree is gone
+//! through, and what it allows and costs, is told by [`optra_open`].
 #![tactic(auto)]
 
 use optra_network::Cents;

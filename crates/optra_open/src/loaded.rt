@@ -112,7 +112,8 @@ pub(crate) fn keeps_off<F: RowFamily>(
     true
 }
 
-/// Whether each leg uses none of the rows, and no other row above its capacity.
+/// Whether each leg uses none of the rows, and no other row above its capacity. A yes is always right;
+/// a no claims nothing.
 pub fn all_keep_off<F: RowFamily>(
     net: &Network,
     rows: &F,

@@ -166,7 +166,8 @@ impl<'a, F: RowFamily> OpenNode<'a, F> {
         depth_after(&self.room.decisions, item)
     }
 
-    /// Whether the last decision is for the bid.
+    /// Whether the last decision is for the bid. No means that there is none or that it is for
+    /// another; a yes claims nothing, so who asks looks at the bid anew.
     pub fn is_last_for(&self, bid: u32) -> bool
         ensures { result ≡ false → IfSome (slice_get self.now.node (length self.now.node - 1))
             (λ last. last.bid ≡ bid → ⊥) }
@@ -188,7 +189,7 @@ impl<'a, F: RowFamily> OpenNode<'a, F> {
         }
     }
 
-    /// Whether no decision is for the bid.
+    /// Whether no decision is for the bid. A yes is always right; a no claims nothing.
     pub fn is_left_alone(&self, bid: u32) -> bool
         requires { bid < length self.now.bids }
         ensures { IsTrue result → All (λ d. d.bid ≡ bid → ⊥) self.now.node }
@@ -238,7 +239,8 @@ impl<'a, F: RowFamily> OpenNode<'a, F> {
         self.keeps_off(loaded, bid, leg) || !self.blocked(bid, leg)
     }
 
-    /// Whether the leg uses none of the rows, and no other row above its capacity.
+    /// Whether the leg uses none of the rows, and no other row above its capacity. A yes is always
+    /// right; a no claims nothing.
     pub fn keeps_off(&self, loaded: &[F::Row], bid: u32, leg: Leg) -> bool
         requires bid { bid < length self.now.bids }
         requires usable { IsUsable self.now.net (kind_at self.now.bids bid) leg }
@@ -250,7 +252,7 @@ impl<'a, F: RowFamily> OpenNode<'a, F> {
         keeps_off(inst.net, self.rows, loaded, kind_at(inst, bid), leg)
     }
 
-    /// As [`OpenNode::keeps_off`], of each leg.
+    /// As [`OpenNode::keeps_off`], of each leg: a yes is right of all of them, a no claims nothing.
     pub fn all_keep_off(&self, listed: &[F::Row], bid: u32, legs: &[Leg]) -> bool
         requires bid { bid < length self.now.bids }
         requires usable { All (IsUsable self.now.net (kind_at self.now.bids bid)) legs.now }
