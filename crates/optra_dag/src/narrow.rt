@@ -26,7 +26,7 @@ const LEAST: i64 = -2305843009213693952;
 
 /// Which arcs a path may take, and what each adds, in 64 bits. The answers depend on the arc alone
 /// while the value is lent.
-pub trait NarrowWeight {
+pub trait NarrowWeight: Drop {
     /// It may be asked about the arcs below this number.
     ghost asked: { Self → ℕ };
 
@@ -39,6 +39,11 @@ pub trait NarrowWeight {
         requires { arc < asked self.now }
         ensures allowed { allows self.now arc ≡ true → result ≡ weight self.now arc }
         ensures other { allows self.now arc ≡ false → result ≡ FAR };
+
+    /// The same value once more. A search holds one of its own, so that nothing which it writes can be
+    /// a part of it.
+    fn copied(&self) -> Self
+        ensures { result ≡ self.now };
 }
 
 /// Whether [`narrow_best_in`] may go over the graph where each allowed arc weighs from `-most` to
@@ -226,13 +231,14 @@ fn sweep_inner<W: NarrowWeight>(
     let _ends = ends;
     let _starts = starts;
     let _most = most;
+    let held = weight.copied();
     let mut left = arcs.len() as u32;
     let mut node = 0;
     let mut best = sums[0];
     'arcs: while left > 0 {
         left -= 1;
         let Arc { from, to } = arcs.at(left as usize);
-        let sum = weight.of(left) + sums[to as usize];
+        let sum = held.of(left) + sums[to as usize];
         best = sum_before(best, node, from).max(sum);
         node = from;
         sums[from as usize] = best;

@@ -2,7 +2,7 @@
 use Rattle.std.proofs.Common.{◌≡◌, ℕ, ◌+◌, ◌<◌, Bool, true, false, List, [], ◌∷◌, ◌++◌, length, replicate, Some, slice_get, refl, sym, ap, ◌∙◌, subst, arith, inl, inr}
 use Rattle.std.specs.Prelude.{◌↔◌, ◌&&◌, All, IsTrue}
 use Rattle.std.specs.declared.cmp.Ordering.{Ordering}
-use Rattle.std.proofs.lemmas.List.{length-append, length-replicate, get_or-replicate}
+use Rattle.std.proofs.lemmas.List.{length-append}
 use Rattle.std.proofs.lemmas.List.Elements.{All-nil, All-from_get_or}
 use Rattle.std.proofs.lemmas.Option.{same_Some, slice_get-get_or, slice_get_within}
 use Rattle.optra_network.specs.Net.{Net, IsProper}
@@ -23,7 +23,7 @@ use Rattle.optra_prices.specs.declared.parts.ArcPart.{ArcPart}
 use Rattle.optra_prices.specs.declared.rooms.Room.{Room}
 use Rattle.optra_prices.proofs.ListLemmas.{some_at, all_at}
 use Rattle.optra_prices.proofs.NumberLemmas.{push_cases}
-use Rattle.optra_prices.proofs.RoomLemmas.{room_tells}
+use Rattle.optra_prices.proofs.RoomLemmas.{room_tells, zero_at}
 use Rattle.optra_prices.proofs.TermLemmas.{arc_usable}
 
 -- there is room for nothing
@@ -102,9 +102,3 @@ free_is rows numbered total room copy is free = record {
   uses_are = λ n row at. ap (λ (us : List ℕ). slice_get us n) free.uses_are ∙ zero_at (length room.loads.uses) n (slice_get_within room.loads.uses n (total row) (is.uses_are n row at));
   capacities_are = λ n row at. ap (λ (cs : List ℕ). slice_get cs n) free.capacities_are ∙ is.capacities_are n row at;
 }
-  where
-    zero_at : (count n : ℕ) → n < count → slice_get {X = ℕ} (replicate count 0) n ≡ Some 0
-    zero_at count n l =
-        let none : ℕ = 0 in
-        let within : n < length (replicate count none) = omega (arith, length-replicate count none, l) in
-        slice_get-get_or (replicate count none) n none within ∙ ap Some (get_or-replicate count n none none l)

@@ -1,9 +1,10 @@
 -- Room by the numbers of rows: how it changes, and what it tells of legs.
-use Rattle.std.proofs.Common.{◌≡◌, ℕ, ◌+◌, ◌≤◌, ◌<◌, List, [], ◌∷◌, length, get_or, Some, slice_get, refl, ap, ◌∙◌, subst, arith, inl, inr}
+use Rattle.std.proofs.Common.{◌≡◌, ℕ, ◌+◌, ◌≤◌, ◌<◌, List, [], ◌∷◌, length, get_or, replicate, Some, slice_get, refl, ap, ◌∙◌, subst, arith, inl, inr}
 use Rattle.std.specs.Prelude.{◌↔◌, All, Contains}
 use Rattle.std.specs.List.{AllZip}
 use Rattle.std.specs.declared.cmp.Ordering.{Ordering}
 use Rattle.std.proofs.lemmas.Bool.{cases_lt}
+use Rattle.std.proofs.lemmas.List.{length-replicate, get_or-replicate}
 use Rattle.std.proofs.lemmas.List.Elements.{All-nil, All-cons}
 use Rattle.std.proofs.lemmas.Option.{slice_get_within, slice_get-get_or, get_or_from_slice_get}
 use Rattle.optra_network.specs.declared.TypeId.{TypeId}
@@ -13,6 +14,8 @@ use Rattle.optra_walk.specs.Families.{Rows, ListsRows}
 use Rattle.optra_node.specs.declared.Decision.{Decision}
 use Rattle.optra_node.specs.Nodes.{IsBlocked, others_load}
 use Rattle.optra_node.proofs.LoadLemmas.{contains_cases, contains_head, contains_later}
+use Rattle.optra_prices.specs.Courses.{HaveCapacities}
+use Rattle.optra_prices.specs.Loads.{RowLoads, IsUnused}
 use Rattle.optra_prices.specs.Rooms.{IsRoom, HasRoomFor, HasRoomForAll}
 use Rattle.optra_prices.specs.Tables.{IsTouch, AreTouches}
 use Rattle.optra_prices.specs.Uses.{AddsUses, TakesUses}
@@ -34,6 +37,20 @@ zip_second {A} {B} P (x ∷ xs) (y ∷ ys) h z has = elim (contains_cases y ys z
 
 all_has : {A : Type 0} (P : A → Type 0) (xs : List A) (x : A) → All P xs → Contains xs x → P x
 all_has P xs x all (k, l, e) = subst P e (all k x l)
+
+-- of so many zeros each is 0
+pub zero_at : (count n : ℕ) → n < count → slice_get {X = ℕ} (replicate count 0) n ≡ Some 0
+zero_at count n l =
+    let none : ℕ = 0 in
+    let within : n < length (replicate count none) = omega (arith, length-replicate count none, l) in
+    slice_get-get_or (replicate count none) n none within ∙ ap Some (get_or-replicate count n none none l)
+
+-- the room of rows of which nothing is used
+pub unused_is : {R : Type 0} (rows : Rows R) (numbered : List R) (loads : RowLoads) (room : Room) → length loads.uses ≡ length numbered → HaveCapacities rows numbered loads.capacities → IsUnused loads room.loads → IsRoom rows numbered (λ row. 0) room
+unused_is rows numbered loads room count have unused = record {
+  uses_are = λ n row at. ap (λ (us : List ℕ). slice_get us n) unused.uses ∙ zero_at (length loads.uses) n (let l = slice_get_within numbered n row at in omega arith);
+  capacities_are = λ n row at. ap (λ (cs : List ℕ). slice_get cs n) unused.capacities ∙ have n row at;
+}
 
 module _ {R : Type 0} (cmp : R → R → Ordering) (rows : Rows R) (numbered : List R) (total : R → ℕ) (room : Room) (is : IsRoom rows numbered total room)
     (touches : List Touch) (kind : TypeId) (leg : Leg) (used : List R) (are : AreTouches numbered (rows.uses kind leg) touches used) (lists : ListsRows cmp rows.is_row (rows.uses kind leg) used) where

@@ -34,6 +34,18 @@ impl<'a> Model for ArcSlice<'a> {
 }
 
 impl<'a> ArcSlice<'a> {
+    /// The same arcs, lent once more.
+    pub(crate) fn copied(&self) -> ArcSlice<'a>
+        ensures { result ≡ self.now }
+    {
+        ArcSlice {
+            narrow: self.narrow,
+            wide: self.wide,
+            groups: self.groups,
+            closed: self.closed,
+        }
+    }
+
     /// How many there are.
     pub(crate) fn len(&self) -> usize
         ensures { result ≡ length self.now }

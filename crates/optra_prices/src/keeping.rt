@@ -2,7 +2,7 @@
 //! so is what is known of a bid of which a node changes nothing.
 ghost use Rattle.std.specs.Prelude.{◌≡◌, ◌≤◌, [], All, Contains, IfOk, OnOk, length, replicate, true};
 ghost use Rattle.optra_node.specs.Nodes.{IsNode};
-ghost use Rattle.optra_prices.specs.Courses.{replies_at};
+ghost use Rattle.optra_prices.specs.Courses.{HaveCapacities, replies_at};
 ghost use Rattle.optra_prices.specs.Deads.{IsDeadAs};
 ghost use Rattle.optra_prices.specs.Replies.{IsValuation};
 ghost use Rattle.optra_prices.specs.Steps.{AreProper};
@@ -27,11 +27,12 @@ use crate::holders::find_holders;
 use crate::index::Index;
 use crate::listing::first_levels;
 use crate::loading::no_paths;
+use crate::loads::Loads;
 use crate::numbering::{BidTable, Standing};
 use crate::opening::open_tables;
 use crate::owning::Owned;
 use crate::path_ends::PathEnds;
-use crate::rooms::{empty_room, has_room};
+use crate::rooms::{has_room, unused_room};
 use crate::row_numbers::RowNumbers;
 use crate::sessions::{Made, copy_standings, first_standings, made_tables, renew_all};
 use crate::telling::tell_moved;
@@ -44,19 +45,23 @@ use optra_node::{Node, Prices, prices_by_used_rows, tests_tell_allowed};
 use optra_walk::{Instance, RowFamily};
 use std::alloc::Global;
 
-/// No decision and no claim, with the room of each row. `NoMemory` is its only refusal.
+/// No decision and no claim, with the room of each row that has a number. `NoMemory` is its only refusal.
 fn no_decided<F: RowFamily>(
     alloc: Global,
     inst: Instance<'_>,
     rows: &F,
     numbering: &RowNumbers<F::Row>,
+    loads: &Loads,
 ) -> Result<Decided, NoMemory>
-    requires { All (λ row. (F.rows_of rows.now inst.net.now).is_row row ≡ true)
-        numbering.now.rows.items }
+    requires count { length loads.now.uses ≡ length numbering.now.rows.items }
+    requires capacities { HaveCapacities (F.rows_of rows.now inst.net.now)
+        numbering.now.rows.items loads.now.capacities }
     ensures { IfOk result (IsDecided inst.entry.net.now (F.rows_of rows.now inst.entry.net.now)
         inst.entry.bids.now numbering.now.rows.items []) }
 {
-    let room = empty_room(alloc, inst.net, rows, numbering)?;
+    let _ = rows;
+    let _ = numbering;
+    let room = unused_room(alloc, loads)?;
     Ok(Decided {
         decisions: Vec::new(alloc),
         claims: Vec::new(alloc),
@@ -103,10 +108,12 @@ fn decided_root<F: RowFamily>(
     inst: Instance<'_>,
     rows: &F,
     grouping: &Grouping<'_, F::Row>,
+    loads: &Loads,
     tables: &mut Vec<BidTable<'_>>,
 ) -> Result<Decided, NoMemory>
-    requires rows { All (λ row. (F.rows_of rows.now inst.net.now).is_row row ≡ true)
-        grouping.now.numbering.now.rows.items }
+    requires count { length loads.now.uses ≡ length grouping.now.numbering.now.rows.items }
+    requires capacities { HaveCapacities (F.rows_of rows.now inst.net.now)
+        grouping.now.numbering.now.rows.items loads.now.capacities }
     requires tables { HoldArcs inst.net.now (F.rows_of rows.now inst.net.now)
         (F.rows_used rows.now inst.net.now) inst.bids.now (length inst.bids.now)
         grouping.now.numbering.now.rows.items grouping.now.groups.now tables.old.items }
@@ -119,7 +126,7 @@ fn decided_root<F: RowFamily>(
         (length inst.entry.bids.now) grouping.now.numbering.now.rows.items grouping.now.groups.now
         tables.new.items) }
 {
-    let mut decided = no_decided(alloc, inst, rows, grouping.numbering)?;
+    let mut decided = no_decided(alloc, inst, rows, grouping.numbering, loads)?;
     allow_root(alloc, inst, rows, grouping, &mut decided, tables)?;
     Ok(decided)
 }
@@ -182,13 +189,13 @@ pub fn keep_arcs<'g, F: RowFamily, G: Graphs>(
         groups,
         mut tables,
     } = made;
+    let levels = first_levels(alloc, inst.net, rows, numbering.rows())?;
     let grouping = Grouping {
         numbering: &numbering,
         groups: &groups,
     };
-    let decided = decided_root(alloc, inst, rows, &grouping, &mut tables)?;
+    let decided = decided_root(alloc, inst, rows, &grouping, &levels.loads, &mut tables)?;
     let known = first_known(alloc, &tables)?;
-    let levels = first_levels(alloc, inst.net, rows, numbering.rows())?;
     let columns = new_columns(alloc, groups)?;
     Ok(ArcTables {
         numbering,

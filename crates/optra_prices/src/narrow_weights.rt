@@ -21,7 +21,7 @@ impl<'a> Model for NarrowWeights<'a> {
     ghost invariant = { λ w. AreBelow (length w.grouped.now) w.arcs.now };
 }
 
-impl NarrowWeight for NarrowWeights<'_> {
+impl<'a> NarrowWeight for NarrowWeights<'a> {
     ghost use Rattle.std.specs.Prelude.{length};
     ghost use Rattle.optra_prices.specs.Tables.{allows_by, narrow_weight_by};
 
@@ -37,5 +37,12 @@ impl NarrowWeight for NarrowWeights<'_> {
             return FAR;
         }
         arc.value().wrapping_sub(self.grouped[arc.group() as usize])
+    }
+
+    fn copied(&self) -> NarrowWeights<'a> {
+        NarrowWeights {
+            arcs: self.arcs,
+            grouped: self.grouped,
+        }
     }
 }

@@ -1,5 +1,5 @@
 //! Lists of numbers, in 32 bits each while all of them fit.
-ghost use Rattle.std.specs.Prelude.{◌≡◌, ◌<◌, ◌^◌, ◌+◌, [], ◌∷◌, ◌++◌, IfOk, IfSome, OnOk, length, replicate, slice_index, slice_set};
+ghost use Rattle.std.specs.Prelude.{◌≡◌, ◌<◌, ◌^◌, ◌+◌, ◌-◌, [], ◌∷◌, ◌++◌, IfOk, IfSome, OnOk, length, replicate, slice_index, slice_set};
 
 use optra_network::NoMemory;
 use std::alloc::Global;
@@ -130,6 +130,24 @@ impl Numbers {
         self.wide[place] = number;
         self.is_narrow = false;
         Ok(())
+    }
+
+    /// Adds one to the number at a place, and tells what it was.
+    pub(crate) fn raise(&mut self, place: usize) -> Result<usize, NoMemory>
+        requires within { place < length self.old.items }
+        requires small { slice_index self.old.items place < 2 ^ 64 - 1 }
+        ensures was { IfOk result (λ was. was ≡ slice_index self.old.items place) }
+        ensures raised { OnOk result (self.new.items ≡ slice_set self.old.items place
+            (slice_index self.old.items place + 1)) }
+    {
+        if self.is_narrow && self.narrow[place] < u32::MAX {
+            let was = self.narrow[place];
+            self.narrow[place] = was + 1;
+            return Ok(was as usize);
+        }
+        let was = self.at(place);
+        self.set(place, was + 1)?;
+        Ok(was)
     }
 
     /// Lets go the room for more numbers.

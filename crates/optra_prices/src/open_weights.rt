@@ -22,7 +22,7 @@ impl<'a> Model for OpenWeights<'a> {
     ghost invariant = { λ w. AreBelow (length w.grouped.now) w.arcs.now × AreOpen w.arcs.now };
 }
 
-impl NarrowWeight for OpenWeights<'_> {
+impl<'a> NarrowWeight for OpenWeights<'a> {
     ghost use Rattle.std.specs.Prelude.{length};
     ghost use Rattle.optra_prices.specs.Tables.{allows_by, narrow_weight_by};
 
@@ -35,5 +35,12 @@ impl NarrowWeight for OpenWeights<'_> {
     fn of(&self, arc: u32) -> i64 {
         let arc = &self.arcs[arc as usize];
         arc.value().wrapping_sub(self.grouped[arc.mark as usize])
+    }
+
+    fn copied(&self) -> OpenWeights<'a> {
+        OpenWeights {
+            arcs: self.arcs,
+            grouped: self.grouped,
+        }
     }
 }

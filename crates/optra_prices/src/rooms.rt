@@ -1,5 +1,6 @@
 //! How much is used of rows by their numbers, and the room that is left.
 ghost use Rattle.std.specs.Prelude.{◌≡◌, ◌+◌, ◌<◌, ◌↔◌, IsTrue, true, All, IfOk, OnOk, length, map, replicate};
+ghost use Rattle.optra_prices.specs.Loads.{IsUnused};
 ghost use Rattle.optra_prices.specs.Tables.{AreGroups};
 ghost use Rattle.optra_prices.specs.Rooms.{IsRoom, HasRoomFor, HasRoomForAll, IsNumberWithin, IsTold, IsFreeCopy};
 ghost use Rattle.optra_prices.specs.Uses.{touch_use, touch_uses, AddsUses, TakesUses};
@@ -57,13 +58,20 @@ pub(crate) fn empty_room<F: RowFamily>(
     })
 }
 
+/// The room of rows of these capacities, of which nothing is used.
+pub(crate) fn unused_room(alloc: Global, loads: &Loads) -> Result<Room, NoMemory>
+    ensures { IfOk result (λ room. IsUnused loads.now room.loads) }
+{
+    Ok(Room {
+        loads: loads.unused(alloc)?,
+    })
+}
+
 /// As much room, of which nothing is used.
 pub(crate) fn free_copy(alloc: Global, room: &Room) -> Result<Room, NoMemory>
     ensures { IfOk result (IsFreeCopy room.now) }
 {
-    Ok(Room {
-        loads: room.loads.unused(alloc)?,
-    })
+    unused_room(alloc, &room.loads)
 }
 
 /// Adds what a touch uses.

@@ -42,7 +42,7 @@ impl Weight for Weights<'_> {
     }
 }
 
-impl NarrowWeight for Weights<'_> {
+impl<'a> NarrowWeight for Weights<'a> {
     ghost use Rattle.std.specs.Prelude.{length};
     ghost use Rattle.optra_prices.specs.Tables.{allows_by, narrow_weight_by};
 
@@ -54,6 +54,13 @@ impl NarrowWeight for Weights<'_> {
 
     fn of(&self, arc: u32) -> i64 {
         self.arcs.weight(self.grouped, arc as usize)
+    }
+
+    fn copied(&self) -> Weights<'a> {
+        Weights {
+            arcs: self.arcs.copied(),
+            grouped: self.grouped,
+        }
     }
 }
 

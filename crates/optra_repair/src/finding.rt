@@ -36,7 +36,7 @@ impl Weight for Parts<'_> {
     }
 }
 
-impl NarrowWeight for Parts<'_> {
+impl<'a> NarrowWeight for Parts<'a> {
     ghost use Rattle.std.specs.Prelude.{length};
     ghost use Rattle.optra_repair.specs.Parts.{allows_at, weight_at};
 
@@ -49,6 +49,10 @@ impl NarrowWeight for Parts<'_> {
     fn of(&self, arc: u32) -> i64 {
         let part = self.parts[arc as usize];
         if part.allowed { part.value } else { FAR }
+    }
+
+    fn copied(&self) -> Parts<'a> {
+        *self
     }
 }
 

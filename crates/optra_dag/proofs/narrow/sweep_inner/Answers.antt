@@ -9,7 +9,7 @@ pub overflow_add-sum : goal.overflow_add-sum
 overflow_add-sum g c =
     let some = c.arcs-test.true in
     let few = c.arcs.invariant.few in
-    let v = value_by (g.W.NarrowWeight.allows c.args.weight.now (c.arcs.left - 1)) (g.W.NarrowWeight.weight c.args.weight.now (c.arcs.left - 1)) c.of.result c.of.ensures.allowed c.of.ensures.other in
+    let v = value_by (g.W.NarrowWeight.allows c.args.weight.now (c.arcs.left - 1)) (g.W.NarrowWeight.weight c.args.weight.now (c.arcs.left - 1)) c.of.result (rw c.copied-held.ensures at c.of.ensures.allowed) (rw c.copied-held.ensures at c.of.ensures.other) in
     let w : FitsSigned w64 c.of.result = search rules in
     let rest : FitsSigned w64 (get_or c.arcs.sums (get_or c.args.arcs.now (c.arcs.left - 1) no_arc).to (pos 0)) = search rules in
     let fits = fits_next c.args.arcs.now c.args.ends.now c.args.starts.now _ _ c.args.most c.requires.narrow c.arcs.sums c.arcs.left (c.arcs.left - 1) (omega arith) (omega arith) c.arcs.invariant.best in
@@ -27,7 +27,7 @@ pub arcs-preserved : goal.arcs-preserved
 arcs-preserved g c =
     let some = c.arcs-test.true in
     let few = c.arcs.invariant.few in
-    let v = value_by (g.W.NarrowWeight.allows c.args.weight.now (c.arcs.left - 1)) (g.W.NarrowWeight.weight c.args.weight.now (c.arcs.left - 1)) c.of.result c.of.ensures.allowed c.of.ensures.other in
+    let v = value_by (g.W.NarrowWeight.allows c.args.weight.now (c.arcs.left - 1)) (g.W.NarrowWeight.weight c.args.weight.now (c.arcs.left - 1)) c.of.result (rw c.copied-held.ensures at c.of.ensures.allowed) (rw c.copied-held.ensures at c.of.ensures.other) in
     let w : FitsSigned w64 c.of.result = search rules in
     let rest : FitsSigned w64 (get_or c.arcs.sums (get_or c.args.arcs.now (c.arcs.left - 1) no_arc).to (pos 0)) = search rules in
     let fits = fits_next c.args.arcs.now c.args.ends.now c.args.starts.now _ _ c.args.most c.requires.narrow c.arcs.sums c.arcs.left (c.arcs.left - 1) (omega arith) (omega arith) c.arcs.invariant.best in

@@ -15,8 +15,15 @@ use Rattle.optra_prices.proofs.TableLemmas.{tables_sound}
 use Rattle.optra_prices.proofs.UseLemmas.{none_counted, empty_all}
 use Rattle.optra_prices.proofs.keeping.keep_arcs.Goals as goal
 
-pub decided_root-requires-clause-rows : goal.decided_root-requires-clause-rows
-decided_root-requires-clause-rows g c = c.in_ok-made.ensures.rows_are
+pub decided_root-requires-clause-count : goal.decided_root-requires-clause-count
+decided_root-requires-clause-count g c =
+    let free = c.in_ok-levels.ensures in
+    free.levels.use_count ∙ ap length free.prices ∙ length-replicate (length c.rows.result.now) (pos 0) ∙ ap length c.rows.ensures
+
+pub decided_root-requires-clause-capacities : goal.decided_root-requires-clause-capacities
+decided_root-requires-clause-capacities g c =
+    let rows = g.F.RowFamily.rows_of c.args.rows.now c.args.inst.net.now in
+    subst (λ (rs : List g.row.F-Row.Denot). HaveCapacities rows rs c.in_ok-levels.levels.loads.capacities) c.rows.ensures c.in_ok-levels.ensures.capacities
 
 pub decided_root-requires-clause-tables : goal.decided_root-requires-clause-tables
 decided_root-requires-clause-tables g c = c.in_ok-made.ensures.tables
