@@ -27,6 +27,10 @@ impl NarrowWeight for Marks {
         let mark = self.marks[arc as usize] % 16;
         if mark > 0 { i64::from(mark) - 8 } else { FAR }
     }
+
+    fn copied(&self) -> Marks {
+        *self
+    }
 }
 
 /// Five nodes, each with an arc to each later one; the nodes that are told are ends.
