@@ -3,7 +3,7 @@ use Rattle.std.proofs.Common.{◌≡◌, ℕ, ◌*◌, ◌<◌, true, length, ar
 use Rattle.optra_network.specs.Net.{Net, IsProper}
 use Rattle.optra_network.proofs.HeadwayLemmas.{below_types}
 use Rattle.optra_walk.specs.Families.{PlacesRise}
-use Rattle.optra_rows.specs.PlaceOrder.{minute_place, minutes_rise, minute_within}
+use Rattle.optra_rows.specs.PlaceOrder.{minute_place, minute_places, minutes_rise, minute_within}
 use Rattle.optra_cross.specs.declared.CRow.{CRow}
 use Rattle.optra_cross.specs.CrossLemmas.{row_cmp}
 use Rattle.optra_cross.specs.Crosses.{is_row_of}
@@ -13,7 +13,7 @@ abbrev pub place_in : CRow → ℕ
 place_in row = minute_place row.first_track.0 row.first_at
 
 abbrev pub places_in : Net → ℕ
-places_in net = length net.tracks * 375
+places_in net = length net.tracks * minute_places
 
 small : (net : Net) (row : CRow) → IsProper net → is_row_of net row ≡ true → (row.first_track.0 < length net.tracks) × (row.first_at < 3000)
 small net row proper is =

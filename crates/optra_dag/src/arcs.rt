@@ -54,6 +54,7 @@ impl Arcs {
     }
 
     /// Adds an arc.
+    #[inline(always)]
     pub(crate) fn push(&mut self, arc: Arc) -> Result<(), NoMemory>
         ensures ok { OnOk result (self.new ≡ self.old ++ arc ∷ []) }
         ensures err { OnErr result (self.new ≡ self.old) }

@@ -57,6 +57,7 @@ impl Dag {
 
     /// Adds an arc, and gives its number, the count of arcs before the call. The arc must lead to a later node,
     /// no arc may leave a later node than it does, and there is room for 4,294,967,295 arcs.
+    #[inline(always)]
     pub fn arc(&mut self, from: u32, to: u32) -> Result<u32, NoMemory>
         requires forward { from < to }
         requires node { to < length self.old.ends }

@@ -1,5 +1,5 @@
 -- A flag for each place, and one for the end: which places are reached, and which are kept.
-use Rattle.std.specs.Prelude.{◌≡◌, ℕ, ◌+◌, ◌<◌, ◌≤◌, ◌⊎◌, Bool, true, false, List, ◌∷◌, length, slice_index_or, Contains}
+use Rattle.std.specs.Prelude.{◌≡◌, ℕ, ◌+◌, ◌<◌, ◌≤◌, ◌⊎◌, ◌||◌, Bool, true, false, List, ◌∷◌, length, slice_index_or, Contains}
 use Rattle.optra_network.specs.Net.{Net, IsFromTo}
 use Rattle.optra_bid.specs.Specs.{Path}
 use Rattle.optra_walk.specs.declared.Leg.{Leg}
@@ -19,6 +19,12 @@ IsSet flags place = is_set flags place ≡ true
 abbrev pub IsStartPlace : Path → Layout → ℕ → Type 0
 IsStartPlace path layout place =
     (m : ℕ) × IsFromTo path.depart.from path.depart.to m × IsTimely layout (start_state path m) × (place ≡ place_of layout (start_state path m))
+
+-- whether one of the eight flags from a place on is set
+abbrev pub any_set : List Bool → ℕ → Bool
+any_set flags at =
+    is_set flags at || is_set flags (at + 1) || is_set flags (at + 2) || is_set flags (at + 3) || is_set flags (at + 4) || is_set flags (at + 5) || is_set flags (at + 6)
+    || is_set flags (at + 7)
 
 -- no flag is set from one place on and before another
 abbrev pub IsPassed : List Bool → ℕ → ℕ → Type 0

@@ -35,6 +35,7 @@ impl Legs {
     }
 
     /// Adds a leg.
+    #[inline(always)]
     pub(crate) fn push(&mut self, leg: Leg) -> Result<(), NoMemory>
         requires { dwell_of leg.action < 256 }
         ensures { OnOk result (self.new ≡ self.old ++ leg ∷ []) }

@@ -1,6 +1,6 @@
 //! The next place that is reached. Few places are, in groups, so that the next one is looked at alone, and then eight at once.
-ghost use Rattle.std.specs.Prelude.{◌≡◌, ◌+◌, ◌≤◌, ◌||◌, length};
-ghost use Rattle.optra_graph.specs.Flags.{is_set, IsNext, IsPassed};
+ghost use Rattle.std.specs.Prelude.{◌≡◌, ◌+◌, ◌≤◌, length};
+ghost use Rattle.optra_graph.specs.Flags.{any_set, IsNext, IsPassed};
 
 /// The first place from one on and before the end whose flag is set, or else the end.
 pub fn next_set(flags: &[bool], from: u32, end: u32) -> u32
@@ -36,9 +36,7 @@ fn pass_eights(flags: &[bool], from: u32, end: u32) -> u32
 /// Whether one of the eight flags from there on is set. Each is read, so that they can be read at once.
 fn has_set(flags: &[bool], at: usize) -> bool
     requires { at + 8 ≤ length flags.now }
-    ensures { result ≡ (is_set flags.now at || is_set flags.now (at + 1) || is_set flags.now (at + 2)
-        || is_set flags.now (at + 3) || is_set flags.now (at + 4) || is_set flags.now (at + 5)
-        || is_set flags.now (at + 6) || is_set flags.now (at + 7)) }
+    ensures { result ≡ any_set flags.now at }
 {
     flags[at]
         | flags[at + 1]

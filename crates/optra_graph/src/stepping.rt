@@ -187,7 +187,7 @@ fn may_halt(stop: Stop, way: Way) -> bool
 
 /// The state after a halt or a wait at the head of the way.
 fn stand(way: Way, dwell: u16, done: u16) -> State
-    requires { way.halt + dwell < 65536 }
+    requires { way.halt + dwell ≤ u16.MAX }
     ensures { result
         ≡ record { station = way.head; minute = way.halt + dwell; halted = true; done = done } }
 {

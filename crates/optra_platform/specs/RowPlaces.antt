@@ -3,7 +3,7 @@ use Rattle.std.proofs.Common.{◌≡◌, ℕ, ◌*◌, ◌<◌, true, length, ar
 use Rattle.std.proofs.lemmas.Bool.{ltb-true, leb-true, and_parts}
 use Rattle.optra_network.specs.Net.{Net, IsProper}
 use Rattle.optra_walk.specs.Families.{PlacesRise}
-use Rattle.optra_rows.specs.PlaceOrder.{minute_place, last_minutes_rise, minute_within}
+use Rattle.optra_rows.specs.PlaceOrder.{minute_place, minute_places, last_minutes_rise, minute_within}
 use Rattle.optra_platform.specs.declared.PRow.{PRow}
 use Rattle.optra_platform.specs.PlatformLemmas.{row_cmp}
 use Rattle.optra_platform.specs.PlatformTextLemmas.{limited_there}
@@ -13,7 +13,7 @@ abbrev pub place_in : PRow → ℕ
 place_in row = minute_place row.station.0 row.minute
 
 abbrev pub places_in : Net → ℕ
-places_in net = length net.stations * 375
+places_in net = length net.stations * minute_places
 
 small : (net : Net) (row : PRow) → IsProper net → is_row_of net row ≡ true → (row.station.0 < length net.stations) × (row.minute < 3000)
 small net row proper is =

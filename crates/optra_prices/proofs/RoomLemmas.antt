@@ -1,11 +1,11 @@
 -- Room by the numbers of rows: how it changes, and what it tells of legs.
-use Rattle.std.proofs.Common.{◌≡◌, ℕ, ◌+◌, ◌≤◌, ◌<◌, List, [], ◌∷◌, length, get_or, replicate, Some, slice_get, refl, ap, ◌∙◌, subst, arith, inl, inr}
+use Rattle.std.proofs.Common.{◌≡◌, ℕ, ◌+◌, ◌≤◌, ◌<◌, List, [], ◌∷◌, length, map, get_or, replicate, Some, slice_get, refl, ap, ◌∙◌, subst, arith, inl, inr}
 use Rattle.std.specs.Prelude.{◌↔◌, All, Contains}
 use Rattle.std.specs.List.{AllZip}
 use Rattle.std.specs.declared.cmp.Ordering.{Ordering}
 use Rattle.std.proofs.lemmas.Bool.{cases_lt}
 use Rattle.std.proofs.lemmas.List.{length-replicate, get_or-replicate}
-use Rattle.std.proofs.lemmas.List.Elements.{All-nil, All-cons}
+use Rattle.std.proofs.lemmas.List.Elements.{All-nil, All-cons, All-head, All-tail, All-append, All-map}
 use Rattle.std.proofs.lemmas.Option.{slice_get_within, slice_get-get_or, get_or_from_slice_get}
 use Rattle.optra_network.specs.declared.TypeId.{TypeId}
 use Rattle.optra_bid.specs.declared.bids.Bid.{Bid}
@@ -15,7 +15,8 @@ use Rattle.optra_node.specs.declared.Decision.{Decision}
 use Rattle.optra_node.specs.Nodes.{IsBlocked, others_load}
 use Rattle.optra_node.proofs.LoadLemmas.{contains_cases, contains_head, contains_later}
 use Rattle.optra_prices.specs.Courses.{HaveCapacities}
-use Rattle.optra_prices.specs.Loads.{RowLoads, IsUnused}
+use Rattle.optra_prices.specs.Loads.{RowLoads, FitsOnce, IsUnused}
+use Rattle.optra_prices.specs.NarrowTouches.{touch_of, touches_of}
 use Rattle.optra_prices.specs.Rooms.{IsRoom, HasRoomFor, HasRoomForAll}
 use Rattle.optra_prices.specs.Tables.{IsTouch, AreTouches}
 use Rattle.optra_prices.specs.Uses.{AddsUses, TakesUses}
@@ -129,3 +130,17 @@ module _ {R : Type 0} (rows : Rows R) (numbered : List R) (extra : ℕ → ℕ) 
         slice_get-get_or new.loads.uses n 0 m ∙ ap Some v;
     capacities_are = λ n row at. ap (λ (cs : List ℕ). slice_get cs n) kept ∙ is.capacities_are n row at;
   }
+
+-- there is room for each of the touches where there is for the narrow ones and for the others
+pub room_for_both : (room : Room) (narrow : List ℕ) (wide : List Touch) → All (FitsOnce room.loads) narrow → HasRoomForAll room wide → HasRoomForAll room (touches_of narrow wide)
+room_for_both room narrow wide once others = All-append (HasRoomFor room) (map touch_of narrow) wide (All-map (HasRoomFor room) touch_of narrow once) others
+
+-- and then there is room for the narrow ones
+pub room_for_narrow : (room : Room) (narrow : List ℕ) (wide : List Touch) → HasRoomForAll room (touches_of narrow wide) → All (FitsOnce room.loads) narrow
+room_for_narrow room [] wide all = All-nil (FitsOnce room.loads)
+room_for_narrow room (row ∷ narrow) wide all = All-cons (FitsOnce room.loads) row narrow (All-head (HasRoomFor room) (touch_of row) (touches_of narrow wide) all) (room_for_narrow room narrow wide (All-tail (HasRoomFor room) (touch_of row) (touches_of narrow wide) all))
+
+-- and for the others
+pub room_for_wide : (room : Room) (narrow : List ℕ) (wide : List Touch) → HasRoomForAll room (touches_of narrow wide) → HasRoomForAll room wide
+room_for_wide room [] wide all = all
+room_for_wide room (row ∷ narrow) wide all = room_for_wide room narrow wide (All-tail (HasRoomFor room) (touch_of row) (touches_of narrow wide) all)

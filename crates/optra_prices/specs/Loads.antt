@@ -1,5 +1,5 @@
 -- How much is used of rows, beside their capacities.
-use Rattle.std.specs.Prelude.{◌≡◌, ℕ, List, length, map, replicate, slice_set}
+use Rattle.std.specs.Prelude.{◌≡◌, ◌+◌, ◌≤◌, ℕ, Bool, true, false, List, length, map, replicate, slice_index, slice_set}
 use Rattle.optra_prices.specs.declared.narrow_loads.NarrowLoad.{NarrowLoad}
 use Rattle.optra_prices.specs.declared.wide_loads.Load.{Load}
 
@@ -41,3 +41,13 @@ pub record IsUnused (old new : RowLoads) : Type 0 where
 pub record SetsUses (number uses : ℕ) (old new : RowLoads) : Type 0 where
   pub uses_are : new.uses ≡ slice_set old.uses number uses
   pub capacities : new.capacities ≡ old.capacities
+
+-- one more use of the row with this number fits
+abbrev pub FitsOnce : RowLoads → ℕ → Type 0
+FitsOnce loads number = slice_index loads.uses number + 1 ≤ slice_index loads.capacities number
+
+-- one more is used of the row with this number, for which there is room, or all is as it was
+pub record AddsOnce (number : ℕ) (added : Bool) (old new : RowLoads) : Type 0 where
+  pub room : added ≡ true → FitsOnce old number
+  pub adds : added ≡ true → SetsUses number (slice_index old.uses number + 1) old new
+  pub stays : added ≡ false → new ≡ old

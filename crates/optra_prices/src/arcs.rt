@@ -91,6 +91,7 @@ impl Arcs {
     }
 
     /// Adds an arc.
+    #[inline(always)]
     pub(crate) fn push(&mut self, term: ArcTerm) -> Result<(), NoMemory>
         ensures { OnOk result (self.new ≡ self.old ++ term ∷ []) }
     {

@@ -66,7 +66,7 @@ fn price_move(old: i64, new: i64) -> i64
 pub(crate) fn free_levels(alloc: Global, loads: Loads) -> Result<Levels, NoMemory>
     requires unused { (n : ℕ) → slice_index loads.uses n ≡ 0 }
     requires count { length loads.capacities ≡ length loads.uses }
-    requires small { All (λ capacity. capacity ≤ 65535) loads.capacities }
+    requires small { All (λ capacity. capacity ≤ most_capacity) loads.capacities }
     ensures levels { IfOk result IsLevels }
     ensures unused { IfOk result AreUnused }
     ensures capacities { IfOk result (λ levels. levels.loads.capacities ≡ loads.capacities) }
@@ -329,8 +329,8 @@ pub(crate) fn set_prices(
     Ok(())
 }
 
-/// Adds what a touch uses.
-pub(crate) fn add_touch(levels: &mut Levels, touch: Touch) -> Result<(), NoMemory>
+/// Adds what a touch uses, and makes its row active where there is no room for that.
+fn add_any(levels: &mut Levels, touch: Touch) -> Result<(), NoMemory>
     requires { IsLevels levels.old }
     ensures levels { OnOk result (IsLevels levels.new) }
     ensures uses { OnOk result (AddsUses (touch_use touch) levels.old.loads.uses
@@ -343,6 +343,23 @@ pub(crate) fn add_touch(levels: &mut Levels, touch: Touch) -> Result<(), NoMemor
     }
     wake_above(levels, touch.row, touch.uses)?;
     levels.loads.add(place, touch.uses)
+}
+
+/// Adds what a touch uses: mostly once a row that has room for it.
+pub(crate) fn add_touch(levels: &mut Levels, touch: Touch) -> Result<(), NoMemory>
+    requires { IsLevels levels.old }
+    ensures levels { OnOk result (IsLevels levels.new) }
+    ensures uses { OnOk result (AddsUses (touch_use touch) levels.old.loads.uses
+        levels.new.loads.uses) }
+    ensures prices { OnOk result (KeepsPrices levels.old levels.new) }
+{
+    if touch.uses != 1 {
+        return add_any(levels, touch);
+    }
+    if levels.loads.add_once(touch.row) {
+        return Ok(());
+    }
+    add_any(levels, touch)
 }
 
 /// Takes away what a touch uses.

@@ -1,6 +1,6 @@
 //! How much is used of rows by number, beside how much there is of them; exact, without a limit but memory.
-ghost use Rattle.std.specs.Prelude.{◌≡◌, ◌↔◌, ◌+◌, ◌-◌, ◌^◌, ◌≤◌, ◌++◌, ◌∷◌, [], min, IsTrue, IfOk, IfSome, OnOk, length, slice_index};
-ghost use Rattle.optra_prices.specs.Loads.{IsUnused, SetsUses};
+ghost use Rattle.std.specs.Prelude.{◌≡◌, ◌↔◌, ◌+◌, ◌-◌, ◌^◌, ◌≤◌, ◌++◌, ◌∷◌, [], All, min, IsTrue, IfOk, IfSome, OnOk, length, slice_index};
+ghost use Rattle.optra_prices.specs.Loads.{AddsOnce, FitsOnce, IsUnused, SetsUses};
 
 use crate::narrow_loads::NarrowLoads;
 use crate::wide_loads::WideLoads;
@@ -116,6 +116,7 @@ impl Loads {
     }
 
     /// Adds a row, of which nothing is used.
+    #[inline(always)]
     pub(crate) fn push(&mut self, capacity: u32) -> Result<(), NoMemory>
         ensures uses { OnOk result (self.new.uses ≡ self.old.uses ++ 0 ∷ []) }
         ensures capacities { OnOk result (self.new.capacities ≡ self.old.capacities
@@ -163,6 +164,31 @@ impl Loads {
         self.wide.add(number, by)?;
         self.is_narrow = false;
         Ok(())
+    }
+
+    /// Adds one to what is used of a row where it is seen at once that there is room for it, and tells whether it is.
+    pub(crate) fn add_once(&mut self, number: usize) -> bool
+        ensures { AddsOnce number result self.old self.new }
+    {
+        if !self.is_narrow {
+            return false;
+        }
+        self.narrow.add_once(number)
+    }
+
+    /// Whether there is room for one more use of each of the rows.
+    pub(crate) fn fit_once(&self, rows: &[u32]) -> bool
+        ensures { IsTrue result ↔ All (FitsOnce self.now) rows.now }
+    {
+        if self.is_narrow {
+            return self.narrow.fit_once(rows);
+        }
+        for k in 0..rows.len() {
+            if !self.fits(rows[k] as usize, 1) {
+                return false;
+            }
+        }
+        true
     }
 
     /// Takes away from what is used of a row, to 0 at the least. Where there is none, nothing changes.

@@ -173,6 +173,11 @@ fn guessed_group<F: RowFamily>(
     if let Some(group) = head_group(net, rows, making, making.last, kind, leg) {
         return Some(group);
     }
+    let next = making.last.saturating_add(1);
+    if let Some(group) = head_group(net, rows, making, next, kind, leg) {
+        making.last = next;
+        return Some(group);
+    }
     let guess = guess_at(&making.guesses, place_of(kind, leg));
     if let Some(group) = head_group(net, rows, making, guess, kind, leg) {
         making.last = guess;

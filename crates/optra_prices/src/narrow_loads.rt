@@ -1,6 +1,6 @@
 //! How much is used of rows by number, beside how much there is of them, in two bytes a row.
-ghost use Rattle.std.specs.Prelude.{◌≡◌, ◌++◌, ◌∷◌, [], IfOk, OnOk, length, replicate, slice_index, slice_index_or, slice_set};
-ghost use Rattle.optra_prices.specs.Loads.{IsUnused, SetsUses, used_in, narrow_capacities_in, no_narrow_load};
+ghost use Rattle.std.specs.Prelude.{◌≡◌, ◌↔◌, ◌++◌, ◌∷◌, [], All, IsTrue, IfOk, OnOk, length, replicate, slice_index, slice_index_or, slice_set};
+ghost use Rattle.optra_prices.specs.Loads.{AddsOnce, FitsOnce, IsUnused, SetsUses, used_in, narrow_capacities_in, no_narrow_load};
 
 use optra_network::NoMemory;
 use std::alloc::Global;
@@ -119,6 +119,32 @@ impl NarrowLoads {
         ensures { SetsUses number used self.old self.new }
     {
         set_used(&mut self.rows, number, used);
+    }
+
+    /// Adds one to what is used of a row where there is room for it, and tells whether there is. Where there is no row, there
+    /// is none.
+    pub(crate) fn add_once(&mut self, number: usize) -> bool
+        ensures { AddsOnce number result self.old self.new }
+    {
+        let load = load_at(&self.rows, number);
+        if load.used >= load.capacity {
+            return false;
+        }
+        set_used(&mut self.rows, number, load.used + 1);
+        true
+    }
+
+    /// Whether there is room for one more use of each of the rows.
+    pub(crate) fn fit_once(&self, rows: &[u32]) -> bool
+        ensures { IsTrue result ↔ All (FitsOnce self.now) rows.now }
+    {
+        for k in 0..rows.len() {
+            let load = load_at(&self.rows, rows[k] as usize);
+            if load.used >= load.capacity {
+                return false;
+            }
+        }
+        true
     }
 
     /// How much is used of a row, and 0 where there is none.

@@ -96,6 +96,7 @@ impl Numbers {
     }
 
     /// Adds a number.
+    #[inline(always)]
     pub(crate) fn push(&mut self, number: usize) -> Result<(), NoMemory>
         ensures { OnOk result (self.new.items ≡ self.old.items ++ number ∷ []) }
     {
@@ -133,6 +134,7 @@ impl Numbers {
     }
 
     /// Adds one to the number at a place, and tells what it was.
+    #[inline(always)]
     pub(crate) fn raise(&mut self, place: usize) -> Result<usize, NoMemory>
         requires within { place < length self.old.items }
         requires small { slice_index self.old.items place < 2 ^ 64 - 1 }

@@ -139,16 +139,23 @@ fn has_room_for(room: &Room, touch: Touch) -> bool
     room.loads.fits(touch.row, touch.uses)
 }
 
-/// Whether there is room for each of the touches.
-pub(crate) fn has_room(room: &Room, touches: &TouchSlice<'_>) -> bool
+/// Whether there is room for each of the touches, one after the other.
+fn has_room_for_all(room: &Room, touches: &[Touch]) -> bool
     ensures { IsTrue result ↔ HasRoomForAll room.now touches.now }
 {
     for k in 0..touches.len() {
-        if !has_room_for(room, touches.at(k)) {
+        if !has_room_for(room, touches[k]) {
             return false;
         }
     }
     true
+}
+
+/// Whether there is room for each of the touches. Of the narrow ones that is asked at once.
+pub(crate) fn has_room(room: &Room, touches: &TouchSlice<'_>) -> bool
+    ensures { IsTrue result ↔ HasRoomForAll room.now touches.now }
+{
+    room.loads.fit_once(touches.narrow) && has_room_for_all(room, touches.wide)
 }
 
 /// A group of rows that arcs touch, and whether there is room for it.

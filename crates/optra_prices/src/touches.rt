@@ -88,6 +88,7 @@ impl Touches {
     }
 
     /// Adds a touch.
+    #[inline(always)]
     pub(crate) fn push(&mut self, touch: Touch) -> Result<(), NoMemory>
         ensures { OnOk result (self.new ≡ self.old ++ touch ∷ []) }
     {

@@ -12,15 +12,15 @@ use Rattle.optra_walk.specs.Families.{PlacesRise}
 use Rattle.optra_rows.specs.declared.HRow.{HRow}
 use Rattle.optra_rows.specs.declared.HRow.TheVariants.{Window, Pair}
 use Rattle.optra_rows.specs.Headways.{is_row_of}
-use Rattle.optra_rows.specs.PlaceOrder.{minute_place, minutes_rise, last_minutes_rise, minute_within}
+use Rattle.optra_rows.specs.PlaceOrder.{minute_place, minute_places, minutes_rise, last_minutes_rise, minute_within}
 use Rattle.optra_rows.specs.TouchedLemmas.{row_cmp}
 
 abbrev pub place_in : Net → HRow → ℕ
 place_in net (Window k m) = minute_place k.0 m
-place_in net (Pair k t a u b) = length net.tracks * 375 + minute_place k.0 t
+place_in net (Pair k t a u b) = length net.tracks * minute_places + minute_place k.0 t
 
 abbrev pub places_in : Net → ℕ
-places_in net = length net.tracks * 375 + length net.tracks * 375
+places_in net = length net.tracks * minute_places + length net.tracks * minute_places
 
 -- the track and the minute of a window, and the track and the first minute of a pair
 window_small : (net : Net) (k : TrackId) (m : ℕ) → is_row_of net (Window k m) ≡ true → (k.0 < length net.tracks) × (m < 3000)

@@ -36,9 +36,13 @@ last_part x y less = elim (less_parts x y Less (ap (λ c. ordering_then c Less) 
 
 -- ---- about where rows stand that are ordered by a number and a minute first
 
--- the place of a minute of a track or of a station, of which eight share one
+-- so many places the minutes of a track or of a station have
+abbrev pub minute_places : ℕ
+minute_places = 1500
+
+-- the place of a minute of a track or of a station, of which two share one
 abbrev pub minute_place : ℕ → ℕ → ℕ
-minute_place k minute = k * 375 + minute / 8
+minute_place k minute = k * minute_places + minute / 2
 
 -- of two that are in order the first has no higher place
 pub minutes_rise : (k m k' m' : ℕ) (rest : Ordering) → m < 3000 → ordering_then (nat_cmp k k') (ordering_then (nat_cmp m m') rest) ≡ Less → minute_place k m ≤ minute_place k' m'
@@ -56,8 +60,8 @@ last_minutes_rise k m k' m' small less = elim (less_parts k k' (nat_cmp m m') le
   | inr same ↦ let e = same.0 in let l = last_part m m' same.1 in omega (arith, e, l)
 ]
 
--- the minutes of so many have 375 places each
-pub minute_within : (k m count : ℕ) → k < count → m < 3000 → minute_place k m ≤ count * 375
+-- no minute of so many tracks or stations has a higher place
+pub minute_within : (k m count : ℕ) → k < count → m < 3000 → minute_place k m ≤ count * minute_places
 minute_within k m count l small = omega (arith, l, small)
 
 -- ---- so many places, so many rows

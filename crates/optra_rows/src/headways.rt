@@ -11,6 +11,7 @@ ghost use Rattle.optra_walk.specs.Choices.{KeepsHeadways, uses_of};
 ghost use Rattle.optra_walk.specs.Families.{IsUsable, FitRows, entries_of};
 ghost use Rattle.optra_rows.specs.FewRows.{AreFewHeadways};
 ghost use Rattle.optra_rows.specs.Headways.{is_row_of, is_used_by, headway_rows, IsFirstOver, IsFirstStarted, IsHeadwayRow, in_day, pair_of, is_started, is_not_over, ShiftsRise, kept};
+ghost use Rattle.optra_rows.specs.PlaceOrder.{minute_places};
 
 use crate::HRow;
 use crate::minute_places::{MINUTE_PLACES, minute_place};
@@ -146,7 +147,7 @@ impl RowFamily for HeadwayRows {
 
 /// How many places the minutes of all tracks have.
 fn track_places(net: &Network) -> usize
-    ensures places { result ≡ length net.now.tracks * 375 }
+    ensures places { result ≡ length net.now.tracks * minute_places }
     ensures few { result < 2 ^ 32 }
 {
     usize::from(net.track_count()) * MINUTE_PLACES

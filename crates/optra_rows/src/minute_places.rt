@@ -5,10 +5,10 @@ ghost use Rattle.optra_rows.specs.PlaceOrder.{minute_place};
 use optra_network::Minute;
 
 /// So many minutes share a place, so that a place has few rows and there are few places without one.
-const MINUTES: usize = 8;
+const MINUTES: usize = 2;
 
 /// So many places the minutes of a track or of a station have: 3,000 minutes.
-pub const MINUTE_PLACES: usize = 375;
+pub const MINUTE_PLACES: usize = 1500;
 
 /// The place of a minute of a track or of a station with this number.
 pub fn minute_place(number: u16, minute: Minute) -> usize

@@ -5,7 +5,7 @@ use Rattle.optra_prices.specs.Levels.{capacity_of}
 use Rattle.optra_prices.specs.Uses.{AddsUses, touch_use}
 use Rattle.optra_prices.proofs.LevelLemmas.{used_levels}
 use Rattle.optra_prices.proofs.UseLemmas.{touch_adds}
-use Rattle.optra_prices.proofs.levels.add_touch.Goals as goal
+use Rattle.optra_prices.proofs.levels.add_any.Goals as goal
 
 pub returns-clause-levels : goal.returns-clause-levels
 returns-clause-levels c =
