@@ -36,7 +36,9 @@ fn row_at(touches: &TouchSlice<'_>, at: usize) -> usize {
     }
 }
 
-/// Adds what the leg touches. Its rows are guessed to be those that touches name from a place on.
+/// Adds what the leg touches. Its rows are guessed to be those that touches name from a place on. Few arcs need it, and
+/// what each arc goes through is quicker where it is no part of that.
+#[inline(never)]
 pub(crate) fn push_touches<F: RowFamily>(
     net: &Network,
     rows: &F,

@@ -12,15 +12,15 @@ use Rattle.optra_walk.specs.Families.{PlacesRise}
 use Rattle.optra_rows.specs.declared.HRow.{HRow}
 use Rattle.optra_rows.specs.declared.HRow.TheVariants.{Window, Pair}
 use Rattle.optra_rows.specs.Headways.{is_row_of}
-use Rattle.optra_rows.specs.PlaceOrder.{minute_place, minute_places, minutes_rise, last_minutes_rise, minute_within}
+use Rattle.optra_rows.specs.PlaceOrder.{minute_place, minute_places, minutes_rise, minute_within, window_place, window_places, windows_rise, window_within}
 use Rattle.optra_rows.specs.TouchedLemmas.{row_cmp}
 
 abbrev pub place_in : Net → HRow → ℕ
-place_in net (Window k m) = minute_place k.0 m
-place_in net (Pair k t a u b) = length net.tracks * minute_places + minute_place k.0 t
+place_in net (Window k m) = window_place k.0 m
+place_in net (Pair k t a u b) = length net.tracks * window_places + minute_place k.0 t
 
 abbrev pub places_in : Net → ℕ
-places_in net = length net.tracks * minute_places + length net.tracks * minute_places
+places_in net = length net.tracks * window_places + length net.tracks * minute_places
 
 -- the track and the minute of a window, and the track and the first minute of a pair
 window_small : (net : Net) (k : TrackId) (m : ℕ) → is_row_of net (Window k m) ≡ true → (k.0 < length net.tracks) × (m < 3000)
@@ -38,10 +38,10 @@ pair_small net k t a u b proper is =
     ((below_types net k a proper pair.first).2, omega (arith, apart, late))
 
 rise : (net : Net) (a b : HRow) → IsProper net → is_row_of net a ≡ true → is_row_of net b ≡ true → row_cmp a b ≡ Less → place_in net a ≤ place_in net b
-rise net (Window k m) (Window k' m') proper is is' less = last_minutes_rise k.0 m k'.0 m' (window_small net k m is).1 less
+rise net (Window k m) (Window k' m') proper is is' less = windows_rise k.0 m k'.0 m' (window_small net k m is).1 less
 rise net (Window k m) (Pair k' t' a' u' b') proper is is' less =
     let small = window_small net k m is in
-    let low = minute_within k.0 m (length net.tracks) small.0 small.1 in
+    let low = window_within k.0 m (length net.tracks) small.0 small.1 in
     omega (arith, low)
 rise net (Pair k t a u b) (Window k' m') proper is is' less = absurd (let bad : Greater ≡ Less = less in cc bad)
 rise net (Pair k t a u b) (Pair k' t' a' u' b') proper is is' less =
@@ -51,7 +51,7 @@ rise net (Pair k t a u b) (Pair k' t' a' u' b') proper is is' less =
 within : (net : Net) (row : HRow) → IsProper net → is_row_of net row ≡ true → place_in net row ≤ places_in net
 within net (Window k m) proper is =
     let small = window_small net k m is in
-    let low = minute_within k.0 m (length net.tracks) small.0 small.1 in
+    let low = window_within k.0 m (length net.tracks) small.0 small.1 in
     omega (arith, low)
 within net (Pair k t a u b) proper is =
     let small = pair_small net k t a u b proper is in

@@ -44,6 +44,14 @@ minute_places = 1500
 abbrev pub minute_place : ℕ → ℕ → ℕ
 minute_place k minute = k * minute_places + minute / 2
 
+-- so many places the windows of a track have
+abbrev pub window_places : ℕ
+window_places = 375
+
+-- the place of a window of a track, of which eight share one
+abbrev pub window_place : ℕ → ℕ → ℕ
+window_place k minute = k * window_places + minute / 8
+
 -- of two that are in order the first has no higher place
 pub minutes_rise : (k m k' m' : ℕ) (rest : Ordering) → m < 3000 → ordering_then (nat_cmp k k') (ordering_then (nat_cmp m m') rest) ≡ Less → minute_place k m ≤ minute_place k' m'
 minutes_rise k m k' m' rest small less = elim (less_parts k k' (ordering_then (nat_cmp m m') rest) less) [
@@ -59,6 +67,17 @@ last_minutes_rise k m k' m' small less = elim (less_parts k k' (nat_cmp m m') le
   | inl lt ↦ omega (arith, lt, small)
   | inr same ↦ let e = same.0 in let l = last_part m m' same.1 in omega (arith, e, l)
 ]
+
+-- of two windows that are in order the first has no higher place
+pub windows_rise : (k m k' m' : ℕ) → m < 3000 → ordering_then (nat_cmp k k') (nat_cmp m m') ≡ Less → window_place k m ≤ window_place k' m'
+windows_rise k m k' m' small less = elim (less_parts k k' (nat_cmp m m') less) [
+  | inl lt ↦ omega (arith, lt, small)
+  | inr same ↦ let e = same.0 in let l = last_part m m' same.1 in omega (arith, e, l)
+]
+
+-- no window of so many tracks has a higher place
+pub window_within : (k m count : ℕ) → k < count → m < 3000 → window_place k m ≤ count * window_places
+window_within k m count l small = omega (arith, l, small)
 
 -- no minute of so many tracks or stations has a higher place
 pub minute_within : (k m count : ℕ) → k < count → m < 3000 → minute_place k m ≤ count * minute_places

@@ -11,10 +11,10 @@ ghost use Rattle.optra_walk.specs.Choices.{KeepsHeadways, uses_of};
 ghost use Rattle.optra_walk.specs.Families.{IsUsable, FitRows, entries_of};
 ghost use Rattle.optra_rows.specs.FewRows.{AreFewHeadways};
 ghost use Rattle.optra_rows.specs.Headways.{is_row_of, is_used_by, headway_rows, IsFirstOver, IsFirstStarted, IsHeadwayRow, in_day, pair_of, is_started, is_not_over, ShiftsRise, kept};
-ghost use Rattle.optra_rows.specs.PlaceOrder.{minute_places};
+ghost use Rattle.optra_rows.specs.PlaceOrder.{minute_places, window_places};
 
 use crate::HRow;
-use crate::minute_places::{MINUTE_PLACES, minute_place};
+use crate::minute_places::{MINUTE_PLACES, WINDOW_PLACES, minute_place, window_place};
 use optra_network::{Minute, Network, Partner, TrackId, TypeId};
 use optra_walk::{Leg, RowFamily};
 
@@ -106,6 +106,7 @@ impl RowFamily for HeadwayRows {
         1
     }
 
+    #[inline(always)]
     fn touched(&self, net: &Network, kind: TypeId, leg: Leg, k: u32) -> Option<HRow> {
         let least = u32::from(least_of(net, leg.track, kind));
         if k < least {
@@ -126,27 +127,36 @@ impl RowFamily for HeadwayRows {
     /// First stand the windows by track and minute, and then the pairs by track and first minute.
     fn place(&self, net: &Network, row: HRow) -> usize {
         match row {
-            HRow::Window { track, minute } => minute_place(track.0, minute),
+            HRow::Window { track, minute } => window_place(track.0, minute),
             HRow::Pair {
                 track,
                 first_at,
                 ..
-            } => track_places(net) + minute_place(track.0, first_at),
+            } => window_places(net) + minute_place(track.0, first_at),
         }
     }
 
     fn places(&self, net: &Network) -> usize {
-        track_places(net) + track_places(net)
+        window_places(net) + pair_places(net)
     }
 
     /// Legs of a type use the same where they enter the same track at the same minute.
+    #[inline(always)]
     fn use_alike(&self, _net: &Network, _kind: TypeId, first: Leg, second: Leg) -> bool {
         first.track == second.track && first.depart == second.depart
     }
 }
 
-/// How many places the minutes of all tracks have.
-fn track_places(net: &Network) -> usize
+/// How many places the windows of all tracks have.
+fn window_places(net: &Network) -> usize
+    ensures places { result ≡ length net.now.tracks * window_places }
+    ensures few { result < 2 ^ 32 }
+{
+    usize::from(net.track_count()) * WINDOW_PLACES
+}
+
+/// How many places the pairs of all tracks have.
+fn pair_places(net: &Network) -> usize
     ensures places { result ≡ length net.now.tracks * minute_places }
     ensures few { result < 2 ^ 32 }
 {
