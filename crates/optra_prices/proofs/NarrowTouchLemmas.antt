@@ -8,6 +8,7 @@ use Rattle.std.proofs.Math.Nat.{min-eq_left, min-eq_right}
 use Rattle.std.proofs.lemmas.Bool.{cases_lt}
 use Rattle.std.proofs.lemmas.List.{drop-map, take-map, drop_min, take_all, length-drop, length-map}
 use Rattle.optra_prices.specs.NarrowTouches.{touch_of, touches_of}
+use Rattle.optra_prices.specs.Users.{rows_touched}
 use Rattle.optra_prices.specs.declared.touch.Touch.{Touch}
 
 -- what stands from a place on in two lists, one after the other
@@ -86,3 +87,12 @@ range_lent narrow v wide w n a b from to start end long lent others f t s e l =
 pub narrow_once : (narrow : List ℕ) (wide : List Touch) → wide ≡ [] → All (λ touch. touch.uses ≡ 1) (touches_of narrow wide)
 narrow_once [] wide none = subst (All (λ (t : Touch). t.uses ≡ 1)) (sym none) (All-nil (λ (t : Touch). t.uses ≡ 1))
 narrow_once (row ∷ narrow) wide none = All-cons (λ (t : Touch). t.uses ≡ 1) (touch_of row) (touches_of narrow wide) refl (narrow_once narrow wide none)
+
+-- the rows of narrow touches alone
+rows_alone : (narrow : List ℕ) → narrow ≡ rows_touched (map touch_of narrow ++ [])
+rows_alone [] = refl
+rows_alone (row ∷ narrow) = ap (λ (rows : List ℕ). row ∷ rows) (rows_alone narrow)
+
+pub rows_narrow : (narrow : List ℕ) (wide : List Touch) → length wide ≡ 0 → narrow ≡ rows_touched (touches_of narrow wide)
+rows_narrow narrow [] none = rows_alone narrow
+rows_narrow narrow (touch ∷ wide) none = absurd (omega arith)

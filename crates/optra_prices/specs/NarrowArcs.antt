@@ -1,5 +1,5 @@
 -- How the arcs of a bid's graph are kept in few bytes: most have their value in 32 bits, and their mark tells the group and whether they may be taken.
-use Rattle.std.specs.Prelude.{◌≡◌, ℕ, ◌-◌, ◌<◌, Bool, true, cond, List, ◌++◌, map, length, nat_lt, All, sum_by}
+use Rattle.std.specs.Prelude.{◌≡◌, ℕ, ◌-◌, ◌<◌, Bool, true, cond, List, ◌++◌, map, nat_lt, All, sum_by}
 use Rattle.std.specs.Prelude.{ℤ, pos, ◌*ℤ◌, if◌then◌else◌}
 use Rattle.optra_prices.specs.ArcTerms.{ArcTerm}
 use Rattle.optra_prices.specs.declared.narrow_arc.NarrowArc.{NarrowArc}

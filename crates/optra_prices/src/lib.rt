@@ -14,6 +14,7 @@ mod arc_slice;
 mod arc_tables;
 mod arc_term;
 mod arcs;
+mod cells;
 mod claims;
 mod columns;
 mod courses;

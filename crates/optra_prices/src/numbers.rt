@@ -84,6 +84,28 @@ impl Numbers {
         })
     }
 
+    /// The same numbers, which fit into 32 bits each.
+    pub(crate) fn of_narrow(alloc: Global, narrow: Vec<u32>) -> Numbers
+        ensures { result.items ≡ narrow.items }
+    {
+        Numbers {
+            is_narrow: true,
+            narrow,
+            wide: Vec::new(alloc),
+        }
+    }
+
+    /// The same numbers.
+    pub(crate) fn of_wide(alloc: Global, wide: Vec<usize>) -> Numbers
+        ensures { result.items ≡ wide.items }
+    {
+        Numbers {
+            is_narrow: false,
+            narrow: Vec::new(alloc),
+            wide,
+        }
+    }
+
     /// How many there are.
     pub(crate) fn len(&self) -> usize
         ensures { result ≡ length self.now.items }
@@ -131,25 +153,6 @@ impl Numbers {
         self.wide[place] = number;
         self.is_narrow = false;
         Ok(())
-    }
-
-    /// Adds one to the number at a place, and tells what it was.
-    #[inline(always)]
-    pub(crate) fn raise(&mut self, place: usize) -> Result<usize, NoMemory>
-        requires within { place < length self.old.items }
-        requires small { slice_index self.old.items place < 2 ^ 64 - 1 }
-        ensures was { IfOk result (λ was. was ≡ slice_index self.old.items place) }
-        ensures raised { OnOk result (self.new.items ≡ slice_set self.old.items place
-            (slice_index self.old.items place + 1)) }
-    {
-        if self.is_narrow && self.narrow[place] < u32::MAX {
-            let was = self.narrow[place];
-            self.narrow[place] = was + 1;
-            return Ok(was as usize);
-        }
-        let was = self.at(place);
-        self.set(place, was + 1)?;
-        Ok(was)
     }
 
     /// Lets go the room for more numbers.

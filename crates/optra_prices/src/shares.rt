@@ -6,30 +6,31 @@ ghost use Rattle.optra_prices.specs.Shares.{ArePutUses};
 ghost use Rattle.optra_prices.specs.Users.{rows_touched};
 
 use crate::amounts::Amounts;
-use crate::index::{Index, open_index, put};
+use crate::cells::WideCells;
+use crate::index::{Index, Opening, open_index, put};
 use crate::numbering::Groups;
 use crate::touch_slice::TouchSlice;
 use optra_network::NoMemory;
 use std::alloc::Global;
 
 /// Puts what each touch uses where its group is put.
-fn put_uses(index: &mut Index, touches: &TouchSlice<'_>) -> Result<(), NoMemory>
+fn put_uses(index: &mut Opening<WideCells>, touches: &TouchSlice<'_>)
     requires { IsOpen (rows_touched touches.now) 0 index.old }
-    ensures { OnOk result (ArePutUses touches.now index.new.items.items) }
+    ensures { ArePutUses touches.now index.new.items.items }
 {
     for place in 0..touches.len() {
-        put(index, touches, place, touches.at(place).uses as usize)?;
+        put(index, touches, place, touches.at(place).uses as usize);
     }
-    Ok(())
 }
 
 /// What touches use, where their groups are put.
 fn list_uses(alloc: Global, touches: &TouchSlice<'_>) -> Result<Index, NoMemory>
     ensures { IfOk result (λ index. ArePutUses touches.now index.items.items) }
 {
-    let mut index = open_index(alloc, touches)?;
-    put_uses(&mut index, touches)?;
-    Ok(index)
+    let _count = touches.len();
+    let mut opening = open_index(alloc, touches)?;
+    put_uses(&mut opening, touches);
+    Ok(opening.index(alloc))
 }
 
 /// What each touch uses, in the order of the index of the groups that touch each row.

@@ -14,6 +14,6 @@ loop-place-preserved c =
     let inv = c.loop-place.invariant in
     let l : n < length touches = let t = c.loop-place-test.true in omega arith in
     record {
-      are_open = c.in_ok-put.ensures.room;
-      put = uses_more rows touches n _ c.loop-place.index c.put.new.index (ap (λ (t : Touch). t.uses) c.at.ensures ∙ sym (get_or-map (λ (t : Touch). t.uses) touches n no_touch 0 l)) inv.put c.in_ok-put.ensures.puts;
+      are_open = c.put.ensures.room;
+      put = uses_more rows touches n _ c.loop-place.index c.put.new.index (ap (λ (t : Touch). t.uses) c.at.ensures ∙ sym (get_or-map (λ (t : Touch). t.uses) touches n no_touch 0 l)) inv.put c.put.ensures.puts;
     }

@@ -1,7 +1,6 @@
 use Rattle.std.proofs.Common.{◌≡◌, ◌∙◌, ap, sym, map, length}
 use Rattle.std.specs.Prelude.{slice_index}
 use Rattle.std.proofs.lemmas.List.{with_items_is, length-map}
-use Rattle.optra_prices.specs.NarrowTouches.{touches_of}
 use Rattle.optra_prices.specs.Rankings.{renumbered}
 use Rattle.optra_prices.proofs.RenumberLemmas.{each_renumbered}
 use Rattle.optra_prices.proofs.touches.Touches.renumber.Goals as goal
