@@ -1,4 +1,5 @@
-//! About where rows stand: windows of tracks by minute, and rows that are ordered first by a track or a station and then by a minute.
+//! About where rows stand: windows of tracks by minute, and rows that are ordered first by a track or a station and then by a
+//! minute.
 ghost use Rattle.std.specs.Prelude.{◌≡◌, ◌<◌, ◌^◌};
 ghost use Rattle.optra_rows.specs.PlaceOrder.{minute_place, window_place};
 
