@@ -37,10 +37,10 @@ module _ (flags : List Bool) where
       by (inr m) = on (eq-or-lt_of_le m)
 
   -- at last the end has the next number
-  pub numbers_all : (numbers : List ℕ) (end x : ℕ) → length numbers ≡ length flags → 0 < length flags → end ≡ length flags - 1 → x ≡ node_of flags end
+  pub numbers_all : (numbers : List ℕ) (end x : ℕ) → length flags ≤ length numbers → 0 < length flags → end ≡ length flags - 1 → x ≡ node_of flags end
       → AreBefore end numbers → AreNumbers flags (set numbers end x)
   numbers_all numbers end x n some z e h = record {
-    len = length-set numbers end x ∙ n;
+    len = omega (arith, length-set numbers end x, n);
     each = λ place s. let l = set_within flags place s in
         before_more numbers end (length flags) x (omega arith) e (λ p a b t. omega arith) h place l s;
     end = subst (λ p. get_or (set numbers end x) p 0 ≡ node_of flags p) z (get_or-set_same numbers end x 0 (omega arith) ∙ e);
@@ -91,7 +91,7 @@ module _ (flags : List Bool) where
         (λ q a b s. none_next end flags places listed row l q (omega (arith, p, a)) b s)
         (subst (λ q. AreBefore q numbers) here h)
 
-    pub rows_all : (numbers : List ℕ) (row last next : ℕ) → length places ≤ row → length numbers ≡ length flags → 0 < length flags → end ≡ length flags - 1 → last ≡ end
+    pub rows_all : (numbers : List ℕ) (row last next : ℕ) → length places ≤ row → length flags ≤ length numbers → 0 < length flags → end ≡ length flags - 1 → last ≡ end
         → next ≡ node_of flags (slice_index_or places row end) → AreBefore (slice_index_or places row end) numbers → AreNumbers flags (set numbers last next)
     rows_all numbers row last next l len some z same n h =
         let e = row_end end flags places listed row l ∙ sym same in

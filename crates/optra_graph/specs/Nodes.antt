@@ -1,5 +1,5 @@
 -- The nodes of the places that are kept, which come in the order of the places.
-use Rattle.std.specs.Prelude.{◌≡◌, ℕ, zero, suc, ◌+◌, ◌-◌, Bool, true, false, List, [], ◌∷◌, length, map, take, slice_index_or}
+use Rattle.std.specs.Prelude.{◌≡◌, ℕ, zero, suc, ◌+◌, ◌-◌, ◌≤◌, Bool, true, false, List, [], ◌∷◌, length, map, take, slice_index_or}
 use Rattle.optra_graph.specs.declared.states.State.{State}
 use Rattle.optra_graph.specs.declared.states.Layout.{Layout}
 use Rattle.optra_graph.specs.Flags.{IsSet}
@@ -16,9 +16,9 @@ kept_before (false ∷ fs) (suc k) = kept_before fs k
 abbrev pub node_of : List Bool → ℕ → ℕ
 node_of flags place = kept_before flags place + 1
 
--- each place whose flag is set has the number of its node, and the end, which is the last place, has the next one
+-- each place whose flag is set has the number of its node, and the end, which is the last place, has the next one; there may be more numbers
 pub record AreNumbers (flags : List Bool) (numbers : List ℕ) : Type 0 where
-  pub len : length numbers ≡ length flags
+  pub len : length flags ≤ length numbers
   pub each : (place : ℕ) → IsSet flags place → slice_index_or numbers place 0 ≡ node_of flags place
   pub end : slice_index_or numbers (length flags - 1) 0 ≡ node_of flags (length flags - 1)
 

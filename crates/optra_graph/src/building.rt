@@ -16,6 +16,7 @@ use crate::reaching::{reach, trim};
 use crate::states::{Layout, make_layout};
 use crate::step_table::StepTable;
 use crate::timegraphs::TimeGraph;
+use crate::workspace::Workspace;
 use optra_bid::Bid;
 use optra_dag::Dag;
 use optra_network::{Network, NoMemory};
@@ -73,26 +74,50 @@ pub fn build(
     ensures counted { builds.new ≡ (if is_ok result then min (builds.old + 1) u64.MAX else
         builds.old) }
 {
-    let graph = make_graph(alloc, net, bid)?;
+    let mut workspace = Workspace::new(alloc);
+    build_in(alloc, net, bid, builds, &mut workspace)
+}
+
+/// Builds the graph as `build` does, in buffers that may hold anything.
+pub(crate) fn build_in(
+    alloc: Global,
+    net: &Network,
+    bid: &Bid,
+    builds: &mut Builds,
+    workspace: &mut Workspace,
+) -> Result<TimeGraph, NoMemory>
+    requires { IsPathOn net.now bid.now.path }
+    ensures graph { IfOk result (λ graph. IsGraphOf net.now bid.now.path graph) }
+    ensures counted { builds.new ≡ (if is_ok result then min (builds.old + 1) u64.MAX else
+        builds.old) }
+{
+    let graph = make_graph(alloc, net, bid, workspace)?;
     builds.raise();
     Ok(graph)
 }
 
-fn make_graph(alloc: Global, net: &Network, bid: &Bid) -> Result<TimeGraph, NoMemory>
+fn make_graph(
+    alloc: Global,
+    net: &Network,
+    bid: &Bid,
+    workspace: &mut Workspace,
+) -> Result<TimeGraph, NoMemory>
     requires { IsPathOn net.now bid.now.path }
     ensures { IfOk result (λ graph. IsGraphOf net.now bid.now.path graph) }
 {
     let columns = Columns::new(alloc, net, bid)?;
     let layout = make_layout(net, bid, &columns);
-    let mut table = StepTable::new(alloc)?;
-    let mut flags = reach(alloc, net, bid, layout, &mut table)?;
-    let arcs = trim(net, bid, layout, &mut flags, &table);
-    let numbers = number(alloc, &flags, &table.places)?;
-    let kept = Kept {
-        flags: &flags,
-        numbers: &numbers,
-    };
-    emit(alloc, net, bid, layout, kept, arcs, &table)
+    let Workspace {
+        flags,
+        numbers,
+        steps,
+        table,
+    } = workspace;
+    reach(net, bid, layout, table, flags, steps)?;
+    let arcs = trim(net, bid, layout, flags, table);
+    number(flags, &table.places, numbers)?;
+    let kept = Kept { flags, numbers };
+    emit(alloc, net, bid, layout, kept, arcs, table)
 }
 
 /// The graph of the kept places, with room for so many arcs of legs.

@@ -9,8 +9,9 @@ ghost use Rattle.optra_graph.specs.Keys.{numbers_of, own_numbers, stop_numbers};
 ghost use Rattle.optra_graph.specs.Served.{path_of, Grows, IsAdded, IsKept};
 ghost use Rattle.optra_graph.specs.GraphMaps.{AreKeyed, kept_in, place_of};
 
-use crate::building::{Builds, build};
+use crate::building::{Builds, build_in};
 use crate::timegraphs::TimeGraph;
+use crate::workspace::Workspace;
 use arrayvec::ArrayVec;
 use indexmap::IndexMap;
 use optra_bid::{Bid, PathSpec, Stop};
@@ -106,10 +107,31 @@ impl GraphMap {
         ensures err { OnErr result ((self.new ≡ self.old) × (builds.new ≡ builds.old)) }
         ensures held { Contains (map path_of self.old) bid.now.path → IsOk result }
     {
+        let mut workspace = Workspace::new(alloc);
+        self.keep_in(alloc, net, bid, builds, &mut workspace)
+    }
+
+    /// Sees to it that the graph is held, as `keep` does. It is built in buffers that may hold anything.
+    fn keep_in(
+        &mut self,
+        alloc: Global,
+        net: &Network,
+        bid: &Bid,
+        builds: &mut Builds,
+        workspace: &mut Workspace,
+    ) -> Result<usize, NoMemory>
+        requires { IsPathOn net.now bid.now.path }
+        ensures kept { IfOk result (λ place. IsKept net.now bid.now.path self.old builds.old
+            self.new builds.new) }
+        ensures place { IfOk result (λ place. option_map path_of (slice_get self.new place)
+            ≡ Some bid.now.path) }
+        ensures err { OnErr result ((self.new ≡ self.old) × (builds.new ≡ builds.old)) }
+        ensures held { Contains (map path_of self.old) bid.now.path → IsOk result }
+    {
         let numbers = numbers(bid);
         match place_in(&self.entries, bid, &numbers) {
             Some(place) => Ok(place),
-            None => self.add(alloc, net, bid, &numbers, builds),
+            None => self.add(alloc, net, bid, &numbers, builds, workspace),
         }
     }
 
@@ -121,6 +143,7 @@ impl GraphMap {
         bid: &Bid,
         numbers: &Numbers,
         builds: &mut Builds,
+        workspace: &mut Workspace,
     ) -> Result<usize, NoMemory>
         requires path { IsPathOn net.now bid.now.path }
         requires numbers { numbers.now.items ≡ numbers_of bid.now.path }
@@ -134,7 +157,7 @@ impl GraphMap {
         let key = Vec::from_slice(alloc, numbers.as_slice())?;
         let path = copied(alloc, &bid.path)?;
         self.entries.reserve(1)?;
-        let graph = build(alloc, net, bid, builds)?;
+        let graph = build_in(alloc, net, bid, builds, workspace)?;
         let place = self.entries.len();
         put(&mut self.entries, key, Entry { path, graph });
         Ok(place)
@@ -155,8 +178,9 @@ impl GraphMap {
             ⊎ Contains (map (λ bid. bid.path) bids.now) path) (map path_of self.new) }
         ensures grows { Grows net.now self.old builds.old self.new builds.new }
     {
+        let mut workspace = Workspace::new(alloc);
         for bid in bids {
-            self.keep(alloc, net, bid, builds)?;
+            self.keep_in(alloc, net, bid, builds, &mut workspace)?;
         }
         Ok(())
     }

@@ -2,7 +2,8 @@
 ghost use Rattle.optra_graph.specs.Nodes.{AreNumbers};
 
 /// Whether each place is kept. A place that is kept has the number of its node, which is one more than the number of kept
-/// places before it, and the end has the next number, also where it is not kept. What stands at other places is never read.
+/// places before it, and the end has the next number, also where it is not kept. What stands at other places, or behind the
+/// end, is never read.
 #[derive(Clone, Copy)]
 pub struct Kept<'k> {
     pub flags: &'k [bool],

@@ -17,6 +17,7 @@ mod states;
 mod step_table;
 mod stepping;
 mod timegraphs;
+mod workspace;
 
 pub use building::{Builds, build};
 pub use graph_map::GraphMap;

@@ -1,10 +1,10 @@
 //! Which states come into walks: those that are reached from a start and lead on to the end.
-ghost use Rattle.std.specs.Prelude.{◌≡◌, ℕ, ◌+◌, ◌-◌, ◌<◌, ◌≤◌, length, min, IfOk, OnOk, All, count_by, nat_eq, slice_set, false, if◌then◌else◌};
+ghost use Rattle.std.specs.Prelude.{◌≡◌, ℕ, ◌+◌, ◌-◌, ◌<◌, ◌≤◌, length, min, OnOk, All, count_by, nat_eq, slice_set, false, if◌then◌else◌};
 ghost use Rattle.optra_graph.specs.Flags.{is_set, IsSet, IsReached, IsKept, Marks, AreStartsSet};
 ghost use Rattle.optra_graph.specs.Places.{IsPlaced, IsLayout, deadline_of, place_of, places_of};
 ghost use Rattle.optra_bid.specs.Specs.{IsWindow};
 ghost use Rattle.optra_graph.specs.Settings.{IsSetting};
-ghost use Rattle.optra_graph.specs.StepTables.{AreStepsTo, IsEmpty};
+ghost use Rattle.optra_graph.specs.StepTables.{AreStepsTo};
 ghost use Rattle.optra_graph.specs.Moves.{start_state};
 
 use crate::passing::next_set;
@@ -13,7 +13,6 @@ use crate::step_table::StepTable;
 use crate::stepping::{Step, fill_steps};
 use optra_bid::Bid;
 use optra_network::{Minute, Network, NoMemory};
-use std::alloc::Global;
 
 /// The first minute after those at which walks may begin.
 pub fn starts_end(bid: &Bid, layout: Layout<'_>) -> Minute
@@ -38,32 +37,33 @@ pub fn make_start(bid: &Bid, minute: Minute) -> State
 }
 
 /// A flag for each place and for the end: whether steps lead there from a start. One pass, from early to late, which
-/// puts the steps of the places into the table.
+/// puts the steps of the places into the table. The flags, the table and the list of steps may hold anything before.
 pub fn reach(
-    alloc: Global,
     net: &Network,
     bid: &Bid,
     layout: Layout<'_>,
     table: &mut StepTable,
-) -> Result<Vec<bool>, NoMemory>
+    flags: &mut Vec<bool>,
+    steps: &mut Vec<Step>,
+) -> Result<(), NoMemory>
     requires setting { IsSetting net.now bid.now.path layout }
-    requires empty { IsEmpty table.old }
-    ensures flags { IfOk result (λ flags. IsReached net.now bid.now.path layout.entry flags.items) }
-    ensures steps { IfOk result (λ flags. AreStepsTo net.now bid.now.path layout.entry
-        (places_of layout.entry) flags.items table.new) }
+    ensures flags { OnOk result (IsReached net.now bid.now.path layout.entry flags.new.items) }
+    ensures steps { OnOk result (AreStepsTo net.now bid.now.path layout.entry
+        (places_of layout.entry) flags.new.items table.new) }
 {
-    let mut steps = Vec::new(alloc);
     let end = layout.places();
-    let mut flags = vec![in alloc; false; end as usize + 1]?;
-    mark_starts(net, bid, layout, &mut flags);
-    let mut place = next_set(&flags, 0, end);
+    table.clear()?;
+    flags.clear();
+    flags.resize(end as usize + 1, false)?;
+    mark_starts(net, bid, layout, flags);
+    let mut place = next_set(flags, 0, end);
     while place < end {
-        fill_steps(net, bid, layout, layout.state(place), &mut steps)?;
-        mark(&mut flags, &steps);
-        table.add(place, &steps)?;
-        place = next_set(&flags, place + 1, end);
+        fill_steps(net, bid, layout, layout.state(place), steps)?;
+        mark(flags, steps);
+        table.add(place, steps)?;
+        place = next_set(flags, place + 1, end);
     }
-    Ok(flags)
+    Ok(())
 }
 
 fn mark_starts(net: &Network, bid: &Bid, layout: Layout<'_>, flags: &mut Vec<bool>)

@@ -1,5 +1,5 @@
 //! The steps of the places that are reached, made once.
-ghost use Rattle.std.specs.Prelude.{◌≡◌, ℕ, ◌+◌, ◌<◌, [], ◌∷◌, IfOk, OnOk};
+ghost use Rattle.std.specs.Prelude.{◌≡◌, ℕ, ◌+◌, ◌<◌, [], ◌∷◌, OnOk};
 ghost use Rattle.optra_graph.specs.StepTables.{IsEmpty, IsGrown, HasRange, place_at, rows_of, steps_at};
 
 use crate::stepping::Step;
@@ -17,17 +17,24 @@ pub struct StepTable {
 }
 
 impl StepTable {
-    /// Has no place yet.
-    pub fn new(alloc: Global) -> Result<StepTable, NoMemory>
-        ensures { IfOk result IsEmpty }
-    {
-        let mut starts = Vec::new(alloc);
-        starts.push(0)?;
-        Ok(StepTable {
+    /// Takes no memory yet. It is to be cleared before it is filled.
+    pub fn new(alloc: Global) -> StepTable {
+        StepTable {
             steps: Vec::new(alloc),
             places: Vec::new(alloc),
-            starts,
-        })
+            starts: Vec::new(alloc),
+        }
+    }
+
+    /// Takes all rows away, and keeps their memory for others.
+    pub fn clear(&mut self) -> Result<(), NoMemory>
+        ensures { OnOk result (IsEmpty self.new) }
+    {
+        self.steps.clear();
+        self.places.clear();
+        self.starts.clear();
+        self.starts.push(0)?;
+        Ok(())
     }
 
     /// Adds the steps of a place that comes after all others.

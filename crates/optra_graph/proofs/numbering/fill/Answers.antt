@@ -10,7 +10,7 @@ use Rattle.optra_graph.proofs.numbering.fill.Goals.{then-flags-place, else-flags
 
 pub loop-row-init : goal.loop-row-init
 loop-row-init c = record {
-  len = c.requires.len;
+  len = c.requires.room;
   next = next_start c.args.flags.now (length c.args.flags.now - 1) c.args.places.now c.requires.listed;
   each = before_start c.args.flags.now (length c.args.flags.now - 1) c.args.places.now c.requires.listed c.args.numbers.now;
 }
@@ -31,7 +31,7 @@ loop-row-preserved c =
     let w = c.requires.listed.within c.loop-row.row row in
     let n = i.len in
     record {
-      len = length-set _ _ _ ∙ i.len;
+      len = omega (arith, n, length-set c.loop-row.numbers (slice_index c.args.places.now c.loop-row.row) c.loop-row.next);
       next = elim c.if-flags-place.branch [
         | then-flags-place w ↦ w.next-is ∙ next_yes c.args.flags.now (length c.args.flags.now - 1) c.args.places.now c.requires.listed c.loop-row.row (slice_index c.args.places.now c.loop-row.row) c.loop-row.next row refl w.if-flags-place.true i.next
         | else-flags-place w ↦ w.next-is ∙ next_no c.args.flags.now (length c.args.flags.now - 1) c.args.places.now c.requires.listed c.loop-row.row (slice_index c.args.places.now c.loop-row.row) c.loop-row.next row refl w.if-flags-place.false i.next

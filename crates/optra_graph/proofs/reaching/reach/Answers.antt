@@ -17,9 +17,9 @@ loop-place-init c =
     let within = next.within in
     record {
       reached = reached_to c.args.net.now c.args.bid.now.path c.args.layout c.requires.setting 0 c.next_set-place.result c.mark_starts.new.flags.items next.passed
-          (reached_start c.args.net.now c.args.bid.now.path c.args.layout c.requires.setting c.in_ok-flags.flags.items c.mark_starts.new.flags.items (search rules) (search rules) c.mark_starts.ensures);
-      steps = table_to c.args.net.now c.args.bid.now.path c.args.layout 0 c.next_set-place.result c.mark_starts.new.flags.items c.args.table.now next.later next.passed
-          (table_start c.args.net.now c.args.bid.now.path c.args.layout c.mark_starts.new.flags.items c.args.table.now c.requires.empty);
+          (reached_start c.args.net.now c.args.bid.now.path c.args.layout c.requires.setting c.resize.new.self.items c.mark_starts.new.flags.items (search rules) (search rules) c.mark_starts.ensures);
+      steps = table_to c.args.net.now c.args.bid.now.path c.args.layout 0 c.next_set-place.result c.mark_starts.new.flags.items c.clear.new.self next.later next.passed
+          (table_start c.args.net.now c.args.bid.now.path c.args.layout c.mark_starts.new.flags.items c.clear.new.self c.in_ok-clear.ensures);
       within = omega (arith, v, within);
       set = λ l. next.set (omega (arith, v, l));
     }

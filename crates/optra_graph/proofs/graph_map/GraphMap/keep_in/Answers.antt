@@ -4,7 +4,7 @@ use Rattle.optra_graph.specs.GraphMaps.{place_of}
 use Rattle.optra_graph.specs.Served.{Kept, path_of}
 use Rattle.optra_graph.proofs.KeepLemmas.{contains-place, path-at}
 use Rattle.optra_graph.proofs.KeyLemmas.{place-none}
-use Rattle.optra_graph.proofs.graph_map.GraphMap.keep.Goals as goal
+use Rattle.optra_graph.proofs.graph_map.GraphMap.keep_in.Goals as goal
 
 pub returns-in-Some-clause-kept : goal.returns-in-Some-clause-kept
 returns-in-Some-clause-kept c =
