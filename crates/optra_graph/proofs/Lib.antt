@@ -1,5 +1,6 @@
 -- The lemmas of time-expanded graphs.
 pub mod PlaceLemmas
+pub mod StripLemmas
 pub mod RunLemmas
 pub mod OrderLemmas
 pub mod HorizonLemmas

@@ -6,10 +6,10 @@ use Rattle.optra_graph.specs.declared.states.State.{State}
 use Rattle.optra_graph.specs.declared.states.Layout.{Layout}
 use Rattle.optra_graph.specs.Places.{column_at, mode_of, slot_of, place_of, places_of, state_of, station_at, HasColumns, IsPlaced}
 
-div_part : (q n r : ℕ) → r < n → (q * n + r) / n ≡ q
+pub div_part : (q n r : ℕ) → r < n → (q * n + r) / n ≡ q
 div_part q n r l = div-mul-add q n r l
 
-mod_part : (q n r : ℕ) → r < n → (q * n + r) % n ≡ r
+pub mod_part : (q n r : ℕ) → r < n → (q * n + r) % n ≡ r
 mod_part q n r l =
     let d = div-add-mod' (q * n + r) n in
     let e = ap (λ t. t * n) (div_part q n r l) in

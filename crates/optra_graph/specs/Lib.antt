@@ -17,3 +17,4 @@ pub mod Keys
 pub mod GraphMaps
 pub mod FreshParts
 pub mod PackedLegs
+pub mod Strips

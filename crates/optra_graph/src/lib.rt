@@ -16,6 +16,7 @@ mod serving;
 mod states;
 mod step_table;
 mod stepping;
+mod strip;
 mod timegraphs;
 mod workspace;
 

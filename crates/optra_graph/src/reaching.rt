@@ -11,6 +11,7 @@ use crate::passing::next_set;
 use crate::states::{Layout, State};
 use crate::step_table::StepTable;
 use crate::stepping::{Step, fill_steps};
+use crate::strip::Strip;
 use optra_bid::Bid;
 use optra_network::{Minute, Network, NoMemory};
 
@@ -56,9 +57,11 @@ pub fn reach(
     flags.clear();
     flags.resize(end as usize + 1, false)?;
     mark_starts(net, bid, layout, flags);
+    let mut strip = Strip::first(layout);
     let mut place = next_set(flags, 0, end);
     while place < end {
-        fill_steps(net, bid, layout, layout.state(place), steps)?;
+        strip = strip.at(layout, place);
+        fill_steps(net, bid, layout, strip.state(layout, place), steps)?;
         mark(flags, steps);
         table.add(place, steps)?;
         place = next_set(flags, place + 1, end);

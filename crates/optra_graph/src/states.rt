@@ -2,7 +2,7 @@
 ghost use Rattle.std.specs.Prelude.{◌≡◌, ℕ, ◌+◌, ◌-◌, ◌*◌, ◌<◌, ◌≤◌, length};
 ghost use Rattle.optra_bid.specs.Specs.{IsPathOn};
 ghost use Rattle.optra_graph.specs.Columns.{AreColumns};
-ghost use Rattle.optra_graph.specs.Places.{column_at, deadline_of, place_of, slot_of, state_of, station_at, places_of, HasColumn, HasColumns, IsPlaced, IsSmall};
+ghost use Rattle.optra_graph.specs.Places.{column_at, deadline_of, place_of, slot_of, station_at, places_of, HasColumn, IsPlaced, IsSmall};
 ghost use Rattle.optra_graph.specs.Settings.{IsSetting};
 
 use crate::columns::Columns;
@@ -83,7 +83,7 @@ impl Layout<'_> {
     }
 
     /// The station of a column.
-    fn station(self, column: u32) -> StationId
+    pub fn station(self, column: u32) -> StationId
         requires { column < length self.columns.now.stations.items }
         ensures { result ≡ station_at self.entry column }
     {
@@ -97,26 +97,5 @@ impl Layout<'_> {
         ensures within { result < self.entry.stations }
     {
         self.columns.numbers[station.0 as usize]
-    }
-
-    /// The state at a place.
-    pub fn state(self, place: u32) -> State
-        requires small { IsSmall self }
-        requires count { self.stations ≡ length self.columns.now.stations.items }
-        requires columns { HasColumns self }
-        requires within { place < places_of self }
-        ensures value { result ≡ state_of self.entry place }
-        ensures placed { IsPlaced self.entry result }
-    {
-        let stations = u32::from(self.stations);
-        let slots = u32::from(self.slots);
-        let row = place / stations;
-        let slot = row % slots;
-        State {
-            station: self.station(place % stations),
-            minute: self.first + (row / slots) as u16,
-            halted: slot % 2 == 1,
-            done: (slot / 2) as u16,
-        }
     }
 }

@@ -20,6 +20,8 @@ loop-place-init c =
           (reached_start c.args.net.now c.args.bid.now.path c.args.layout c.requires.setting c.resize.new.self.items c.mark_starts.new.flags.items (search rules) (search rules) c.mark_starts.ensures);
       steps = table_to c.args.net.now c.args.bid.now.path c.args.layout 0 c.next_set-place.result c.mark_starts.new.flags.items c.clear.new.self next.later next.passed
           (table_start c.args.net.now c.args.bid.now.path c.args.layout c.mark_starts.new.flags.items c.clear.new.self c.in_ok-clear.ensures);
+      strip = c.first-strip.ensures.strip;
+      before = omega (arith, c.first-strip.ensures.start);
       within = omega (arith, v, within);
       set = λ l. next.set (omega (arith, v, l));
     }
@@ -48,6 +50,8 @@ loop-place-preserved c =
           (table_more c.args.net.now c.args.bid.now.path c.args.layout c.loop-place.place c.loop-place.flags.items c.mark.new.flags.items c.loop-place.table c.add.new.self c.fill_steps.new.steps.items
           (marks_later c.args.net.now c.args.bid.now.path c.args.layout c.requires.setting c.loop-place.place c.fill_steps.new.steps.items c.loop-place.flags.items c.mark.new.flags.items l all marks)
           c.loop-place.invariant.steps grown all few);
+      strip = c.at-strip.ensures.strip;
+      before = let here = c.at-strip.ensures.within.from in let later = next.later in omega (arith, here, later);
       within = omega (arith, v, within);
       set = λ m. next.set (omega (arith, v, m));
     }
