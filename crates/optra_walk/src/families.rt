@@ -4,14 +4,17 @@
 //! This is the packing form of train timetabling: R. Borndörfer and T. Schlechte, "Models for Railway Track
 //! Allocation", 2007. Searches, prices and certificates speak of rows alone, so a rule that is stated by a new family
 //! needs no change in them.
-ghost use Rattle.std.specs.Prelude.{◌≡◌, ℕ, ◌≤◌, ◌↔◌, List, Option, length, slice_get, true, All, Contains};
+ghost use Rattle.std.specs.Prelude.{◌≡◌, ℕ, ◌≤◌, ◌↔◌, ◌++◌, List, OnOk, drop, Option, length, slice_get, true, All, Contains};
 ghost use Rattle.optra_network.specs.Net.{Net, IsProper, MayUse};
 ghost use Rattle.optra_network.specs.declared.TypeId.{TypeId as Kind};
 ghost use Rattle.optra_walk.specs.declared.Leg.{Leg as Step};
 ghost use Rattle.optra_walk.specs.Families.{IsUsable, Entry, Rows, UseAlike, ListsRows, UsesFew, TellsApart, PlacesRise, FitRows};
 
 use crate::Leg;
-use optra_network::{Network, TypeId};
+use optra_network::{Network, NoMemory, TypeId};
+
+/// A leg uses at most so many rows.
+const MOST_USED: u32 = 8_192;
 
 /// A family of rows: a rule of the railway, stated by how much of which row a leg uses and how much of it there is.
 ///
@@ -78,6 +81,41 @@ pub trait RowFamily {
     fn used_count(&self, net: &Network, kind: TypeId, leg: Leg) -> u32
         requires { IsUsable net.now kind leg }
         ensures { result ≡ length (rows_used self.now net.now kind leg) };
+
+    /// Adds the rows that a usable leg of the type uses to a list, from place `from` on, in ascending order. They are
+    /// those that `touched` answers from there on; a family may know them together at less cost than one by one.
+    fn list_touched(
+        &self,
+        net: &Network,
+        kind: TypeId,
+        leg: Leg,
+        from: u32,
+        list: &mut Vec<Self::Row>,
+    ) -> Result<(), NoMemory>
+        requires { IsUsable net.now kind leg }
+        ensures { OnOk result (list.new.items ≡ list.old.items
+            ++ drop from (rows_used self.now net.now kind leg)) }
+    {
+        for k in from..self.used_count(net, kind, leg) {
+            let Some(row) = self.touched(net, kind, leg, k) else {
+                return Ok(());
+            };
+            list.push(row)?;
+        }
+        Ok(())
+    }
+
+    /// How many of the rows that a leg of the type uses, from the first on, are worth looking for among those of such a leg
+    /// that departs a minute earlier: at most 8,192. It is a guess, and nothing rests on it; a family that can't tell says
+    /// all.
+    fn lasting_count(&self, net: &Network, kind: TypeId, leg: Leg) -> u32
+        ensures { result ≤ 8192 }
+    {
+        let _ = net;
+        let _ = kind;
+        let _ = leg;
+        MOST_USED
+    }
 
     /// Whether the family sees at once that two usable legs of the type use as much of each row. It is never true of
     /// others; a family that doesn't see it says no, and its users then compare row by row.
