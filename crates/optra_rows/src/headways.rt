@@ -1,6 +1,6 @@
 //! The rows of headways, as a family.
-ghost use Rattle.std.specs.Prelude.{IsTrue, ◌≡◌, ℕ, ◌+◌, ◌*◌, ◌^◌, ◌<◌, ◌≤◌, ◌↔◌, ◌&&◌, nat_le, nat_lt, List, length, slice_get, unwrap_or, All, Option};
-ghost use Rattle.std.specs.List.{position_or_len};
+ghost use Rattle.std.specs.Prelude.{IsTrue, ◌≡◌, ℕ, ◌+◌, ◌*◌, ◌^◌, ◌<◌, ◌≤◌, ◌↔◌, ◌&&◌, ◌++◌, nat_le, nat_lt, List, length, drop, map, slice_get, unwrap_or, All, OnOk, Option};
+ghost use Rattle.std.specs.List.{position_or_len, range_with_len};
 ghost use Rattle.std.specs.Option.{option_map};
 ghost use Rattle.optra_network.specs.Net.{Net, IsProper, MayUse};
 ghost use Rattle.optra_network.specs.Headways.{hmin_or_0};
@@ -10,12 +10,13 @@ ghost use Rattle.optra_walk.specs.declared.Leg.{Leg as Step};
 ghost use Rattle.optra_walk.specs.Choices.{KeepsHeadways, uses_of};
 ghost use Rattle.optra_walk.specs.Families.{IsUsable, FitRows, entries_of};
 ghost use Rattle.optra_rows.specs.FewRows.{AreFewHeadways};
+ghost use Rattle.optra_rows.specs.declared.HRow.TheVariants.{Window};
 ghost use Rattle.optra_rows.specs.Headways.{is_row_of, is_used_by, headway_rows, IsFirstOver, IsFirstStarted, IsHeadwayRow, in_day, pair_of, is_started, is_not_over, ShiftsRise, kept};
 ghost use Rattle.optra_rows.specs.PlaceOrder.{minute_places, window_places};
 
 use crate::HRow;
 use crate::minute_places::{MINUTE_PLACES, WINDOW_PLACES, minute_place, window_place};
-use optra_network::{Minute, Network, Partner, TrackId, TypeId};
+use optra_network::{Minute, Network, NoMemory, Partner, TrackId, TypeId};
 use optra_walk::{Leg, RowFamily};
 
 /// The family of headway rows. Its rule is that the uses of tracks at every two different places are compatible.
@@ -124,6 +125,29 @@ impl RowFamily for HeadwayRows {
         least + pair_count(net.partners(leg.track, kind), leg.depart)
     }
 
+    /// What the track and the type tell is looked up once for all rows.
+    #[inline(always)]
+    fn list_touched(
+        &self,
+        net: &Network,
+        kind: TypeId,
+        leg: Leg,
+        from: u32,
+        list: &mut Vec<HRow>,
+    ) -> Result<(), NoMemory> {
+        let least = u32::from(least_of(net, leg.track, kind));
+        push_windows(list, leg, from, least)?;
+        let partners = net.partners(leg.track, kind);
+        push_pairs(list, partners, kind, leg, from.saturating_sub(least))?;
+        Ok(())
+    }
+
+    /// The windows without the last one. A pair names the minute of the leg, so a leg of another minute has other pairs.
+    #[inline(always)]
+    fn lasting_count(&self, net: &Network, kind: TypeId, leg: Leg) -> u32 {
+        u32::from(least_of(net, leg.track, kind)).saturating_sub(1)
+    }
+
     /// First stand the windows by track and minute, and then the pairs by track and first minute.
     fn place(&self, net: &Network, row: HRow) -> usize {
         match row {
@@ -161,6 +185,42 @@ fn pair_places(net: &Network) -> usize
     ensures few { result < 2 ^ 32 }
 {
     usize::from(net.track_count()) * MINUTE_PLACES
+}
+
+/// Adds the windows of a leg from one place up to another.
+fn push_windows(list: &mut Vec<HRow>, leg: Leg, from: u32, least: u32) -> Result<(), NoMemory>
+    requires depart { leg.depart ≤ 2879 }
+    requires least { least ≤ 120 }
+    ensures { OnOk result (list.new.items ≡ list.old.items
+        ++ drop from (map (λ minute. Window leg.track minute) (range_with_len leg.depart least))) }
+{
+    for k in from..least {
+        list.push(HRow::Window {
+            track: leg.track,
+            minute: leg.depart + k as u16,
+        })?;
+    }
+    Ok(())
+}
+
+/// Adds the rows of a leg and its partners in the day, from one of these on.
+fn push_pairs(
+    list: &mut Vec<HRow>,
+    partners: &[Partner],
+    kind: TypeId,
+    leg: Leg,
+    from: u32,
+) -> Result<(), NoMemory>
+    requires time { leg.depart ≤ 2879 }
+    requires order { ShiftsRise partners.now }
+    ensures { OnOk result (list.new.items ≡ list.old.items
+        ++ drop from (map (pair_of leg.track kind leg.depart) (in_day leg.depart partners.now))) }
+{
+    let first = first_started(partners, leg.depart);
+    for k in first + from as usize..first_over(partners, leg.depart) {
+        list.push(pair_of(leg.track, kind, leg.depart, partners[k]))?;
+    }
+    Ok(())
 }
 
 /// How many of the partners have their minutes in the day.
