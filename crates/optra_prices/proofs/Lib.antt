@@ -7,6 +7,7 @@ pub mod ValueLemmas
 pub mod ArcLemmas
 pub mod MarkLemmas
 pub mod NumberLemmas
+pub mod NamedLemmas
 pub mod RankLemmas
 pub mod NumberingLemmas
 pub mod PlaceLemmas

@@ -1,5 +1,5 @@
 //! What legs touch, by the places of rows among those that were named.
-ghost use Rattle.std.specs.Prelude.{◌≡◌, ◌⊎◌, true, ◌++◌, ◌∷◌, [], All, Some, IfOk, OnOk, slice_get};
+ghost use Rattle.std.specs.Prelude.{◌≡◌, ◌⊎◌, true, ◌++◌, ◌∷◌, [], All, Contains, Some, IfOk, OnOk, drop, slice_get};
 ghost use Rattle.optra_walk.specs.Families.{IsUsable};
 ghost use Rattle.optra_prices.specs.Tables.{Extends, AddsTouches};
 
@@ -36,8 +36,30 @@ fn row_at(touches: &TouchSlice<'_>, at: usize) -> usize {
     }
 }
 
-/// Adds what the leg touches. Its rows are guessed to be those that touches name from a place on. Few arcs need it, and
-/// what each arc goes through is quicker where it is no part of that.
+/// Adds touches of rows that the leg uses and that were named last, from a place on.
+fn touch_named<F: RowFamily>(
+    net: &Network,
+    rows: &F,
+    named: &[F::Row],
+    start: usize,
+    touches: &mut Touches,
+    kind: TypeId,
+    leg: Leg,
+) -> Result<(), NoMemory>
+    requires usable { IsUsable net.now kind leg }
+    requires used { All (Contains (F.rows_used rows.now net.now kind leg)) (drop start named.now) }
+    ensures { OnOk result (AddsTouches named.now ((F.rows_of rows.now net.now).uses kind leg)
+        (drop start named.now) touches.old touches.new) }
+{
+    for place in start..named.len() {
+        let uses = rows.touched_use(net, kind, leg, named[place]);
+        touches.push(Touch { row: place, uses })?;
+    }
+    Ok(())
+}
+
+/// Adds what the leg touches. Its first rows are guessed to be those that touches name from a place on, and the others are
+/// named at once. Few arcs need it, and what each arc goes through is quicker where it is no part of that.
 #[inline(never)]
 pub(crate) fn push_touches<F: RowFamily>(
     net: &Network,
@@ -56,7 +78,8 @@ pub(crate) fn push_touches<F: RowFamily>(
     ensures touches { OnOk result (AddsTouches named.new.items ((F.rows_of rows.now net.now).uses
         kind leg) (F.rows_used rows.now net.now kind leg) touches.old touches.new) }
 {
-    for k in 0..8192 {
+    let lasting = rows.lasting_count(net, kind, leg);
+    for k in 0..lasting {
         let Some(row) = rows.touched(net, kind, leg, k) else {
             return Ok(());
         };
@@ -65,5 +88,8 @@ pub(crate) fn push_touches<F: RowFamily>(
         let uses = rows.touched_use(net, kind, leg, row);
         touches.push(Touch { row: place, uses })?;
     }
+    let start = named.len();
+    rows.list_touched(net, kind, leg, lasting, named)?;
+    touch_named(net, rows, named, start, touches, kind, leg)?;
     Ok(())
 }
