@@ -5,7 +5,7 @@ use Rattle.std.specs.Int.{w128}
 use Rattle.std.proofs.Math.Nat.{mul-le-mul_left}
 use Rattle.std.proofs.lemmas.Int.{ints, to_z-of_z}
 use Rattle.optra_bid.specs.Specs.{IsRate}
-use Rattle.optra_prices.specs.Bounds.{IsOffPrice, IsTaken, IsTimePrice, IsCapacityPrice, IsWholePrice}
+use Rattle.optra_prices.specs.Bounds.{IsArcCents, IsOffPrice, IsTimePrice, IsCapacityPrice, IsWholePrice}
 use Rattle.optra_prices.specs.Tables.{IsRowPrice}
 
 -- a product lies within the bounds of its factors
@@ -17,8 +17,11 @@ product_within most (negsuc p) n low high = absurd (omega (arith, ints))
 pub rate_same : (z : ℤ) → IsRate z → to_z w64 (of_z w64 z) ≡ z
 rate_same z range = let a = range.0 in let b = range.1 in let fits : FitsSigned w64 z = omega (arith, ints) in to_z-of_z w64 z fits
 
-time_same : (z : ℤ) → IsTimePrice z → to_z w64 (of_z w64 z) ≡ z
+pub time_same : (z : ℤ) → IsTimePrice z → to_z w64 (of_z w64 z) ≡ z
 time_same z range = let a = range.0 in let b = range.1 in let fits : FitsSigned w64 z = omega (arith, ints) in to_z-of_z w64 z fits
+
+pub arc_cents_same : (z : ℤ) → IsArcCents z → to_z w64 (of_z w64 z) ≡ z
+arc_cents_same z range = let a = range.0 in let b = range.1 in let fits : FitsSigned w64 z = omega (arith, ints) in to_z-of_z w64 z fits
 
 pub row_price_same : (z : ℤ) → IsRowPrice z → to_z w64 (of_z w64 z) ≡ z
 row_price_same z range = let a = range.0 in let b = range.1 in let fits : FitsSigned w64 z = omega (arith, ints) in to_z-of_z w64 z fits
@@ -77,26 +80,6 @@ module _ (x y : ℤ) (x_range : IsTimePrice x) (y_range : IsTimePrice y) where
 
   pub times_sum_range : IsOffPrice (to_z w64 (of_z w64 (to_z w64 (of_z w64 x) +ℤ to_z w64 (of_z w64 y))))
   times_sum_range = subst IsOffPrice (sym times_sum_value) sum_within
-
--- ---- a thousand times one of these
-module _ (time : ℤ) (range : IsTimePrice time) where
-  thousand_same : pos 1000 *ℤ to_z w64 (of_z w64 time) ≡ pos 1000 *ℤ time
-  thousand_same = λ i. pos 1000 *ℤ time_same time range i
-
-  thousand_within : IsTaken (pos 1000 *ℤ time)
-  thousand_within = let a = range.0 in let b = range.1 in (omega (arith, ints), omega (arith, ints))
-
-  thousand_fits : FitsSigned w64 (pos 1000 *ℤ time)
-  thousand_fits = let a = thousand_within.0 in let b = thousand_within.1 in omega (arith, ints)
-
-  pub thousand_times_fit : FitsSigned w64 (pos 1000 *ℤ to_z w64 (of_z w64 time))
-  thousand_times_fit = subst (λ (z : ℤ). FitsSigned w64 z) (sym thousand_same) thousand_fits
-
-  pub thousand_times_value : to_z w64 (of_z w64 (pos 1000 *ℤ to_z w64 (of_z w64 time))) ≡ pos 1000 *ℤ time
-  thousand_times_value = ap (λ (z : ℤ). to_z w64 (of_z w64 z)) thousand_same ∙ to_z-of_z w64 (pos 1000 *ℤ time) thousand_fits
-
-  pub thousand_times_range : IsTaken (to_z w64 (of_z w64 (pos 1000 *ℤ to_z w64 (of_z w64 time))))
-  thousand_times_range = subst IsTaken (sym thousand_times_value) thousand_within
 
 -- ---- a price of a row times its capacity
 module _ (price x y : ℤ) (n : ℕ) (range : IsRowPrice price) (few : n ≤ 65535) (x_is : x ≡ to_z w64 (of_z w64 price)) (y_is : y ≡ pos n) where

@@ -1,5 +1,5 @@
 -- The ranges of prices, by name. Those of money are in cents, and all others in thousandths of a cent.
-use Rattle.std.specs.Prelude.{ℕ, ℤ, pos}
+use Rattle.std.specs.Prelude.{ℕ, ℤ, pos, negsuc}
 use Rattle.optra_bid.specs.Specs.{IsBetween}
 
 -- the greatest price of a row
@@ -22,9 +22,13 @@ IsTimePrice cents = IsBetween (pos 0) (pos 131072000000) cents
 abbrev pub IsOffPrice : ℤ → Type 0
 IsOffPrice cents = IsBetween (pos 0) (pos 262144000000) cents
 
--- what an arc takes
+-- what an arc takes, in cents
 abbrev pub IsTaken : ℤ → Type 0
-IsTaken price = IsBetween (pos 0) (pos 1000000000000000) price
+IsTaken cents = IsBetween (pos 0) (pos 1000000000000) cents
+
+-- what an arc adds apart from the prices of rows, in cents
+abbrev pub IsArcCents : ℤ → Type 0
+IsArcCents cents = IsBetween (negsuc 999999999999) (pos 1000000000000) cents
 
 -- the length of a price step
 abbrev pub IsStepLength : ℤ → Type 0

@@ -1,42 +1,55 @@
 //! What an arc of a bid's graph adds and touches.
-ghost use Rattle.std.specs.Prelude.{◌≡◌, false};
+ghost use Rattle.std.specs.Prelude.{◌≡◌, false, pos, ◌*ℤ◌};
+ghost use Rattle.optra_prices.specs.Bounds.{IsArcCents};
 
 use std::marker::Model;
 
-/// What an arc adds apart from the prices of rows, in thousandths of a cent, the group of rows that it touches, and
-/// whether it may be taken.
+/// What an arc adds apart from the prices of rows, in whole cents, the group of rows that it touches, and whether it may be
+/// taken.
 #[derive(Drop)]
 pub(crate) struct ArcTerm {
-    value: i64,
+    cents: i64,
     group: usize,
     allowed: bool,
 }
 
 impl Model for ArcTerm {
+    ghost use Rattle.std.specs.Prelude.{pos, ◌*ℤ◌};
     ghost use Rattle.optra_prices.specs.ArcTerms.{ArcTerm as Arc};
+    ghost use Rattle.optra_prices.specs.Bounds.{IsArcCents};
 
     ghost Value = { Arc };
 
-    ghost view = { λ a. record { value = a.value; group = a.group; allowed = a.allowed } };
+    ghost view = { λ a. record { value = pos 1000 *ℤ a.cents; group = a.group; allowed = a.allowed } };
+
+    ghost invariant = { λ a. IsArcCents a.cents };
 }
 
 impl ArcTerm {
-    /// An arc that adds a value and touches a group, and that may not be taken.
-    pub(crate) fn new(value: i64, group: usize) -> ArcTerm
-        ensures { result ≡ record { value = value; group = group; allowed = false } }
+    /// An arc that adds so many cents and touches a group, and that may not be taken.
+    pub(crate) fn new(cents: i64, group: usize) -> ArcTerm
+        requires { IsArcCents cents }
+        ensures { result ≡ record { value = pos 1000 *ℤ cents; group = group; allowed = false } }
     {
         ArcTerm {
-            value,
+            cents,
             group,
             allowed: false,
         }
     }
 
-    /// What it adds.
+    /// What it adds, in cents.
+    pub(crate) fn cents(&self) -> i64
+        ensures { pos 1000 *ℤ result ≡ self.now.value }
+    {
+        self.cents
+    }
+
+    /// What it adds, in thousandths of a cent.
     pub(crate) fn value(&self) -> i64
         ensures { result ≡ self.now.value }
     {
-        self.value
+        1000 * self.cents
     }
 
     /// The group that it touches.

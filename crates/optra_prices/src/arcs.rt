@@ -34,22 +34,11 @@ impl Model for Arcs {
     ghost invariant = { λ a. AreListed a.narrow.items a.groups a.closed };
 }
 
-/// A value in whole cents, where it is one and fits into 32 bits.
-fn cents_of(value: i64) -> Option<i32>
-    ensures { IfSome result (λ cents. pos 1000 *ℤ cents ≡ value) }
-{
-    let cents = value / 1000;
-    if 1000 * cents != value {
-        return None;
-    }
-    i32::try_from(cents).ok()
-}
-
 /// The arc, where its value and its group fit.
 fn narrowed(term: &ArcTerm) -> Option<NarrowArc>
     ensures { IfSome result (λ arc. term_of arc ≡ term.now) }
 {
-    let cents = cents_of(term.value())?;
+    let cents = i32::try_from(term.cents()).ok()?;
     let group = u32::try_from(term.group()).ok()?;
     if group >= CLOSED {
         return None;

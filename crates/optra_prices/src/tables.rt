@@ -13,7 +13,7 @@ use crate::arc_term::ArcTerm;
 use crate::arcs::Arcs;
 use crate::making::{Making, leg_group};
 use crate::numbering::BidTable;
-use crate::weighing::{leg_value, start_value};
+use crate::weighing::{leg_cents, start_cents};
 use optra_bid::Bid;
 use optra_graph::TimeGraph;
 use optra_network::{Minute, Network, NoMemory, TypeId};
@@ -33,7 +33,7 @@ fn start_term(bid: &Bid, minute: Minute) -> ArcTerm
     ensures range { IsArcValue result.value }
     ensures group { result.group ≡ 0 }
 {
-    ArcTerm::new(start_value(bid, minute), 0)
+    ArcTerm::new(start_cents(bid, minute), 0)
 }
 
 /// The arc of a leg, which touches the rows of a group.
@@ -42,7 +42,7 @@ fn leg_term(net: &Network, bid: &Bid, leg: Leg, group: usize) -> ArcTerm
     ensures range { IsArcValue result.value }
     ensures group { result.group ≡ group }
 {
-    ArcTerm::new(leg_value(net, bid, leg), group)
+    ArcTerm::new(leg_cents(net, bid, leg), group)
 }
 
 /// The arc at a place, with a group for its leg.
