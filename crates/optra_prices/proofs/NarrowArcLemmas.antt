@@ -1,14 +1,13 @@
 -- Narrow arcs, and after them the others, as the arcs that they stand for.
-use Rattle.std.proofs.Common.{◌≡◌, ℕ, ◌+◌, ◌-◌, ◌≤◌, ◌<◌, Bool, true, false, All, List, [], ◌∷◌, ◌++◌, map, length, set, get_or, Some, slice_get, refl, sym, ap, ◌∙◌, subst, arith, ℤ, pos}
+use Rattle.std.proofs.Common.{◌≡◌, ℕ, ◌+◌, ◌-◌, ◌≤◌, ◌<◌, Bool, true, false, List, [], ◌∷◌, ◌++◌, map, length, set, get_or, refl, sym, ap, ◌∙◌, subst, arith}
 use Rattle.std.proofs.lemmas.List.{get_or-map, get_or_append_left, get_or-append_right, map-set, map-append, append-nil, append_assoc, set-append_left, set-append_right, length-map, length-append}
-use Rattle.std.proofs.lemmas.List.Elements.{All-append, All-cons, All-get_or, All-nil, All-set, All-tail, All-weaker}
+use Rattle.std.proofs.lemmas.List.Elements.{All-append, All-cons, All-get_or, All-head, All-map, All-nil, All-set, All-tail, All-weaker}
 use Rattle.std.proofs.lemmas.List.Sums.{sum_by-cons, sum_by-set, sum_by_push}
-use Rattle.std.proofs.lemmas.Option.{slice_get_read, slice_get_within, slice_get-get_or, get_or_from_slice_get}
+use Rattle.std.proofs.lemmas.Option.{slice_get_read, get_or_from_slice_get}
 use Rattle.optra_prices.specs.ArcTerms.{ArcTerm}
-use Rattle.optra_prices.specs.NarrowArcs.{term_of, terms_of, group_of, is_open, AreOpen, AreListed, closed_one, closed_in, with_mark}
-use Rattle.optra_prices.specs.Tables.{Extends, no_arc}
+use Rattle.optra_prices.specs.NarrowArcs.{term_of, terms_of, group_of, is_open, AreAllowed, AreOpen, AreListed, closed_one, closed_in, with_mark}
+use Rattle.optra_prices.specs.Tables.{no_arc}
 use Rattle.optra_prices.specs.declared.narrow_arc.NarrowArc.{NarrowArc}
-use Rattle.optra_prices.proofs.AdmitLemmas.{extends_longer}
 
 -- ---- marks
 module _ (narrow : List NarrowArc) (wide : List ArcTerm) where
@@ -109,6 +108,35 @@ none_closed (arc ∷ narrow) none =
     open_one : (allowed : Bool) → closed_one allowed ≡ 0 → allowed ≡ true
     open_one true e = refl
     open_one false e = absurd (omega arith)
+
+-- where all may be taken, none is counted
+pub open_none : (narrow : List NarrowArc) → AreOpen narrow → closed_in narrow ≡ 0
+open_none [] open_all = omega arith
+open_none (arc ∷ narrow) open_all =
+    let P = λ (a : NarrowArc). is_open a.mark ≡ true in
+    let cons = sum_by-cons (λ (a : NarrowArc). closed_one (is_open a.mark)) arc narrow in
+    let rest = open_none narrow (All-tail P arc narrow open_all) in
+    let one : closed_one (is_open arc.mark) ≡ 0 = ap closed_one (All-head P arc narrow open_all) in
+    omega arith
+
+-- all arcs may be taken where the narrow ones and the others may
+pub allowed_both : (narrow : List NarrowArc) (wide : List ArcTerm) → AreOpen narrow → AreAllowed wide → AreAllowed (terms_of narrow wide)
+allowed_both narrow wide open_all others =
+    let P = λ (a : ArcTerm). a.allowed ≡ true in
+    All-append P (map term_of narrow) wide (All-map P term_of narrow open_all) others
+
+-- and then the narrow ones may
+pub allowed_narrow : (narrow : List NarrowArc) (wide : List ArcTerm) → AreAllowed (terms_of narrow wide) → AreOpen narrow
+allowed_narrow [] wide all = All-nil (λ (a : NarrowArc). is_open a.mark ≡ true)
+allowed_narrow (arc ∷ narrow) wide all =
+    let P = λ (a : ArcTerm). a.allowed ≡ true in
+    let Q = λ (a : NarrowArc). is_open a.mark ≡ true in
+    All-cons Q arc narrow (All-head P (term_of arc) (terms_of narrow wide) all) (allowed_narrow narrow wide (All-tail P (term_of arc) (terms_of narrow wide) all))
+
+-- and the others
+pub allowed_wide : (narrow : List NarrowArc) (wide : List ArcTerm) → AreAllowed (terms_of narrow wide) → AreAllowed wide
+allowed_wide [] wide all = all
+allowed_wide (arc ∷ narrow) wide all = allowed_wide narrow wide (All-tail (λ (a : ArcTerm). a.allowed ≡ true) (term_of arc) (terms_of narrow wide) all)
 
 module _ (narrow : List NarrowArc) where
   -- a narrow arc is the last one, where no others are

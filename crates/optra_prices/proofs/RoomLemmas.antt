@@ -5,7 +5,7 @@ use Rattle.std.specs.List.{AllZip}
 use Rattle.std.specs.declared.cmp.Ordering.{Ordering}
 use Rattle.std.proofs.lemmas.Bool.{cases_lt}
 use Rattle.std.proofs.lemmas.List.{length-replicate, get_or-replicate}
-use Rattle.std.proofs.lemmas.List.Elements.{All-nil, All-cons, All-head, All-tail, All-append, All-map}
+use Rattle.std.proofs.lemmas.List.Elements.{All-nil, All-cons, All-head, All-tail, All-append, All-map, All-weaker}
 use Rattle.std.proofs.lemmas.Option.{slice_get_within, slice_get-get_or, get_or_from_slice_get}
 use Rattle.optra_network.specs.declared.TypeId.{TypeId}
 use Rattle.optra_bid.specs.declared.bids.Bid.{Bid}
@@ -15,9 +15,9 @@ use Rattle.optra_node.specs.declared.Decision.{Decision}
 use Rattle.optra_node.specs.Nodes.{IsBlocked, others_load}
 use Rattle.optra_node.proofs.LoadLemmas.{contains_cases, contains_head, contains_later}
 use Rattle.optra_prices.specs.Courses.{HaveCapacities}
-use Rattle.optra_prices.specs.Loads.{RowLoads, FitsOnce, IsUnused}
+use Rattle.optra_prices.specs.Loads.{RowLoads, FitEach, FitsOnce, IsUnused}
 use Rattle.optra_prices.specs.NarrowTouches.{touch_of, touches_of}
-use Rattle.optra_prices.specs.Rooms.{IsRoom, HasRoomFor, HasRoomForAll}
+use Rattle.optra_prices.specs.Rooms.{IsRoom, HasRoomFor, HasRoomForAll, HasRoomOnHeld}
 use Rattle.optra_prices.specs.Tables.{IsTouch, AreTouches}
 use Rattle.optra_prices.specs.Uses.{AddsUses, TakesUses}
 use Rattle.optra_prices.specs.declared.touch.Touch.{Touch}
@@ -134,6 +134,12 @@ module _ {R : Type 0} (rows : Rows R) (numbered : List R) (extra : ℕ → ℕ) 
 -- there is room for each of the touches where there is for the narrow ones and for the others
 pub room_for_both : (room : Room) (narrow : List ℕ) (wide : List Touch) → All (FitsOnce room.loads) narrow → HasRoomForAll room wide → HasRoomForAll room (touches_of narrow wide)
 room_for_both room narrow wide once others = All-append (HasRoomFor room) (map touch_of narrow) wide (All-map (HasRoomFor room) touch_of narrow once) others
+
+-- there is room for each of the touches of which the row is held, where there is for one more use of each row and for the others
+pub room_on_held : (room : Room) (narrow : List ℕ) (wide : List Touch) → FitEach room.loads → HasRoomForAll room wide → HasRoomOnHeld room (touches_of narrow wide)
+room_on_held room narrow wide each others =
+    let P = λ (touch : Touch). touch.row < length room.loads.uses → HasRoomFor room touch in
+    All-append P (map touch_of narrow) wide (All-map P touch_of narrow (λ k d l held. each (get_or narrow k d) held)) (All-weaker (HasRoomFor room) P (λ touch has held. has) wide others)
 
 -- and then there is room for the narrow ones
 pub room_for_narrow : (room : Room) (narrow : List ℕ) (wide : List Touch) → HasRoomForAll room (touches_of narrow wide) → All (FitsOnce room.loads) narrow

@@ -10,7 +10,7 @@ use Rattle.optra_node.specs.declared.Decision.{Decision}
 use Rattle.optra_node.specs.Nodes.{IsBlocked, has_yes, kind_at}
 use Rattle.optra_node.specs.Spans.{IsLetBy, IsStartOk}
 use Rattle.optra_prices.specs.Marks.{IsMark}
-use Rattle.optra_prices.specs.NarrowArcs.{with_mark}
+use Rattle.optra_prices.specs.NarrowArcs.{AreAllowed}
 use Rattle.optra_prices.specs.Rooms.{HasRoomForAll}
 use Rattle.optra_prices.specs.Tables.{AreGroups, group_at}
 use Rattle.optra_prices.specs.Standings.{IsArcTable, IsBidTable}
@@ -60,14 +60,7 @@ pub record IsLetMark (net : Net) (bids : List Bid) (node : List Decision) (numbe
   pub start_is : (minute : ℕ) → start_of t k ≡ Some minute → (mark ≡ true) ↔ ((has_room ≡ true) × IsStartOk node number minute)
   pub leg_is : (leg : Leg) → leg_of t k ≡ Some leg → (mark ≡ true) ↔ ((has_room ≡ true) × IsLetBy net node number (kind_at bids number) leg)
 
--- each arc adds and touches what it did, and may be taken
-pub record AreOpened (old new : List ArcTerm) : Type 0 where
-  pub count_is : length new ≡ length old
-  pub each : (k : ℕ) (before after : ArcTerm) → slice_get old k ≡ Some before → slice_get new k ≡ Some after → after ≡ with_mark before true
-
--- the table has the graph that it had, each of its arcs may be taken, and the bid has no yes leg
-pub record IsOpened (old new : BidTable) : Type 0 where
-  pub graph : new.graph.now ≡ old.graph.now
-  pub most : new.most ≡ old.most
-  pub arcs : AreOpened old.arcs new.arcs
-  pub forced_is : new.forced ≡ false
+-- each arc of the table may be taken, and the bid has no yes leg
+pub record IsOpen (table : BidTable) : Type 0 where
+  pub arcs : AreAllowed table.arcs
+  pub forced_is : table.forced ≡ false

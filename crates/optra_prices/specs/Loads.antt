@@ -1,5 +1,5 @@
 -- How much is used of rows, beside their capacities.
-use Rattle.std.specs.Prelude.{◌≡◌, ◌+◌, ◌≤◌, ℕ, Bool, true, false, List, length, map, replicate, slice_index, slice_set}
+use Rattle.std.specs.Prelude.{◌≡◌, ◌+◌, ◌≤◌, ◌<◌, ℕ, Bool, true, false, List, length, map, replicate, slice_index, slice_set}
 use Rattle.optra_prices.specs.declared.narrow_loads.NarrowLoad.{NarrowLoad}
 use Rattle.optra_prices.specs.declared.wide_loads.Load.{Load}
 
@@ -45,6 +45,10 @@ pub record SetsUses (number uses : ℕ) (old new : RowLoads) : Type 0 where
 -- one more use of the row with this number fits
 abbrev pub FitsOnce : RowLoads → ℕ → Type 0
 FitsOnce loads number = slice_index loads.uses number + 1 ≤ slice_index loads.capacities number
+
+-- one more use of each row fits
+abbrev pub FitEach : RowLoads → Type 0
+FitEach loads = (number : ℕ) → number < length loads.uses → FitsOnce loads number
 
 -- one more is used of the row with this number, for which there is room, or all is as it was
 pub record AddsOnce (number : ℕ) (added : Bool) (old new : RowLoads) : Type 0 where

@@ -27,6 +27,10 @@ AreBelow groups narrow = All (λ arc. group_of arc.mark < groups) narrow
 abbrev pub AreOpen : List NarrowArc → Type 0
 AreOpen narrow = All (λ arc. is_open arc.mark ≡ true) narrow
 
+-- and all of these
+abbrev pub AreAllowed : List ArcTerm → Type 0
+AreAllowed arcs = All (λ arc. arc.allowed ≡ true) arcs
+
 -- 1 for an arc that may not be taken
 abbrev pub closed_one : Bool → ℕ
 closed_one allowed = cond allowed 0 1

@@ -1,5 +1,5 @@
 -- How much is used of rows by their numbers, and the room that is left.
-use Rattle.std.specs.Prelude.{◌≡◌, ◌↔◌, ℕ, ◌+◌, ◌≤◌, true, List, length, replicate, All, Some, slice_get, slice_index_or}
+use Rattle.std.specs.Prelude.{◌≡◌, ◌↔◌, ℕ, ◌+◌, ◌≤◌, ◌<◌, true, List, length, replicate, All, Some, slice_get, slice_index_or}
 use Rattle.optra_network.specs.Net.{Net}
 use Rattle.optra_bid.specs.declared.bids.Bid.{Bid}
 use Rattle.optra_walk.specs.Families.{Rows}
@@ -33,6 +33,10 @@ HasRoomFor room touch = slice_index_or room.loads.uses touch.row 0 + touch.uses 
 -- there is room for each of the touches
 abbrev pub HasRoomForAll : Room → List Touch → Type 0
 HasRoomForAll room touches = All (HasRoomFor room) touches
+
+-- there is room for each of the touches of which the row is held
+abbrev pub HasRoomOnHeld : Room → List Touch → Type 0
+HasRoomOnHeld room touches = All (λ touch. touch.row < length room.loads.uses → HasRoomFor room touch) touches
 
 -- what is told of a group is whether there is room for it
 abbrev pub IsTold : Room → Groups → Told → Type 0

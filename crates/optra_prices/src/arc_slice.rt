@@ -1,6 +1,6 @@
 //! The arcs of a bid's graph, lent to be read.
-ghost use Rattle.std.specs.Prelude.{◌≡◌, ◌<◌, true, false, length, slice_index_or, IfSome};
-ghost use Rattle.optra_prices.specs.NarrowArcs.{priced_arcs};
+ghost use Rattle.std.specs.Prelude.{◌≡◌, ◌<◌, ◌↔◌, true, false, IsTrue, length, slice_index_or, IfSome};
+ghost use Rattle.optra_prices.specs.NarrowArcs.{AreAllowed, priced_arcs};
 ghost use Rattle.optra_prices.specs.Tables.{allows_by, narrow_weight_by, no_arc};
 
 use crate::arc_term::ArcTerm;
@@ -31,6 +31,18 @@ impl<'a> Model for ArcSlice<'a> {
     ghost view = { λ a. terms_of a.narrow.now a.wide.now };
 
     ghost invariant = { λ a. AreListed a.narrow.now a.groups a.closed };
+}
+
+/// Whether each of these arcs may be taken.
+fn are_allowed(arcs: &[ArcTerm]) -> bool
+    ensures { IsTrue result ↔ AreAllowed arcs.now }
+{
+    for k in 0..arcs.len() {
+        if !arcs[k].allowed() {
+            return false;
+        }
+    }
+    true
 }
 
 impl<'a> ArcSlice<'a> {
@@ -84,6 +96,13 @@ impl<'a> ArcSlice<'a> {
             Some(arc) => arc.allowed(),
             None => self.wide[k - self.narrow.len()].allowed(),
         }
+    }
+
+    /// Whether each of them may be taken.
+    pub(crate) fn are_open(&self) -> bool
+        ensures { IsTrue result ↔ AreAllowed self.now }
+    {
+        self.closed == 0 && are_allowed(self.wide)
     }
 
     /// As [`ArcSlice::weight`], whether the arc is narrow or not.

@@ -1,5 +1,5 @@
 //! What an arc of a bid's graph adds and touches.
-ghost use Rattle.std.specs.Prelude.{◌≡◌, false, pos, ◌*ℤ◌};
+ghost use Rattle.std.specs.Prelude.{◌≡◌, true, pos, ◌*ℤ◌};
 ghost use Rattle.optra_prices.specs.Bounds.{IsArcCents};
 
 use std::marker::Model;
@@ -26,15 +26,15 @@ impl Model for ArcTerm {
 }
 
 impl ArcTerm {
-    /// An arc that adds so many cents and touches a group, and that may not be taken.
+    /// An arc that adds so many cents and touches a group, and that may be taken.
     pub(crate) fn new(cents: i64, group: usize) -> ArcTerm
         requires { IsArcCents cents }
-        ensures { result ≡ record { value = pos 1000 *ℤ cents; group = group; allowed = false } }
+        ensures { result ≡ record { value = pos 1000 *ℤ cents; group = group; allowed = true } }
     {
         ArcTerm {
             cents,
             group,
-            allowed: false,
+            allowed: true,
         }
     }
 

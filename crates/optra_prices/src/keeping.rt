@@ -29,10 +29,10 @@ use crate::listing::first_levels;
 use crate::loading::no_paths;
 use crate::loads::Loads;
 use crate::numbering::{BidTable, Standing};
-use crate::opening::open_tables;
+use crate::opening::are_open;
 use crate::owning::Owned;
 use crate::path_ends::PathEnds;
-use crate::rooms::{has_room, unused_room};
+use crate::rooms::{has_room_on_each, unused_room};
 use crate::row_numbers::RowNumbers;
 use crate::sessions::{Made, copy_standings, first_standings, made_tables, renew_all};
 use crate::telling::tell_moved;
@@ -69,7 +69,7 @@ fn no_decided<F: RowFamily>(
     })
 }
 
-/// Says of each arc whether the root allows it. After `NoMemory`, its only refusal, the tables serve no more.
+/// Says of each arc whether the root allows it. Where there is room for each touch it does so, as tables are made. After `NoMemory`, its only refusal, the tables serve no more.
 fn allow_root<F: RowFamily>(
     alloc: Global,
     inst: Instance<'_>,
@@ -92,8 +92,7 @@ fn allow_root<F: RowFamily>(
         (length inst.entry.bids.now) grouping.now.numbering.now.rows.items grouping.now.groups.now
         tables.new.items) }
 {
-    if has_room(&decided.room, &grouping.groups.touches.slice()) {
-        open_tables(inst, rows, grouping, decided, tables);
+    if are_open(tables) && has_room_on_each(&decided.room, &grouping.groups.touches.slice()) {
         return Ok(());
     }
     let node = Node::root(alloc);

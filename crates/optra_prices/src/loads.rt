@@ -1,6 +1,6 @@
 //! How much is used of rows by number, beside how much there is of them; exact, without a limit but memory.
 ghost use Rattle.std.specs.Prelude.{◌≡◌, ◌↔◌, ◌+◌, ◌-◌, ◌^◌, ◌≤◌, ◌++◌, ◌∷◌, [], All, min, IsTrue, IfOk, IfSome, OnOk, length, slice_index};
-ghost use Rattle.optra_prices.specs.Loads.{AddsOnce, FitsOnce, IsUnused, SetsUses};
+ghost use Rattle.optra_prices.specs.Loads.{AddsOnce, FitEach, FitsOnce, IsUnused, SetsUses};
 
 use crate::narrow_loads::NarrowLoads;
 use crate::wide_loads::WideLoads;
@@ -166,7 +166,7 @@ impl Loads {
         Ok(())
     }
 
-    /// Adds one to what is used of a row where it is seen at once that there is room for it, and tells whether it is.
+    /// Adds one to what is used of a row where it is seen at once that there is room for it, and tells whether it did.
     pub(crate) fn add_once(&mut self, number: usize) -> bool
         ensures { AddsOnce number result self.old self.new }
     {
@@ -185,6 +185,21 @@ impl Loads {
         }
         for k in 0..rows.len() {
             if !self.fits(rows[k] as usize, 1) {
+                return false;
+            }
+        }
+        true
+    }
+
+    /// Whether there is room for one more use of each row.
+    pub(crate) fn fit_each(&self) -> bool
+        ensures { IsTrue result ↔ FitEach self.now }
+    {
+        if self.is_narrow {
+            return self.narrow.fit_each();
+        }
+        for number in 0..self.wide.len() {
+            if !self.fits(number, 1) {
                 return false;
             }
         }

@@ -1,6 +1,6 @@
 //! How much is used of rows by number, beside how much there is of them, in two bytes a row.
-ghost use Rattle.std.specs.Prelude.{◌≡◌, ◌↔◌, ◌++◌, ◌∷◌, [], All, IsTrue, IfOk, OnOk, length, replicate, slice_index, slice_index_or, slice_set};
-ghost use Rattle.optra_prices.specs.Loads.{AddsOnce, FitsOnce, IsUnused, SetsUses, used_in, narrow_capacities_in, no_narrow_load};
+ghost use Rattle.std.specs.Prelude.{◌≡◌, ◌↔◌, ◌<◌, ◌++◌, ◌∷◌, [], All, IsTrue, IfOk, OnOk, length, replicate, slice_index, slice_index_or, slice_set};
+ghost use Rattle.optra_prices.specs.Loads.{AddsOnce, FitEach, FitsOnce, IsUnused, SetsUses, used_in, narrow_capacities_in, no_narrow_load};
 
 use optra_network::NoMemory;
 use std::alloc::Global;
@@ -38,6 +38,13 @@ fn load_at(rows: &[NarrowLoad], number: usize) -> NarrowLoad
         used: 0,
         capacity: 0,
     })
+}
+
+/// Whether there is room for one more use.
+fn fits_one(load: NarrowLoad) -> bool
+    ensures { IsTrue result ↔ load.used < load.capacity }
+{
+    load.used < load.capacity
 }
 
 /// Sets what is used of a row, where there is one.
@@ -124,10 +131,11 @@ impl NarrowLoads {
     /// Adds one to what is used of a row where there is room for it, and tells whether there is. Where there is no row, there
     /// is none.
     pub(crate) fn add_once(&mut self, number: usize) -> bool
-        ensures { AddsOnce number result self.old self.new }
+        ensures tells { IsTrue result ↔ FitsOnce self.old number }
+        ensures adds { AddsOnce number result self.old self.new }
     {
         let load = load_at(&self.rows, number);
-        if load.used >= load.capacity {
+        if !fits_one(load) {
             return false;
         }
         set_used(&mut self.rows, number, load.used + 1);
@@ -139,8 +147,19 @@ impl NarrowLoads {
         ensures { IsTrue result ↔ All (FitsOnce self.now) rows.now }
     {
         for k in 0..rows.len() {
-            let load = load_at(&self.rows, rows[k] as usize);
-            if load.used >= load.capacity {
+            if !fits_one(load_at(&self.rows, rows[k] as usize)) {
+                return false;
+            }
+        }
+        true
+    }
+
+    /// Whether there is room for one more use of each row.
+    pub(crate) fn fit_each(&self) -> bool
+        ensures { IsTrue result ↔ FitEach self.now }
+    {
+        for number in 0..self.len() {
+            if self.used(number) >= self.capacity(number) {
                 return false;
             }
         }

@@ -2,7 +2,7 @@
 ghost use Rattle.std.specs.Prelude.{◌≡◌, ◌+◌, ◌<◌, ◌↔◌, IsTrue, true, All, IfOk, OnOk, length, map, replicate};
 ghost use Rattle.optra_prices.specs.Loads.{IsUnused};
 ghost use Rattle.optra_prices.specs.Tables.{AreGroups};
-ghost use Rattle.optra_prices.specs.Rooms.{IsRoom, HasRoomFor, HasRoomForAll, IsNumberWithin, IsTold, IsFreeCopy};
+ghost use Rattle.optra_prices.specs.Rooms.{IsRoom, HasRoomFor, HasRoomForAll, HasRoomOnHeld, IsNumberWithin, IsTold, IsFreeCopy};
 ghost use Rattle.optra_prices.specs.Uses.{touch_use, touch_uses, AddsUses, TakesUses};
 
 use crate::grouping::group;
@@ -156,6 +156,14 @@ pub(crate) fn has_room(room: &Room, touches: &TouchSlice<'_>) -> bool
     ensures { IsTrue result ↔ HasRoomForAll room.now touches.now }
 {
     room.loads.fit_once(touches.narrow) && has_room_for_all(room, touches.wide)
+}
+
+/// Whether there is room for one more use of each row, and for each of the touches that use their row more often: then there
+/// is room for all of them, and no narrow one is asked for by itself.
+pub(crate) fn has_room_on_each(room: &Room, touches: &TouchSlice<'_>) -> bool
+    ensures { result ≡ true → HasRoomOnHeld room.now touches.now }
+{
+    room.loads.fit_each() && has_room_for_all(room, touches.wide)
 }
 
 /// A group of rows that arcs touch, and whether there is room for it.

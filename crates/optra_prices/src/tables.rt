@@ -86,7 +86,7 @@ fn widened(most: i64, value: i64) -> i64
     most.max(size)
 }
 
-/// All arcs of the bid's graph, none of which may be taken yet.
+/// All arcs of the bid's graph, each of which may be taken until a node says otherwise.
 pub(crate) fn bid_table<'g, F: RowFamily>(
     alloc: Global,
     net: &Network,

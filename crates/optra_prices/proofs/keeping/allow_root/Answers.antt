@@ -1,16 +1,30 @@
-use Rattle.std.proofs.Common.{◌≡◌, [], true, length, sym, ap, ◌∙◌, subst}
+use Rattle.std.proofs.Common.{true, All, length, sym, ap, ◌∙◌, subst}
 use Rattle.std.proofs.lemmas.List.{length-replicate}
+use Rattle.optra_prices.specs.Allowing.{IsOpen}
 use Rattle.optra_prices.specs.Terms.{Setting, setting}
-use Rattle.optra_prices.specs.Rooms.{HasRoomForAll, IsDecided}
-use Rattle.optra_prices.specs.Standings.{AreTables}
+use Rattle.optra_prices.specs.Rooms.{HasRoomOnHeld, IsDecided}
+use Rattle.optra_network.specs.declared.TypeId.{TypeId}
+use Rattle.optra_walk.specs.declared.Leg.{Leg}
+use Rattle.optra_walk.specs.Families.{IsUsable}
+use Rattle.optra_prices.proofs.OpeningLemmas.{open_tables}
 use Rattle.optra_prices.proofs.StayLemmas.{all_told}
 use Rattle.optra_node.specs.declared.Decision.{Decision}
 use Rattle.optra_node.specs.Summaries.{Summed, summed}
 use Rattle.std.proofs.Common.{List}
 use Rattle.optra_prices.proofs.keeping.allow_root.Goals as goal
 
-pub open_tables-requires-clause-room : goal.open_tables-requires-clause-room
-open_tables-requires-clause-room g c = subst (HasRoomForAll c.args.decided.now.room) c.slice.ensures (c.has_room.ensures.0 c.if-has_room.true)
+pub returns-then-has_room_on_each-clause-tables : goal.returns-then-has_room_on_each-clause-tables
+returns-then-has_room_on_each-clause-tables g c =
+    let net = c.args.inst.net.now in
+    let f = c.args.rows.now in
+    let rows = g.F.RowFamily.rows_of f net in
+    let used = g.F.RowFamily.rows_used f net in
+    let grouping = c.args.grouping.now in
+    let decided = c.args.decided.now in
+    let lists = λ (kind : TypeId) (leg : Leg) (usable : IsUsable net kind leg). g.met.F.RowFamily.lists_rows f net kind leg usable in
+    let free = subst (HasRoomOnHeld decided.room) c.slice.ensures (c.has_room_on_each.ensures c.if-has_room_on_each.true) in
+    let opened = subst (All IsOpen) c.deref.ensures.value (c.are_open.ensures.0 c.if-are_open.true) in
+    open_tables g.F.Row.Ord.cmp net c.args.inst.proper rows used lists c.args.inst.bids.now grouping.numbering.now.rows.items grouping.groups.now decided c.requires.decided free c.args.tables.now.items c.requires.tables opened
 
 pub allow_told-requires-clause-summary : goal.allow_told-requires-clause-summary
 allow_told-requires-clause-summary g c =

@@ -1,4 +1,4 @@
-use Rattle.std.proofs.Common.{◌≡◌, List, [], true, length, refl, sym, ap, ◌∙◌, subst, arith}
+use Rattle.std.proofs.Common.{◌≡◌, List, [], true, length, refl, sym, ap, ◌∙◌, subst}
 use Rattle.std.specs.Prelude.{All, pos}
 use Rattle.std.proofs.lemmas.List.{length-replicate}
 use Rattle.optra_prices.specs.Courses.{HaveCapacities}

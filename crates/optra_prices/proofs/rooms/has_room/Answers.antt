@@ -1,6 +1,5 @@
-use Rattle.std.proofs.Common.{◌≡◌, List, false, true, sym, ap, ◌∙◌, subst}
+use Rattle.std.proofs.Common.{◌≡◌, false, sym, ◌∙◌, subst}
 use Rattle.optra_prices.specs.Rooms.{HasRoomForAll}
-use Rattle.optra_prices.specs.declared.touch.Touch.{Touch}
 use Rattle.optra_prices.proofs.RoomLemmas.{room_for_both, room_for_narrow, room_for_wide}
 use Rattle.optra_prices.proofs.rooms.has_room.Goals as goal
 
