@@ -1,7 +1,9 @@
 -- Uses and capacities of rows below 2^8, which are held side by side.
-use Rattle.std.proofs.Common.{◌≡◌, ℕ, zero, suc, ◌+◌, ◌≤◌, ◌<◌, List, [], ◌∷◌, ◌++◌, length, take, set, get_or, refl, sym, ap, ◌∙◌, arith}
+use Rattle.std.proofs.Common.{◌≡◌, ℕ, zero, suc, ◌+◌, ◌≤◌, ◌<◌, List, [], ◌∷◌, ◌++◌, length, take, set, get_or, refl, sym, ap, ◌∙◌, subst, arith, inl, inr}
+use Rattle.std.specs.Prelude.{◌↔◌}
+use Rattle.std.proofs.lemmas.Bool.{cases_eq}
 use Rattle.std.proofs.lemmas.List.{length-set, length-take}
-use Rattle.optra_prices.specs.Loads.{used_in, narrow_capacities_in, no_narrow_load}
+use Rattle.optra_prices.specs.Loads.{RowLoads, FitsOnce, used_in, narrow_capacities_in, no_narrow_load}
 use Rattle.optra_prices.specs.declared.narrow_loads.NarrowLoad.{NarrowLoad}
 
 pub used_count : (rows : List NarrowLoad) → length (used_in rows) ≡ length rows
@@ -57,6 +59,18 @@ set_last (y ∷ xs) (suc k) x long = ap (λ (ys : List ℕ). y ∷ ys) (set_last
 pub narrow_capacities_count : (rows : List NarrowLoad) → length (narrow_capacities_in rows) ≡ length rows
 narrow_capacities_count [] = refl
 narrow_capacities_count (row ∷ rows) = ap suc (narrow_capacities_count rows)
+
+-- what is held of a row tells whether one more use of it fits
+pub load_tells : (rows : List NarrowLoad) (loads : RowLoads) → record { uses = used_in rows; capacities = narrow_capacities_in rows } ≡ loads → (k : ℕ) (load : NarrowLoad) → load ≡ get_or rows k no_narrow_load
+    → (load.used < load.capacity) ↔ FitsOnce loads k
+load_tells rows loads same k load is =
+    let u : get_or (used_in rows) k 0 ≡ load.used = used_at rows k ∙ ap (λ (row : NarrowLoad). row.used) (sym is) in
+    let c : get_or (narrow_capacities_in rows) k 0 ≡ load.capacity = narrow_capacity_at rows k ∙ ap (λ (row : NarrowLoad). row.capacity) (sym is) in
+    subst (λ (v : RowLoads). (load.used < load.capacity) ↔ FitsOnce v k) same ((λ l. omega (arith, u, c, l)), (λ l. omega (arith, u, c, l)))
+
+-- one more use of the first rows fits, and so of one more row
+pub fit_more : (loads : RowLoads) (n : ℕ) → ((m : ℕ) → m < n → FitsOnce loads m) → FitsOnce loads n → (m : ℕ) → m < n + 1 → FitsOnce loads m
+fit_more loads n so_far here m l = elim (cases_eq m n) as (λ _. FitsOnce loads m) [ inl e ↦ subst (FitsOnce loads) (sym e) here | inr apart ↦ so_far m (omega arith) ]
 
 -- ---- numbers that are taken over one after the other
 take_more : (xs : List ℕ) (n : ℕ) → n < length xs → take n xs ++ get_or xs n 0 ∷ [] ≡ take (suc n) xs

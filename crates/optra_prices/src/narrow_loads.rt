@@ -159,7 +159,7 @@ impl NarrowLoads {
         ensures { IsTrue result ↔ FitEach self.now }
     {
         for number in 0..self.len() {
-            if self.used(number) >= self.capacity(number) {
+            if !fits_one(load_at(&self.rows, number)) {
                 return false;
             }
         }
