@@ -4,7 +4,7 @@ use crate::step_table::StepTable;
 use crate::stepping::Step;
 use std::alloc::Global;
 
-/// Buffers for making graphs one after the other, so that each needn't take and clear memory of its own. They may
+/// Buffers for making graphs one after the other, so that not each takes memory of its own. They may
 /// hold anything: what a graph reads of them it has written before.
 #[derive(Drop)]
 pub struct Workspace {
