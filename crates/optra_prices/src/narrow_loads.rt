@@ -1,5 +1,5 @@
 //! How much is used of rows by number, beside how much there is of them, in two bytes a row.
-ghost use Rattle.std.specs.Prelude.{◌≡◌, ◌↔◌, ◌<◌, ◌++◌, ◌∷◌, [], All, IsTrue, IfOk, OnOk, length, replicate, slice_index, slice_index_or, slice_set};
+ghost use Rattle.std.specs.Prelude.{◌≡◌, ◌↔◌, ◌&&◌, ◌<◌, ◌++◌, ◌∷◌, [], All, IsTrue, IfOk, OnOk, length, replicate, slice_index, slice_index_or, slice_set};
 ghost use Rattle.optra_prices.specs.Loads.{AddsOnce, FitEach, FitsOnce, IsUnused, SetsUses, used_in, narrow_capacities_in, no_narrow_load};
 
 use optra_network::NoMemory;
@@ -45,6 +45,13 @@ fn fits_one(load: NarrowLoad) -> bool
     ensures { IsTrue result ↔ load.used < load.capacity }
 {
     load.used < load.capacity
+}
+
+/// Whether two hold.
+fn both(a: bool, b: bool) -> bool
+    ensures { result ≡ (a && b) }
+{
+    a && b
 }
 
 /// Sets what is used of a row, where there is one.
@@ -154,16 +161,15 @@ impl NarrowLoads {
         true
     }
 
-    /// Whether there is room for one more use of each row.
+    /// Whether there is room for one more use of each row. All are asked, since that is quicker than to stop at one.
     pub(crate) fn fit_each(&self) -> bool
         ensures { IsTrue result ↔ FitEach self.now }
     {
+        let mut fit = true;
         for number in 0..self.len() {
-            if !fits_one(load_at(&self.rows, number)) {
-                return false;
-            }
+            fit = both(fit, fits_one(load_at(&self.rows, number)));
         }
-        true
+        fit
     }
 
     /// How much is used of a row, and 0 where there is none.
