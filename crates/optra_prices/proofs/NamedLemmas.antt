@@ -1,5 +1,5 @@
 -- Rows that are named at once, and the touches of them.
-use Rattle.std.proofs.Common.{◌≡◌, ℕ, zero, suc, ◌+◌, List, [], ◌∷◌, ◌++◌, drop, append_assoc, Some, slice_get, sym, ap, ◌∙◌, arith}
+use Rattle.std.proofs.Common.{◌≡◌, ℕ, zero, suc, ◌+◌, List, [], ◌∷◌, ◌++◌, drop, append_assoc, slice_get, refl, ap, ◌∙◌, arith}
 use Rattle.std.proofs.lemmas.Option.{none-some}
 use Rattle.optra_prices.specs.declared.touch.Touch.{Touch}
 use Rattle.optra_prices.specs.Tables.{Extends, IsTouch, AddsTouches}
@@ -9,7 +9,7 @@ use Rattle.optra_prices.proofs.NumberLemmas.{touches_kept}
 -- an element of those from a place on
 pub at_drop : {X : Type 0} (n : ℕ) (xs : List X) (k : ℕ) → slice_get (drop n xs) k ≡ slice_get xs (n + k)
 at_drop zero xs k = ap (slice_get xs) (let e : k ≡ 0 + k = omega arith in e)
-at_drop (suc n) [] k = ap (slice_get []) (let e : k ≡ k = omega arith in e)
+at_drop (suc n) [] k = refl
 at_drop (suc n) (x ∷ xs) k = at_drop n xs k ∙ ap (slice_get (x ∷ xs)) (let e : suc (n + k) ≡ suc n + k = omega arith in e)
 
 -- rows keep their numbers where others are added

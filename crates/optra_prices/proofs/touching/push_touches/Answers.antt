@@ -77,12 +77,12 @@ returns g c =
     let count : c.loop-k.k ≡ lasting = let last = c.loop-k-test.false in let end = c.loop-k.auto.k-end in omega (arith, last, end) in
     let extends : Extends known new = subst (Extends known) (sym pushed) (append_extends known rest) in
     let are : All (λ row. rows.is_row row ≡ true) used =
-        All-weaker (Contains used) (λ row. rows.is_row row ≡ true) (λ row has. lists.are_rows row ((lists.used row).1 has)) used (All-contains_itself used) in
+    All-weaker (Contains used) (λ row. rows.is_row row ≡ true) (λ row has. lists.are_rows row ((lists.used row).1 has)) used (All-contains_itself used) in
     let first : AddsTouches known uses (take lasting used) c.args.touches.now c.loop-k.touches =
-        subst (λ (n : ℕ). AddsTouches known uses (take n used) c.args.touches.now c.loop-k.touches) count c.loop-k.invariant.touches in
+    subst (λ (n : ℕ). AddsTouches known uses (take n used) c.args.touches.now c.loop-k.touches) count c.loop-k.invariant.touches in
     let later : AddsTouches new uses rest c.loop-k.touches c.touch_named.new.touches =
-        subst (λ (numbered : List g.row.F-Row.Denot). AddsTouches numbered uses rest c.loop-k.touches c.touch_named.new.touches) c.deref.ensures.value
-        (subst (λ (more : List g.row.F-Row.Denot). AddsTouches c.deref.result.now uses more c.loop-k.touches c.touch_named.new.touches) left c.in_ok-touch_named.ensures) in
+    subst (λ (numbered : List g.row.F-Row.Denot). AddsTouches numbered uses rest c.loop-k.touches c.touch_named.new.touches) c.deref.ensures.value
+    (subst (λ (more : List g.row.F-Row.Denot). AddsTouches c.deref.result.now uses more c.loop-k.touches c.touch_named.new.touches) left c.in_ok-touch_named.ensures) in
     record {
       rows = subst (All (λ row. rows.is_row row ≡ true)) (sym pushed) (All-append (λ row. rows.is_row row ≡ true) known rest c.loop-k.invariant.rows (All-drop (λ row. rows.is_row row ≡ true) lasting used are));
       extends = extends_more _ known new c.loop-k.invariant.extends extends;

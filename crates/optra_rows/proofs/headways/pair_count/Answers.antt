@@ -11,4 +11,4 @@ returns-clause-count c =
     let over = c.first_over.result in
     c.saturating_sub.ensures
     ∙ sym (length_from_to (λ partner. is_started time partner && is_not_over time partner) c.args.partners.now start over
-        (day_from_to time c.args.partners.now start over c.first_started.ensures.parts c.first_over.ensures))
+    (day_from_to time c.args.partners.now start over c.first_started.ensures.parts c.first_over.ensures))

@@ -1,4 +1,4 @@
-use Rattle.std.proofs.Common.{◌≡◌, ◌+◌, ℕ, List, Some, length, map, slice_get, sym, ap, ◌∙◌, arith}
+use Rattle.std.proofs.Common.{◌≡◌, ◌+◌, ℕ, Some, map, slice_get, ap, ◌∙◌, arith}
 use Rattle.std.specs.List.{range_with_len}
 use Rattle.std.specs.Option.{option_map}
 use Rattle.std.proofs.lemmas.List.FromFn.{length-map-range_with_len}
@@ -15,7 +15,7 @@ loop-k-preserved c =
     let minutes = range_with_len c.args.leg.depart c.args.least in
     let k = c.loop-k.k in
     let at : slice_get (map row minutes) k ≡ Some (row (c.args.leg.depart + k)) =
-        slice_get-map row minutes k ∙ ap (option_map row) (slice_get-range c.args.leg.depart c.args.least k c.loop-k-test.true) in
+    slice_get-map row minutes k ∙ ap (option_map row) (slice_get-range c.args.leg.depart c.args.least k c.loop-k-test.true) in
     listed_more _ _ _ (map row minutes) k (row (c.args.leg.depart + k)) c.loop-k.invariant at c.in_ok-push.ensures.items
 
 pub returns : goal.returns

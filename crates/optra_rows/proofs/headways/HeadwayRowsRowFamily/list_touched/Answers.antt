@@ -3,7 +3,6 @@ use Rattle.std.proofs.Common.{◌≡◌, ◌-◌, ◌++◌, ℕ, List, length, d
 use Rattle.std.specs.List.{range_with_len}
 use Rattle.std.proofs.lemmas.List.FromFn.{length-map-range_with_len}
 use Rattle.optra_network.specs.Headways.{hmin_or_0}
-use Rattle.optra_network.specs.Partners.{partners_of}
 use Rattle.optra_network.specs.declared.Partner.{Partner}
 use Rattle.optra_rows.specs.declared.HRow.{HRow}
 use Rattle.optra_rows.specs.declared.HRow.TheVariants.{Window}
