@@ -18,7 +18,7 @@ use optra_walk::{Action, Leg, RowFamily};
 use std::alloc::Global;
 
 /// How many guesses are kept.
-const PLACES: usize = 1_048_576;
+const PLACES: usize = 524_288;
 
 /// The minutes in which legs depart.
 const MINUTES: usize = 2_880;
