@@ -69,7 +69,8 @@ fn no_decided<F: RowFamily>(
     })
 }
 
-/// Says of each arc whether the root allows it. Where there is room for each touch it does so, as tables are made. After `NoMemory`, its only refusal, the tables serve no more.
+/// Says of each arc whether the root allows it. Where there is room for each touch it does so, as tables are made. After
+/// `NoMemory`, its only refusal, the tables serve no more.
 fn allow_root<F: RowFamily>(
     alloc: Global,
     inst: Instance<'_>,
