@@ -1,3 +1,4 @@
+pub mod Codes
 pub mod Crosses
 pub mod Places
 pub mod PlaceLemmas

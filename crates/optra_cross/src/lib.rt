@@ -8,6 +8,7 @@
 use optra_network::{Minute, TrackId, TypeId};
 
 mod cross_rows;
+mod row_codes;
 mod laws;
 mod places;
 mod texts;

@@ -67,7 +67,7 @@ module _ (path : Path) (layout : Layout) (flags : List Bool) where
       whole n l w (inl b) = let v = h.whole n b w in (v.0, omega (arith, v.1, more), old v.0 v.1 ∙ v.2)
       whole n l w (inr b) = (length minutes, omega (arith, more), last (length minutes) refl ∙ (omega arith))
 
-  pub starts_end : (m end : ℕ) (arcs : List Arc) (minutes : List ℕ) → m ≤ end → (deadline_of layout path.origin ≤ m) ⊎ (path.depart.to < m) → Made m arcs minutes → Made end arcs minutes
+  pub starts_end : (m end : ℕ) (arcs : List Arc) (minutes : List ℕ) → m ≤ end → (deadline_of layout 0 path.origin ≤ m) ⊎ (path.depart.to < m) → Made m arcs minutes → Made end arcs minutes
   starts_end m end arcs minutes le far h = record {
     made = h.made;
     sound = λ k l. let w = h.sound k l in (w.0, omega (arith, w.1));
@@ -75,7 +75,7 @@ module _ (path : Path) (layout : Layout) (flags : List Bool) where
     whole = λ n l w. h.whole n (by n w far) w;
   }
     where
-      by : (n : ℕ) → IsKeptStart path layout flags n → (deadline_of layout path.origin ≤ m) ⊎ (path.depart.to < m) → n < m
+      by : (n : ℕ) → IsKeptStart path layout flags n → (deadline_of layout 0 path.origin ≤ m) ⊎ (path.depart.to < m) → n < m
       by n w (inl f) = let t = w.timely.timely in omega arith
       by n w (inr f) = let u = w.within.1 in omega arith
 

@@ -78,7 +78,7 @@ starts_more path layout m old flags within placed l h = record {
     from p (inl s) = h.only p s
     from p (inr e) = inr (m, within, placed, e)
 
-pub starts_all : (path : Path) (layout : Layout) (m n : ℕ) (old flags : List Bool) → (deadline_of layout path.origin ≤ m) ⊎ (path.depart.to < m) → AreStartsSet path layout m old flags → AreStartsSet path layout n old flags
+pub starts_all : (path : Path) (layout : Layout) (m n : ℕ) (old flags : List Bool) → (deadline_of layout 0 path.origin ≤ m) ⊎ (path.depart.to < m) → AreStartsSet path layout m old flags → AreStartsSet path layout n old flags
 starts_all path layout m n old flags far h = record {
   len = h.len;
   keeps = h.keeps;
@@ -86,7 +86,7 @@ starts_all path layout m n old flags far h = record {
   only = h.only;
 }
   where
-    by : (k : ℕ) → IsFromTo path.depart.from path.depart.to k → IsTimely layout (start_state path k) → (deadline_of layout path.origin ≤ m) ⊎ (path.depart.to < m) → k < m
+    by : (k : ℕ) → IsFromTo path.depart.from path.depart.to k → IsTimely layout (start_state path k) → (deadline_of layout 0 path.origin ≤ m) ⊎ (path.depart.to < m) → k < m
     by k w p (inl f) = let t = p.timely in omega arith
     by k w p (inr f) = let u = w.1 in omega arith
 

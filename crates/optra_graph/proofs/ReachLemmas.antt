@@ -1,7 +1,7 @@
 -- Which places are reached, and which are kept.
-use Rattle.std.proofs.Common.{◌≡◌, ℕ, zero, suc, ◌+◌, ◌≤◌, ◌<◌, ◌⊎◌, inl, inr, Bool, true, false, List, [], ◌∷◌, length, get_or, set, slice_get, refl, sym, ap, ◌∙◌, subst, arith, All, Contains, true≢false, length-set, replicate, cond, nat_eq}
+use Rattle.std.proofs.Common.{◌≡◌, ℕ, zero, suc, ◌+◌, ◌≤◌, ◌<◌, ◌⊎◌, inl, inr, Bool, true, false, List, [], ◌∷◌, length, get_or, set, slice_get, refl, sym, ap, ◌∙◌, subst, arith, All, Contains, true≢false, length-set, replicate, cond, nat_eq, nat_lt, min, ◌*◌}
 use Rattle.std.specs.List.{count_by}
-use Rattle.std.proofs.lemmas.Bool.{cases_eq, cases_lt}
+use Rattle.std.proofs.lemmas.Bool.{cases_eq, cases_lt, ltb-true}
 use Rattle.std.proofs.lemmas.List.Elements.{All-contains}
 use Rattle.std.proofs.lemmas.Option.{slice_get_within}
 use Rattle.optra_network.specs.Net.{Net, IsFromTo}
@@ -13,13 +13,14 @@ use Rattle.optra_walk.specs.Walks.{MeetsStop}
 use Rattle.optra_graph.specs.declared.states.State.{State}
 use Rattle.optra_graph.specs.declared.states.Layout.{Layout}
 use Rattle.optra_graph.specs.declared.stepping.Step.{Step}
+use Rattle.optra_graph.specs.Columns.{deadline_in, stopping_in}
 use Rattle.optra_graph.specs.Flags.{is_set, IsPassed, IsSet, IsStartPlace, IsSteppedTo, AreStartsSet, Marks, IsReached, IsReachedTo, IsTrimmedTo, IsKept}
 use Rattle.optra_graph.specs.Moves.{start_state, FitsAction, IsMove, IsAfter, Runs, done_after}
 use Rattle.optra_graph.specs.Places.{IsPlaced, IsTimely, deadline_of, mode_of, place_of, places_of, state_of}
 use Rattle.optra_graph.specs.Settings.{IsSetting}
 use Rattle.optra_graph.specs.Steps.{IsStep, AreSteps}
 use Rattle.optra_graph.proofs.FlagLemmas.{set_here, set_there, none_set, count_none, count_some}
-use Rattle.optra_graph.proofs.ColumnLemmas.{column_there, columns_back}
+use Rattle.optra_graph.proofs.ColumnLemmas.{column_there, columns_back, deadline_least}
 use Rattle.optra_graph.proofs.DeadlineLemmas.{runs_timely}
 use Rattle.optra_graph.proofs.HorizonLemmas.{after_later, runs_before}
 use Rattle.optra_graph.proofs.PlaceLemmas.{placed_at, place_below, place_back, state_back}
@@ -47,14 +48,15 @@ module _ (net : Net) (path : Path) (layout : Layout) (setting : IsSetting net pa
       → All (λ step. step.to < length flags) steps
   steps_within place flags steps b n all k d l = let f = forward_at place (get_or steps k d) b (all.sound k d l) in omega (arith, f.1, n)
 
-  pub start_timely : (m : ℕ) → layout.first ≤ m → m < deadline_of layout path.origin → IsTimely layout (start_state path m)
+  pub start_timely : (m : ℕ) → layout.first ≤ m → m < deadline_of layout 0 path.origin → IsTimely layout (start_state path m)
   start_timely m early timely =
       let s = setting.laid.slots in
       let first = setting.laid.first in
       let minutes = setting.laid.minutes in
       let most = setting.columns.deadlines.most path.origin.0 in
-      let late : m < layout.first + layout.minutes = omega (arith, first, minutes, most) in record {
-        placed = record { early = early; late = late; done = omega (arith, s); station = column_there net path layout setting path.origin setting.origin (omega arith) };
+      let least = deadline_least layout 0 path.origin in
+      let late : m < layout.first + layout.minutes = omega (arith, first, minutes, most, least) in record {
+        placed = record { early = early; late = late; done = omega (arith, s); station = column_there net path layout setting 0 path.origin setting.origin (omega arith) };
         timely = timely;
       }
 
@@ -235,6 +237,20 @@ module _ (net : Net) (path : Path) (layout : Layout) (setting : IsSetting net pa
   done_next s leg (Wait d) l f = l
   done_next s leg Finish l f = l
 
+  -- who runs on to the end departs before the deadline
+  run_timely : (s : State) (legs : List Leg) → Runs net path s legs → s.minute < deadline_of layout s.done s.station
+  run_timely s legs r = by (nat_lt (s.done * 2 + 2) layout.slots) refl
+    where
+      by : (b : Bool) → nat_lt (s.done * 2 + 2) layout.slots ≡ b
+          → s.minute < cond b (min (deadline_in layout.columns.now s.station) (stopping_in layout.columns.now s.station)) (deadline_in layout.columns.now s.station)
+      by true e =
+          let l = ltb-true (s.done * 2 + 2) layout.slots e in
+          let slots = setting.laid.slots in
+          let a = runs_timely net path layout.columns.now.deadlines.items setting.columns.deadlines s legs r in
+          let b = setting.columns.stopping.holds s legs (omega (arith, l, slots)) r in
+          omega (arith, a, b)
+      by false e = runs_timely net path layout.columns.now.deadlines.items setting.columns.deadlines s legs r
+
   -- the state after a leg from which a run goes on is in time
   pub after_timely : (s after : State) (leg : Leg) (rest : List Leg) → IsPlaced layout s → IsMove net path s leg → IsAfter net path s leg after → Runs net path after rest → IsTimely layout after
   after_timely s after leg rest p m a r =
@@ -248,13 +264,13 @@ module _ (net : Net) (path : Path) (layout : Layout) (setting : IsSetting net pa
       let same = a.done in
       let mode = mode_few after.halted in
       let station = head_within net leg.track.0 after.station setting.proper a.place in
-      let timely = runs_timely net path layout.columns.now.deadlines.items setting.columns.deadlines after rest r in
+      let timely = run_timely after rest r in
       record {
         placed = record {
           early = omega arith;
           late = omega arith;
           done = omega (arith, done, same, mode, slots);
-          station = column_there net path layout setting after.station station (omega arith);
+          station = column_there net path layout setting after.done after.station station (omega arith);
         };
         timely = timely;
       }
@@ -296,7 +312,7 @@ module _ (net : Net) (path : Path) (layout : Layout) (setting : IsSetting net pa
         start m legs w r =
             let first = setting.laid.first in
             let from = w.0 in
-            start_timely m (omega arith) (runs_timely net path layout.columns.now.deadlines.items setting.columns.deadlines (start_state path m) legs r)
+            start_timely m (omega arith) (run_timely (start_state path m) legs r)
 
         by : (place : ℕ) → IsSet flags place → IsStartPlace path layout place ⊎ IsSteppedTo net path layout reached place → IsStartPlace path layout place ⊎ IsSteppedTo net path layout flags place
         by place s (inl x) = inl x

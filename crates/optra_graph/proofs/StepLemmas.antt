@@ -19,12 +19,12 @@ use Rattle.optra_graph.specs.declared.states.State.{State}
 use Rattle.optra_graph.specs.declared.states.Layout.{Layout}
 use Rattle.optra_graph.specs.declared.stepping.Step.{Step}
 use Rattle.optra_graph.specs.declared.stepping.Way.{Way}
-use Rattle.optra_graph.specs.Moves.{FitsAction, IsMove, IsAfter}
+use Rattle.optra_graph.specs.Moves.{done_after, FitsAction, IsMove, IsAfter}
 use Rattle.optra_graph.specs.Places.{IsPlaced, IsTimely, deadline_of, place_of, places_of}
 use Rattle.optra_graph.specs.Settings.{IsSetting}
 use Rattle.optra_graph.specs.Steps.{LeadsTo, IsStep, bound_of, key_of, AreStepsBelow, leg_by, IsWay}
 use Rattle.optra_graph.proofs.RunLemmas.{not_finish}
-use Rattle.optra_graph.proofs.ColumnLemmas.{column_there}
+use Rattle.optra_graph.proofs.ColumnLemmas.{column_there, deadline_least}
 use Rattle.optra_graph.proofs.HorizonLemmas.{after_later}
 use Rattle.optra_graph.proofs.PlaceLemmas.{place_below, place_later}
 
@@ -206,27 +206,27 @@ module _ (net : Net) (path : Path) (layout : Layout) (setting : IsSetting net pa
     next_wait d = ap (option_map (λ n. n + d)) by.halt
 
     -- a step that does not finish departs before the deadline
-    late : (y : Step) → Is y → (a : Action) → y.leg ≡ leg_by s way.track a → is_finish a ≡ false → (n : ℕ) → next_depart_of net path.kind (leg_by s way.track a) ≡ Some n → n < way.deadline
+    late : (y : Step) → Is y → (a : Action) → y.leg ≡ leg_by s way.track a → is_finish a ≡ false → (n : ℕ) → next_depart_of net path.kind (leg_by s way.track a) ≡ Some n → n < deadline_of layout (done_after a s.done) way.head
     late y h a e f n next = go (subst (λ leg. LeadsTo net path layout s leg y.to) e h.leads)
       where
-        go : LeadsTo net path layout s (leg_by s way.track a) y.to → n < way.deadline
+        go : LeadsTo net path layout s (leg_by s way.track a) y.to → n < deadline_of layout (done_after a s.done) way.head
         go (inl g) = absurd (true≢false (sym (ap is_finish g.0) ∙ f))
         go (inr g) =
             let m = some_same _ n g.0.minute next g.1.time in
             let h : g.0.station ≡ way.head = some_same _ g.0.station way.head g.1.place by.head in
-            let d = ap (deadline_of layout) h in
+            let done : g.0.done ≡ done_after a s.done = g.1.done in
+            let d : deadline_of layout g.0.done g.0.station ≡ deadline_of layout (done_after a s.done) way.head = (λ i. deadline_of layout (done i) (h i)) in
             let t = g.2.timely in
-            let w = by.deadline in
-            omega (arith, m, d, t, w)
+            omega (arith, m, d, t)
 
     pub pass_late : (y : Step) → Is y → y.leg ≡ leg_by s way.track Pass → way.pass < way.deadline
-    pass_late y h e = late y h Pass e refl way.pass by.pass
+    pass_late y h e = let l = late y h Pass e refl way.pass by.pass in let w = by.deadline in omega (arith, l, w)
 
-    pub halt_late : (y : Step) → Is y → (d : ℕ) → y.leg ≡ leg_by s way.track (Halt d) → way.halt + d < way.deadline
+    pub halt_late : (y : Step) → Is y → (d : ℕ) → y.leg ≡ leg_by s way.track (Halt d) → way.halt + d < deadline_of layout (s.done + 1) way.head
     halt_late y h d e = late y h (Halt d) e refl (way.halt + d) (next_halt d)
 
     pub wait_late : (y : Step) → Is y → (d : ℕ) → y.leg ≡ leg_by s way.track (Wait d) → way.halt + d < way.deadline
-    wait_late y h d e = late y h (Wait d) e refl (way.halt + d) (next_wait d)
+    wait_late y h d e = let l = late y h (Wait d) e refl (way.halt + d) (next_wait d) in let w = by.deadline in omega (arith, l, w)
 
     -- what is right there
     pub halt_fits : (y : Step) → Is y → (d : ℕ) → y.leg ≡ leg_by s way.track (Halt d) → IsSomeAnd (slice_get path.stops s.done) (MeetsStop net path.kind (leg_by s way.track (Halt d)))
@@ -328,7 +328,7 @@ module _ (net : Net) (path : Path) (layout : Layout) (setting : IsSetting net pa
         f ∙ ap (λ n. leg_by s way.track (Halt n)) same))
 
     pub halt_end : (steps : List Step) (stop : Stop) (d : ℕ) → slice_get path.stops s.done ≡ Some stop → stop.max_dwell ≤ 240 → d ≤ 256
-        → (stop.max_dwell < d) ⊎ (way.deadline ≤ way.halt + d) → Below (bound_of way.track.0 1 + d) steps → Below (bound_of way.track.0 2) steps
+        → (stop.max_dwell < d) ⊎ (deadline_of layout (s.done + 1) way.head ≤ way.halt + d) → Below (bound_of way.track.0 1 + d) steps → Below (bound_of way.track.0 2) steps
     halt_end steps stop d at few small over h = skip_steps (bound_of way.track.0 1 + d) (bound_of way.track.0 2) steps (omega arith) h
         (λ y w l u.
         let e = by_halt y w (omega (arith, l)) u in
@@ -338,7 +338,7 @@ module _ (net : Net) (path : Path) (layout : Layout) (setting : IsSetting net pa
         let from : d ≤ dwell_of y.leg.action = omega (arith, k, l) in
         beyond (dwell_of y.leg.action) from m.2.1 p over)
       where
-        beyond : (n : ℕ) → d ≤ n → n ≤ stop.max_dwell → way.halt + n < way.deadline → (stop.max_dwell < d) ⊎ (way.deadline ≤ way.halt + d) → ⊥
+        beyond : (n : ℕ) → d ≤ n → n ≤ stop.max_dwell → way.halt + n < deadline_of layout (s.done + 1) way.head → (stop.max_dwell < d) ⊎ (deadline_of layout (s.done + 1) way.head ≤ way.halt + d) → ⊥
         beyond n from most p (inl o) = omega arith
         beyond n from most p (inr o) = omega arith
 
@@ -389,17 +389,17 @@ module _ (net : Net) (path : Path) (layout : Layout) (setting : IsSetting net pa
     -- ---- the states after them are in time
 
     -- what is before the deadline is within the layout
-    before_end : (n : ℕ) → n < way.deadline → n < layout.first + layout.minutes
-    before_end n l =
+    before_end : (done n : ℕ) → n < deadline_of layout done way.head → n < layout.first + layout.minutes
+    before_end done n l =
         let most = setting.columns.deadlines.most way.head.0 in
-        let d = by.deadline in
+        let d = deadline_least layout done way.head in
         let first = setting.laid.first in
         let minutes = setting.laid.minutes in
         omega (arith, most, d, first, minutes)
 
     pub passed_at : way.pass < way.deadline → IsTimely layout after_pass
-    passed_at late = let early = placed.early in let p = by.pass_later in let d = placed.done in let b = before_end way.pass late in let t = by.deadline in
-        let head_there = column_there net path layout setting way.head by.station (omega (arith, early, p, late, t)) in record {
+    passed_at late = let early = placed.early in let p = by.pass_later in let d = placed.done in let t = by.deadline in let b = before_end s.done way.pass (omega (arith, late, t)) in
+        let head_there = column_there net path layout setting s.done way.head by.station (omega (arith, early, p, late, t)) in record {
           placed = record { early = omega arith; late = b; done = omega (arith, d); station = head_there };
           timely = omega (arith, t);
         }
@@ -408,17 +408,17 @@ module _ (net : Net) (path : Path) (layout : Layout) (setting : IsSetting net pa
     slots_room = let d = placed.done in let e = setting.laid.slots in omega (arith, d, e)
 
     pub waited_at : (d : ℕ) → way.halt + d < way.deadline → IsTimely layout (after_wait d)
-    waited_at d late = let early = placed.early in let p = by.halt_later in let r = slots_room in let b = before_end (way.halt + d) late in let t = by.deadline in
-        let head_there = column_there net path layout setting way.head by.station (omega (arith, early, p, late, t)) in record {
+    waited_at d late = let early = placed.early in let p = by.halt_later in let r = slots_room in let t = by.deadline in let b = before_end s.done (way.halt + d) (omega (arith, late, t)) in
+        let head_there = column_there net path layout setting s.done way.head by.station (omega (arith, early, p, late, t)) in record {
           placed = record { early = omega arith; late = b; done = r; station = head_there };
           timely = omega (arith, t);
         }
 
-    pub halted_at : (d : ℕ) → s.done < length path.stops → way.halt + d < way.deadline → IsTimely layout (after_halt d)
-    halted_at d more late = let early = placed.early in let p = by.halt_later in let e = setting.laid.slots in let b = before_end (way.halt + d) late in let t = by.deadline in
-        let head_there = column_there net path layout setting way.head by.station (omega (arith, early, p, late, t)) in record {
+    pub halted_at : (d : ℕ) → s.done < length path.stops → way.halt + d < deadline_of layout (s.done + 1) way.head → IsTimely layout (after_halt d)
+    halted_at d more late = let early = placed.early in let p = by.halt_later in let e = setting.laid.slots in let b = before_end (s.done + 1) (way.halt + d) late in
+        let head_there = column_there net path layout setting (s.done + 1) way.head by.station (omega (arith, early, p, late)) in record {
           placed = record { early = omega arith; late = b; done = omega (arith, e); station = head_there };
-          timely = omega (arith, t);
+          timely = late;
         }
 
   -- the dwells of a stop are at most 240, and it is one of the path

@@ -4,7 +4,7 @@ use Rattle.optra_network.specs.Net.{Net}
 use Rattle.optra_network.specs.declared.StationId.{StationId}
 use Rattle.optra_bid.specs.Specs.{Path}
 use Rattle.optra_graph.specs.declared.columns.Columns.{Columns}
-use Rattle.optra_graph.specs.Deadlines.{AreDeadlines}
+use Rattle.optra_graph.specs.Deadlines.{AreDeadlines, AreStopping, end_of}
 
 abbrev pub no_station : StationId
 no_station = record { 0 = 0 }
@@ -12,6 +12,10 @@ no_station = record { 0 = 0 }
 -- the first minute at which it is too late to leave a station
 abbrev pub deadline_in : Columns → StationId → ℕ
 deadline_in columns station = slice_index_or columns.deadlines.items station.0 0
+
+-- the same where stops are left
+abbrev pub stopping_in : Columns → StationId → ℕ
+stopping_in columns station = slice_index_or columns.stopping.items station.0 0
 
 -- the station of a column
 abbrev pub station_in : Columns → ℕ → StationId
@@ -33,5 +37,6 @@ pub record AreColumnsTo (minute before : ℕ) (columns : Columns) : Type 0 where
 
 -- the deadlines, and the columns of the stations that may be left at the first departure
 pub record AreColumns (net : Net) (path : Path) (columns : Columns) : Type 0 where
-  pub deadlines : AreDeadlines net path columns.deadlines.items
+  pub deadlines : AreDeadlines net path (end_of path) columns.deadlines.items
+  pub stopping : AreStopping net path columns.stopping.items
   pub listed : AreColumnsTo path.depart.from (length net.stations) columns

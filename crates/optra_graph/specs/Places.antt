@@ -1,11 +1,11 @@
 -- The places of states: minute by minute, then by stops done and by mode, then by the column of the station.
-use Rattle.std.specs.Prelude.{◌≡◌, ℕ, ◌+◌, ◌-◌, ◌*◌, ◌/◌, ◌%◌, ◌<◌, ◌≤◌, Bool, true, false, nat_eq, length}
+use Rattle.std.specs.Prelude.{◌≡◌, ℕ, ◌+◌, ◌-◌, ◌*◌, ◌/◌, ◌%◌, ◌<◌, ◌≤◌, Bool, true, false, nat_eq, nat_lt, min, length, if◌then◌else◌}
 use Rattle.optra_network.specs.Net.{Net}
 use Rattle.optra_network.specs.declared.StationId.{StationId}
 use Rattle.optra_bid.specs.Specs.{Path}
 use Rattle.optra_graph.specs.declared.states.State.{State}
 use Rattle.optra_graph.specs.declared.states.Layout.{Layout}
-use Rattle.optra_graph.specs.Columns.{column_in, deadline_in, station_in}
+use Rattle.optra_graph.specs.Columns.{column_in, deadline_in, stopping_in, station_in}
 
 -- the layout of a path: its minutes are those from the first departure on and before the last arrival
 pub record IsLayout (net : Net) (path : Path) (layout : Layout) : Type 0 where
@@ -26,9 +26,10 @@ abbrev pub mode_of : Bool → ℕ
 mode_of true = 1
 mode_of false = 0
 
--- the first minute at which it is too late to leave a station
-abbrev pub deadline_of : Layout → StationId → ℕ
-deadline_of layout station = deadline_in layout.columns.now station
+-- the first minute at which it is too late to leave a station, after so many stops
+abbrev pub deadline_of : Layout → ℕ → StationId → ℕ
+deadline_of layout done station =
+    if nat_lt (done * 2 + 2) layout.slots then min (deadline_in layout.columns.now station) (stopping_in layout.columns.now station) else deadline_in layout.columns.now station
 
 -- the station of a column
 abbrev pub station_at : Layout → ℕ → StationId
@@ -71,7 +72,7 @@ pub record IsPlaced (layout : Layout) (s : State) : Type 0 where
 -- the state has a place, and leaves before the deadline
 pub record IsTimely (layout : Layout) (s : State) : Type 0 where
   pub placed : IsPlaced layout s
-  pub timely : s.minute < deadline_of layout s.station
+  pub timely : s.minute < deadline_of layout s.done s.station
 
 -- the state at a place
 abbrev pub state_of : Layout → ℕ → State

@@ -66,7 +66,7 @@ pub record IsWay (net : Net) (path : Path) (layout : Layout) (s : State) (way : 
   pub halt_later : s.minute < way.halt
   pub pass_bound : way.pass ≤ s.minute + 240
   pub halt_bound : way.halt ≤ s.minute + 240
-  pub deadline : way.deadline ≡ deadline_of layout way.head
+  pub deadline : way.deadline ≡ deadline_of layout s.done way.head
 
 -- the tracks before an index come before track n, and the others do not
 pub record IsSplit (tracks : List TrackId) (index n : ℕ) : Type 0 where

@@ -19,10 +19,11 @@ use optra_network::{Minute, Network, NoMemory};
 pub fn starts_end(bid: &Bid, layout: Layout<'_>) -> Minute
     requires depart { IsWindow bid.now.path.depart }
     requires origin { bid.now.path.origin.0 < length layout.columns.now.deadlines.items }
-    ensures { result ≡ min (bid.now.path.depart.to + 1) (deadline_of layout.entry
+    requires stopping { bid.now.path.origin.0 < length layout.columns.now.stopping.items }
+    ensures { result ≡ min (bid.now.path.depart.to + 1) (deadline_of layout.entry 0
         bid.now.path.origin) }
 {
-    (bid.path.depart.to + 1).min(layout.deadline(bid.path.origin))
+    (bid.path.depart.to + 1).min(layout.deadline(0, bid.path.origin))
 }
 
 /// The state in which a walk begins that departs then.

@@ -74,12 +74,19 @@ impl Layout<'_> {
         self.slot(state) * u32::from(self.stations) + u32::from(self.column(state.station))
     }
 
-    /// The first minute at which it is too late to leave the station.
-    pub fn deadline(self, station: StationId) -> Minute
-        requires { station.0 < length self.columns.now.deadlines.items }
-        ensures { result ≡ deadline_of self.entry station }
+    /// The first minute at which it is too late to leave the station, after so many stops.
+    pub fn deadline(self, done: u16, station: StationId) -> Minute
+        requires done { done ≤ 8 }
+        requires deadlines { station.0 < length self.columns.now.deadlines.items }
+        requires stopping { station.0 < length self.columns.now.stopping.items }
+        ensures { result ≡ deadline_of self.entry done station }
     {
-        self.columns.deadlines[station.0 as usize]
+        let deadline = self.columns.deadlines[station.0 as usize];
+        if done * 2 + 2 < self.slots {
+            deadline.min(self.columns.stopping[station.0 as usize])
+        } else {
+            deadline
+        }
     }
 
     /// The station of a column.

@@ -19,7 +19,7 @@ pub struct Step {
 }
 
 /// A track by which the train may leave, and when it arrives at its head, passing or halting there. From the deadline on
-/// it is too late to leave the head.
+/// it is too late to leave the head, unless the train halts there at a stop.
 #[derive(Clone, Copy, Debug, PartialEq, Eq)]
 pub struct Way {
     pub track: TrackId,
@@ -69,6 +69,7 @@ fn find_way(
     requires setting { IsSetting net.now bid.now.path layout }
     requires tail { tail_of net.now (leg_by state track Action.Pass) ≡ Some state.station }
     requires minute { state.minute ≤ 2879 }
+    requires done { state.done ≤ 8 }
     ensures { MatchOption result (¬ MayUse net.now track bid.now.path.kind)
         (λ way. (way.track ≡ track) × IsWay net.now bid.now.path layout.entry state way) }
 {
@@ -81,7 +82,7 @@ fn find_way(
         head,
         pass: state.minute + pass,
         halt: state.minute + halt,
-        deadline: layout.deadline(head),
+        deadline: layout.deadline(state.done, head),
     })
 }
 
@@ -133,11 +134,11 @@ fn make_leg(state: State, way: Way, action: Action) -> Leg
 }
 
 /// The first dwell that is too long: above the most, or so long that it is too late to leave.
-fn dwell_end(way: Way, most: u16) -> u16
+fn dwell_end(way: Way, most: u16, deadline: Minute) -> u16
     requires { most ≤ 240 }
-    ensures { result ≡ min (most + 1) (way.deadline - way.halt) }
+    ensures { result ≡ min (most + 1) (deadline - way.halt) }
 {
-    (most + 1).min(way.deadline.saturating_sub(way.halt))
+    (most + 1).min(deadline.saturating_sub(way.halt))
 }
 
 fn add_pass(
@@ -223,7 +224,8 @@ fn add_halts(
     if !may_halt(stop, way) {
         return Ok(());
     }
-    let before = dwell_end(way, stop.max_dwell);
+    let deadline = layout.deadline(state.done + 1, way.head);
+    let before = dwell_end(way, stop.max_dwell, deadline);
     for dwell in stop.min_dwell..before {
         let after = stand(way, dwell, state.done + 1);
         steps.push(make_step(layout, state, way, Action::Halt(dwell), after))?;
@@ -249,7 +251,7 @@ fn add_waits(
     ensures steps { OnOk result (AreStepsBelow net.now bid.now.path layout.entry state
         (bound_of way.track.0 3) steps.new.items) }
 {
-    let before = dwell_end(way, wait_max(bid));
+    let before = dwell_end(way, wait_max(bid), way.deadline);
     for dwell in 1..before {
         let after = stand(way, dwell, state.done);
         steps.push(make_step(layout, state, way, Action::Wait(dwell), after))?;

@@ -1,3 +1,4 @@
+pub mod Codes
 pub mod Platforms
 pub mod PlatformLemmas
 pub mod PlatformTexts

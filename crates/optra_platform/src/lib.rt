@@ -9,6 +9,7 @@ use optra_network::{Minute, StationId};
 
 mod laws;
 mod platform_rows;
+mod row_codes;
 mod texts;
 
 pub use laws::{platform_kinds_are_apart, platform_rows_are_few};

@@ -1,14 +1,14 @@
 -- Legs that have entered keep their groups while rows get numbers and groups are added.
-use Rattle.std.proofs.Common.{◌≡◌, ℕ, List, [], ◌∷◌, ◌++◌, get_or, true, sym, ◌∙◌, subst, arith, ℤ, pos, ◌≤ℤ◌}
-use Rattle.std.specs.Prelude.{All, neg_ℤ}
-use Rattle.std.proofs.lemmas.Int.{ints}
-use Rattle.std.proofs.lemmas.List.Elements.{All-push}
+use Rattle.std.proofs.Common.{◌≡◌, ℕ, ◌*◌, ◌<◌, ◌≤◌, List, length, [], get_or, true, sym, ◌∙◌, subst, arith, ℤ, pos, negsuc}
+use Rattle.std.specs.Prelude.{All, neg_ℤ, ◌*ℤ◌, unsigned_abs}
+use Rattle.std.proofs.lemmas.Int.{ints, unsigned_abs-mul}
+use Rattle.std.proofs.lemmas.List.{get_or_default}
 use Rattle.optra_network.specs.Net.{Net}
 use Rattle.optra_network.specs.declared.TypeId.{TypeId}
 use Rattle.optra_bid.specs.Specs.{IsBetween}
 use Rattle.optra_walk.specs.declared.Leg.{Leg}
 use Rattle.optra_walk.specs.Families.{Rows}
-use Rattle.optra_prices.specs.Tables.{Extends, AreTouches, group_at, AreGroups, KeepsGroups}
+use Rattle.optra_prices.specs.Tables.{no_arc, Extends, AreTouches, group_at, AreGroups, KeepsGroups}
 use Rattle.optra_prices.specs.Makings.{IsGroupOf, IsHead, IsMaking, Grows}
 use Rattle.optra_prices.specs.Standings.{Covers, IsMost}
 use Rattle.optra_prices.specs.declared.making.Head.{Head}
@@ -57,19 +57,20 @@ making_none net rows used making no_rows no_heads groups = record {
   heads_are = none (IsHead net rows used making.named.items making.groups) making.heads.items no_heads;
 }
 
-wider : (most after value : ℤ) → most ≤ℤ after → IsBetween (neg_ℤ most) most value → IsBetween (neg_ℤ after) after value
-wider most after value up v = let a = v.0 in let b = v.1 in (omega (arith, ints), omega (arith, ints))
+-- an integer is no further from zero than its size
+between_abs : (z : ℤ) (m : ℕ) → unsigned_abs z ≤ m → IsBetween (neg_ℤ (pos m)) (pos m) z
+between_abs (pos n) m l = (omega (arith, ints), omega (arith, ints))
+between_abs (negsuc n) m l = (omega (arith, ints), omega (arith, ints))
 
--- one arc more, whose value does not exceed the most
-pub covers_push : (most after : ℤ) (arcs : List ArcTerm) (arc : ArcTerm) → Covers most arcs → IsMost after → most ≤ℤ after → IsBetween (neg_ℤ after) after arc.value → Covers after (arcs ++ arc ∷ [])
-covers_push most after arcs arc are range up value = record {
+-- so are cents in thousandths
+pub between_thousandths : (cents most : ℤ) (m : ℕ) → unsigned_abs cents ≤ m → most ≡ pos 1000 *ℤ pos m → IsBetween (neg_ℤ most) most (pos 1000 *ℤ cents)
+between_thousandths cents most m l is =
+    let size = unsigned_abs-mul (pos 1000) cents in
+    subst (λ (z : ℤ). IsBetween (neg_ℤ z) z (pos 1000 *ℤ cents)) (sym is) (between_abs (pos 1000 *ℤ cents) (1000 * m) (omega arith))
+
+-- no value exceeds the most
+pub covers_all : (most : ℤ) (arcs : List ArcTerm) → IsMost most → ((k : ℕ) → k < length arcs → IsBetween (neg_ℤ most) most (get_or arcs k no_arc).value) → Covers most arcs
+covers_all most arcs range each = record {
   range = range;
-  values = All-push (λ (a : ArcTerm). IsBetween (neg_ℤ after) after a.value) arcs arc (λ k d l. wider most after (get_or arcs k d).value up (are.values k d l)) value;
-}
-
--- no arc is there yet
-pub covers_none : (most : ℤ) (arcs : List ArcTerm) → arcs ≡ [] → most ≡ pos 0 → Covers most arcs
-covers_none most arcs empty zero = record {
-  range = subst IsMost (sym zero) (omega (arith, ints), omega (arith, ints));
-  values = none (λ (arc : ArcTerm). IsBetween (neg_ℤ most) most arc.value) arcs empty;
+  values = λ k d l. subst (λ (arc : ArcTerm). IsBetween (neg_ℤ most) most arc.value) (sym (get_or_default arcs k d no_arc l)) (each k l);
 }

@@ -1,5 +1,6 @@
 -- Narrow arcs, and after them the others, as the arcs that they stand for.
 use Rattle.std.proofs.Common.{◌≡◌, ℕ, ◌+◌, ◌-◌, ◌≤◌, ◌<◌, Bool, true, false, List, [], ◌∷◌, ◌++◌, map, length, set, get_or, refl, sym, ap, ◌∙◌, subst, arith}
+use Rattle.std.specs.Prelude.{pos, ◌*ℤ◌}
 use Rattle.std.proofs.lemmas.List.{get_or-map, get_or_append_left, get_or-append_right, map-set, map-append, append-nil, append_assoc, set-append_left, set-append_right, length-map, length-append}
 use Rattle.std.proofs.lemmas.List.Elements.{All-append, All-cons, All-get_or, All-head, All-map, All-nil, All-set, All-tail, All-weaker}
 use Rattle.std.proofs.lemmas.List.Sums.{sum_by-cons, sum_by-set, sum_by_push}
@@ -24,6 +25,20 @@ module _ (narrow : List NarrowArc) (wide : List ArcTerm) where
       ap (λ (xs : List ArcTerm). xs ++ wide) (map-set f narrow k marked)
       ∙ sym (set-append_left (map f narrow) wide k (f marked) within)
       ∙ ap (set (terms_of narrow wide) k) (marks ∙ ap (λ (a : ArcTerm). with_mark a mark) (sym read))
+
+  -- the group of a narrow arc
+  pub group_narrow : (k : ℕ) (none : NarrowArc) → k < length narrow → (get_or (terms_of narrow wide) k no_arc).group ≡ group_of (get_or narrow k none).mark
+  group_narrow k none l =
+      let f = term_of in
+      let within : k < length (map f narrow) = subst (λ n. k < n) (sym count) l in
+      ap (λ (a : ArcTerm). a.group) (get_or_append_left (map f narrow) wide no_arc k within ∙ get_or-map f narrow k none no_arc l)
+
+  -- and what it adds
+  pub value_narrow : (k : ℕ) (none : NarrowArc) → k < length narrow → (get_or (terms_of narrow wide) k no_arc).value ≡ pos 1000 *ℤ (get_or narrow k none).cents
+  value_narrow k none l =
+      let f = term_of in
+      let within : k < length (map f narrow) = subst (λ n. k < n) (sym count) l in
+      ap (λ (a : ArcTerm). a.value) (get_or_append_left (map f narrow) wide no_arc k within ∙ get_or-map f narrow k none no_arc l)
 
   -- past the narrow arcs stand the others
   pub within_wide : (n k : ℕ) → length narrow ≡ n → n ≤ k → k < length (terms_of narrow wide) → k - n < length wide

@@ -1,17 +1,19 @@
 -- Uses of rows by their numbers, added one after the other.
-use Rattle.std.proofs.Common.{◌≡◌, ℕ, zero, suc, ◌+◌, ◌-◌, ◌≤◌, ◌<◌, Bool, cond, List, [], ◌∷◌, length, take, drop, set, get_or, replicate, Vec, Global, Some, slice_get, refl, sym, ap, ◌∙◌, subst, arith, inl, inr}
+use Rattle.std.proofs.Common.{◌≡◌, ℕ, zero, suc, ◌+◌, ◌-◌, ◌≤◌, ◌<◌, Bool, cond, List, [], ◌∷◌, length, take, drop, set, get_or, ◌++◌, replicate, Vec, Global, Some, slice_get, refl, sym, ap, ◌∙◌, subst, arith, inl, inr}
 use Rattle.std.specs.Prelude.{All, ℤ, slice_index, slice_index_or}
+use Rattle.std.specs.List.{slice_range}
 use Rattle.std.proofs.lemmas.Bool.{cases_lt, cases_eq}
 use Rattle.std.proofs.lemmas.Bool.Decides.{eqb_tells}
 use Rattle.std.proofs.lemmas.List.{length-set, get_or_past, get_or-set_same, get_or-set_other}
 use Rattle.std.proofs.lemmas.List.Elements.{All-nil, All-cons}
-use Rattle.std.proofs.lemmas.List.Sums.{sum_by-take-drop, sum_by_more}
+use Rattle.std.proofs.lemmas.List.Sums.{sum_by-take-drop, sum_by_more, sum_by_push}
 use Rattle.std.proofs.lemmas.Option.{none-some, same_Some, slice_get-get_or}
 use Rattle.optra_dag.specs.Paths.{Graph, LeadsToEnd, to_of}
 use Rattle.optra_prices.specs.Arcs.{IsFound}
+use Rattle.optra_prices.specs.NarrowTouches.{touch_of}
 use Rattle.optra_prices.specs.Tables.{allows_by, weight_by, no_arc}
 use Rattle.optra_prices.specs.Standings.{Stands, IsSound}
-use Rattle.optra_prices.specs.Uses.{touch_use, touch_uses, arc_touches, touches_at, path_uses, list_uses, all_uses, lists_of, lists_in, AreEmpty, AreUses, AreCounted, AddsUses, TakesUses, CountsList, HasGroups}
+use Rattle.optra_prices.specs.Uses.{touch_use, touch_uses, arc_touches, touches_at, path_uses, list_uses, spans_use, rows_use, all_uses, lists_of, lists_in, AreEmpty, AreUses, AreCounted, AddsUses, TakesUses, CountsList, HasGroups}
 use Rattle.optra_prices.specs.ArcTerms.{ArcTerm}
 use Rattle.optra_prices.specs.declared.numbering.BidTable.{BidTable}
 use Rattle.optra_prices.specs.declared.numbering.Groups.{Groups}
@@ -95,18 +97,29 @@ list_more groups list i d n l = let m = sum_by_more (λ (g : ℕ). touch_uses (t
 pub list_split : (groups : Groups) (list : List ℕ) (i n : ℕ) → list_uses groups (take i list) n + list_uses groups (drop i list) n ≡ list_uses groups list n
 list_split groups list i n = sum_by-take-drop (λ (g : ℕ). touch_uses (touches_at groups g) n) list i
 
--- groups in place of others of which the first ones are the same
-pub list_counted : (groups : Groups) (before list old mid new : List ℕ) (i : ℕ) → take i before ≡ take i list → TakesUses (list_uses groups (drop i before)) old mid → AddsUses (list_uses groups (drop i list)) mid new
-    → CountsList groups before list old new
-list_counted groups before list old mid new i same takes adds = record {
-  count = adds.count ∙ takes.count;
+-- one more row that is used once
+pub rows_more : (rows : List ℕ) (i d n : ℕ) → i < length rows → rows_use (take i rows) n + touch_use (touch_of (get_or rows i d)) n ≡ rows_use (take (i + 1) rows) n
+rows_more rows i d n l = let m = sum_by_more (λ (row : ℕ). touch_use (touch_of row) n) rows i d l in omega arith
+
+-- the part of one more group
+pub span_more : (groups : Groups) (list : List ℕ) (spans : List (ℕ × ℕ)) (span : ℕ × ℕ) (i d n : ℕ) → i < length list
+    → slice_range groups.touches span.0 span.1 ≡ touches_at groups (get_or list i d) → spans_use groups.touches spans n ≡ list_uses groups (take i list) n
+    → spans_use groups.touches (spans ++ span ∷ []) n ≡ list_uses groups (take (i + 1) list) n
+span_more groups list spans span i d n l is before =
+    let m = list_more groups list i d n l in
+    let both = sum_by_push (λ (s : ℕ × ℕ). touch_uses (slice_range groups.touches s.0 s.1) n) spans span in
+    let here = ap (λ (ts : List Touch). touch_uses ts n) is in
+    omega arith
+
+-- the groups that two paths share stay counted
+pub counted_on_start : (groups : Groups) (before list old new : List ℕ) (i : ℕ) → take i before ≡ take i list → CountsList groups (drop i before) (drop i list) old new → CountsList groups before list old new
+counted_on_start groups before list old new i same counts = record {
+  count = counts.count;
   each = λ n l few.
       let a = list_split groups before i n in
       let b = list_split groups list i n in
       let e = ap (λ (gs : List ℕ). list_uses groups gs n) same in
-      let c = takes.count in
-      let t = takes.each n l in
-      let u = adds.each n (omega arith) in
+      let u = counts.each n l (omega arith) in
       omega arith;
 }
 

@@ -1,6 +1,8 @@
 -- How much the paths of replies use of rows, by the numbers of rows.
 use Rattle.std.specs.Prelude.{◌≡◌, ℕ, ◌+◌, ◌-◌, ◌<◌, ◌≤◌, cond, nat_eq, List, [], ◌∷◌, length, map, sum_by, All, slice_index, slice_index_or, Vec}
 use Rattle.std.specs.Global.{Global}
+use Rattle.std.specs.List.{slice_range}
+use Rattle.optra_prices.specs.NarrowTouches.{touch_of}
 use Rattle.optra_prices.specs.Tables.{group_at, no_arc, AreGroups}
 use Rattle.optra_prices.specs.declared.numbering.BidTable.{BidTable}
 use Rattle.optra_prices.specs.declared.numbering.Groups.{Groups}
@@ -30,6 +32,18 @@ touches_at groups g = group_at groups.starts.items groups.touches g
 -- how much the groups of a path use of the row with number n
 abbrev pub list_uses : Groups → List ℕ → ℕ → ℕ
 list_uses groups list n = sum_by (λ g. touch_uses (touches_at groups g) n) list
+
+-- a part of the touches, from one place up to another
+abbrev pub IsSpan : List Touch → ℕ × ℕ → Type 0
+IsSpan touches span = (span.0 ≤ span.1) × (span.1 ≤ length touches)
+
+-- how much the touches of all parts use of the row with number n
+abbrev pub spans_use : List Touch → List (ℕ × ℕ) → ℕ → ℕ
+spans_use touches spans n = sum_by (λ span. touch_uses (slice_range touches span.0 span.1) n) spans
+
+-- how much of the row with number n is used by rows, each of which is used once
+abbrev pub rows_use : List ℕ → ℕ → ℕ
+rows_use rows n = sum_by (λ row. touch_use (touch_of row) n) rows
 
 -- how much the groups of all paths use of the row with number n
 abbrev pub all_uses : Groups → List (List ℕ) → ℕ → ℕ

@@ -1,5 +1,5 @@
-//! Numbers by place that are set one by one, in as many bits each as all of them need. Which numbers an index has is known to fit
-//! before it is made, so that nothing is asked of a number while it is set.
+//! Numbers by place that are set one by one, in as many bits each as all of them need. That the numbers of an index fit is
+//! known before it is made, so that nothing is asked of a number while it is set.
 ghost use Rattle.std.specs.Prelude.{◌≡◌, ◌<◌, ◌^◌, ℕ, List, IfOk, OnOk, length, replicate, slice_index, slice_set};
 
 use crate::numbers::Numbers;

@@ -12,6 +12,9 @@ use crate::numbers::Numbers;
 use optra_network::NoMemory;
 use std::alloc::Global;
 
+/// So many groups get room at once from the one that is asked for on, since most new groups come in order.
+const SPARE: usize = 4_096;
+
 /// The groups of bids, one bid after the other, and for each group the number of the last bid that has it, from 1.
 #[derive(Drop)]
 pub(crate) struct Held {
@@ -28,10 +31,11 @@ fn make_room(last: &mut Vec<u32>, group: usize) -> Result<(), NoMemory>
     if group < last.len() {
         return Ok(());
     }
-    last.resize(group.saturating_add(1), 0)
+    last.resize(group.saturating_add(SPARE), 0)
 }
 
 /// Adds a group to those of the bid with this number, from 1. None is added twice.
+#[inline(always)]
 fn hold_group(held: &mut Held, group: usize, bid: u32) -> Result<(), NoMemory>
     ensures { OnOk result (HoldsGroup bid group held.old held.new) }
 {
@@ -44,11 +48,15 @@ fn hold_group(held: &mut Held, group: usize, bid: u32) -> Result<(), NoMemory>
     Ok(())
 }
 
-/// Adds the groups of arcs to those of the bid with this number, from 1.
+/// Adds the groups of arcs to those of the bid with this number, from 1. Nearly all arcs are narrow, so these are read by
+/// themselves.
 fn hold_arcs(held: &mut Held, bid: u32, arcs: &ArcSlice<'_>) -> Result<(), NoMemory>
     ensures { OnOk result (HoldsArcs bid arcs.now held.old held.new) }
 {
-    for k in 0..arcs.len() {
+    'narrow: for k in 0..arcs.narrow.len() {
+        hold_group(held, arcs.narrow[k].group() as usize, bid)?;
+    }
+    'wide: for k in arcs.narrow.len()..arcs.len() {
         hold_group(held, arcs.group(k), bid)?;
     }
     Ok(())

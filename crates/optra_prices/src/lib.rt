@@ -49,6 +49,7 @@ pub mod overfull;
 mod owning;
 pub mod parts;
 mod path_ends;
+mod path_rows;
 mod paths;
 mod putting;
 mod ranking;

@@ -1,14 +1,16 @@
 //! How much the replies use of rows, by the numbers of rows.
 //!
 //! What the paths use that were counted last stays from step to step; only a path that is another one now is counted anew.
-ghost use Rattle.std.specs.Prelude.{◌≡◌, ◌≤◌, [], All, IfOk, OnOk, length, replicate, take};
+ghost use Rattle.std.specs.Prelude.{◌≡◌, ◌≤◌, true, ℕ, [], All, IfOk, OnOk, length, replicate, take};
 ghost use Rattle.optra_prices.specs.Levels.{IsLevels, AreUnused, KeepsPrices};
 ghost use Rattle.optra_prices.specs.Tables.{AreGroups};
-ghost use Rattle.optra_prices.specs.Uses.{touch_uses, touches_at, list_uses, AreCounted, AddsUses, TakesUses, CountsList, AreEmpty, lists_of, lists_in};
+ghost use Rattle.optra_prices.specs.Uses.{touch_uses, touches_at, list_uses, rows_use, AreCounted, AddsUses, TakesUses, CountsList, AreEmpty, lists_of, lists_in};
 
 use crate::grouping::group;
 use crate::levels::{Levels, add_touch, forget_uses, take_touch};
 use crate::numbering::{Groups, Standing};
+use crate::path_rows::{PathRows, list_rows, list_spans};
+use crate::touch::Touch;
 use crate::touch_slice::TouchSlice;
 use optra_network::NoMemory;
 use std::alloc::Global;
@@ -80,6 +82,117 @@ fn take_list(levels: &mut Levels, groups: &Groups, list: &[usize])
     }
 }
 
+/// Adds one use of each of the rows.
+fn add_rows(levels: &mut Levels, rows: &[u32]) -> Result<(), NoMemory>
+    requires { IsLevels levels.old }
+    ensures levels { OnOk result (IsLevels levels.new) }
+    ensures uses { OnOk result (AddsUses (rows_use rows.now) levels.old.loads.uses
+        levels.new.loads.uses) }
+    ensures prices { OnOk result (KeepsPrices levels.old levels.new) }
+{
+    for row in rows {
+        add_touch(
+            levels,
+            Touch {
+                row: *row as usize,
+                uses: 1,
+            },
+        )?;
+    }
+    Ok(())
+}
+
+/// Takes away one use of each of the rows.
+fn take_rows(levels: &mut Levels, rows: &[u32])
+    requires { IsLevels levels.old }
+    ensures levels { IsLevels levels.new }
+    ensures uses { TakesUses (rows_use rows.now) levels.old.loads.uses levels.new.loads.uses }
+    ensures prices { KeepsPrices levels.old levels.new }
+{
+    for row in rows {
+        take_touch(
+            levels,
+            Touch {
+                row: *row as usize,
+                uses: 1,
+            },
+        );
+    }
+}
+
+/// Adds what the groups of a path use: by its rows where these are listed, and group by group where they aren't.
+fn add_path(
+    levels: &mut Levels,
+    groups: &Groups,
+    list: &[usize],
+    rows: &[u32],
+    is_listed: bool,
+) -> Result<(), NoMemory>
+    requires levels { IsLevels levels.old }
+    requires groups { AreGroups groups.now.starts.items groups.now.touches }
+    requires rows { is_listed ≡ true → (n : ℕ) → rows_use rows.now n
+        ≡ list_uses groups.now list.now n }
+    ensures levels { OnOk result (IsLevels levels.new) }
+    ensures uses { OnOk result (AddsUses (list_uses groups.now list.now) levels.old.loads.uses
+        levels.new.loads.uses) }
+    ensures prices { OnOk result (KeepsPrices levels.old levels.new) }
+{
+    if is_listed {
+        add_rows(levels, rows)
+    } else {
+        add_list(levels, groups, list)
+    }
+}
+
+/// Takes away what the groups of a path use: by its rows where these are listed, and group by group where they aren't.
+fn take_path(levels: &mut Levels, groups: &Groups, list: &[usize], rows: &[u32], is_listed: bool)
+    requires levels { IsLevels levels.old }
+    requires groups { AreGroups groups.now.starts.items groups.now.touches }
+    requires rows { is_listed ≡ true → (n : ℕ) → rows_use rows.now n
+        ≡ list_uses groups.now list.now n }
+    ensures levels { IsLevels levels.new }
+    ensures uses { TakesUses (list_uses groups.now list.now) levels.old.loads.uses
+        levels.new.loads.uses }
+    ensures prices { KeepsPrices levels.old levels.new }
+{
+    if is_listed {
+        take_rows(levels, rows);
+    } else {
+        take_list(levels, groups, list);
+    }
+}
+
+/// What is listed of the groups that are counted no more, and of those that are counted in their place.
+#[derive(Drop)]
+struct Counting {
+    less: PathRows,
+    more: PathRows,
+}
+
+/// Counts groups in place of others that were counted. All that is to be read is asked for before any use changes: where the
+/// touches of all groups stand, then their rows.
+fn count_groups(
+    levels: &mut Levels,
+    groups: &Groups,
+    counting: &mut Counting,
+    before: &[usize],
+    list: &[usize],
+) -> Result<(), NoMemory>
+    requires levels { IsLevels levels.old }
+    requires groups { AreGroups groups.now.starts.items groups.now.touches }
+    ensures levels { OnOk result (IsLevels levels.new) }
+    ensures uses { OnOk result (CountsList groups.now before.now list.now levels.old.loads.uses
+        levels.new.loads.uses) }
+    ensures prices { OnOk result (KeepsPrices levels.old levels.new) }
+{
+    list_spans(&mut counting.less.spans, groups, before)?;
+    list_spans(&mut counting.more.spans, groups, list)?;
+    let less = list_rows(&mut counting.less.rows, groups, &counting.less.spans)?;
+    let more = list_rows(&mut counting.more.rows, groups, &counting.more.spans)?;
+    take_path(levels, groups, before, &counting.less.rows, less);
+    add_path(levels, groups, list, &counting.more.rows, more)
+}
+
 /// How many groups two paths share from their start on.
 fn same_start(a: &[usize], b: &[usize]) -> usize
     ensures within { (result ≤ length a.now) × (result ≤ length b.now) }
@@ -98,6 +211,7 @@ fn same_start(a: &[usize], b: &[usize]) -> usize
 fn count_list(
     levels: &mut Levels,
     groups: &Groups,
+    counting: &mut Counting,
     counted: &mut Vec<usize>,
     list: &[usize],
 ) -> Result<(), NoMemory>
@@ -110,8 +224,7 @@ fn count_list(
     ensures prices { OnOk result (KeepsPrices levels.old levels.new) }
 {
     let same = same_start(counted, list);
-    take_list(levels, groups, &counted[same..]);
-    add_list(levels, groups, &list[same..])?;
+    count_groups(levels, groups, counting, &counted[same..], &list[same..])?;
     counted.truncate(same);
     counted.extend_from_slice(&list[same..])?;
     Ok(())
@@ -134,9 +247,14 @@ pub(crate) fn count_uses(
     ensures lists { OnOk result (lists_in counted.new.items ≡ lists_of standings.now) }
     ensures prices { OnOk result (KeepsPrices levels.old levels.new) }
 {
+    let alloc = *counted.allocator();
+    let mut counting = Counting {
+        less: PathRows::new(alloc),
+        more: PathRows::new(alloc),
+    };
     for number in 0..standings.len() {
         let list = &standings[number].groups;
-        count_list(levels, groups, &mut counted[number], list)?;
+        count_list(levels, groups, &mut counting, &mut counted[number], list)?;
     }
     Ok(())
 }

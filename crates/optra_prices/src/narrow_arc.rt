@@ -1,5 +1,5 @@
 //! An arc of a bid's graph in eight bytes.
-ghost use Rattle.std.specs.Prelude.{◌≡◌, ◌<◌, pos, ◌*ℤ◌};
+ghost use Rattle.std.specs.Prelude.{◌≡◌, ◌<◌, pos, ◌*ℤ◌, unsigned_abs};
 ghost use Rattle.optra_prices.specs.NarrowArcs.{group_of, is_open};
 
 /// What the mark of an arc that may not be taken is greater by than its group.
@@ -40,6 +40,13 @@ impl NarrowArc {
         ensures { result ≡ pos 1000 *ℤ self.now.cents }
     {
         1000 * i64::from(self.cents)
+    }
+
+    /// How many cents it adds or takes.
+    pub(crate) fn size(&self) -> u32
+        ensures { result ≡ unsigned_abs self.now.cents }
+    {
+        self.cents.unsigned_abs()
     }
 
     /// Whether it may be taken.

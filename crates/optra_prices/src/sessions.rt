@@ -21,7 +21,7 @@ use optra_network::NoMemory;
 use optra_walk::{Instance, RowFamily};
 use std::alloc::Global;
 
-/// A table for each bid, in which no arc may be taken yet.
+/// A table for each bid, in which each arc may be taken until a node says otherwise.
 pub(crate) fn make_tables<'g, F: RowFamily, G: Graphs>(
     alloc: Global,
     inst: Instance<'_>,
@@ -52,7 +52,7 @@ pub(crate) fn make_tables<'g, F: RowFamily, G: Graphs>(
     Ok(tables)
 }
 
-/// Rows by number, groups of touches, and a table for each bid, in which no arc may be taken yet.
+/// Rows by number, groups of touches, and a table for each bid, in which each arc may be taken until a node says otherwise.
 #[derive(Drop)]
 pub(crate) struct Made<'g, R: Copy + Ord> {
     pub(crate) numbering: RowNumbers<R>,

@@ -1,7 +1,7 @@
 //! The arcs of bids' graphs, and what they add and touch.
 //!
 //! It is the same at all nodes. Which arcs may be taken at a node is told afterwards, see `allowing`.
-ghost use Rattle.std.specs.Prelude.{◌≡◌, ◌<◌, IfOk, OnOk, length, All, pos, neg_ℤ, ◌≤ℤ◌};
+ghost use Rattle.std.specs.Prelude.{◌≡◌, ◌<◌, ◌≤◌, IfOk, OnOk, length, All, pos, neg_ℤ, ◌≤ℤ◌, ◌*ℤ◌, unsigned_abs};
 ghost use Rattle.optra_bid.specs.Specs.{IsBetween};
 ghost use Rattle.optra_graph.specs.Timed.{IsGraphOf};
 ghost use Rattle.optra_prices.specs.Arcs.{start_value, leg_value, IsArcValue};
@@ -9,9 +9,11 @@ ghost use Rattle.optra_prices.specs.Makings.{IsMaking, Grows};
 ghost use Rattle.optra_prices.specs.Standings.{Covers, IsMost};
 ghost use Rattle.optra_prices.specs.Terms.{IsTerm, AreArcs};
 
+use crate::arc_slice::ArcSlice;
 use crate::arc_term::ArcTerm;
 use crate::arcs::Arcs;
 use crate::making::{Making, leg_group};
+use crate::narrow_arc::NarrowArc;
 use crate::numbering::BidTable;
 use crate::weighing::{leg_cents, start_cents};
 use optra_bid::Bid;
@@ -86,6 +88,36 @@ fn widened(most: i64, value: i64) -> i64
     most.max(size)
 }
 
+/// The greatest number of cents that an arc adds or takes.
+fn most_cents(arcs: &[NarrowArc]) -> u32
+    ensures { All (λ arc. unsigned_abs arc.cents ≤ result) arcs.now }
+{
+    let mut most = 0;
+    for k in 0..arcs.len() {
+        most = most.max(arcs[k].size());
+    }
+    most
+}
+
+/// Cents in thousandths of a cent.
+fn thousandths(cents: u32) -> i64
+    ensures { result ≡ pos 1000 *ℤ pos cents }
+{
+    1000 * i64::from(cents)
+}
+
+/// What no value of the arcs exceeds in size.
+fn most_of(arcs: &ArcSlice<'_>) -> i64
+    requires { All (λ arc. IsArcValue arc.value) arcs.now }
+    ensures { Covers result arcs.now }
+{
+    let mut most = thousandths(most_cents(arcs.narrow));
+    for k in arcs.narrow.len()..arcs.len() {
+        most = widened(most, arcs.value(k));
+    }
+    most
+}
+
 /// All arcs of the bid's graph, each of which may be taken until a node says otherwise.
 pub(crate) fn bid_table<'g, F: RowFamily>(
     alloc: Global,
@@ -107,13 +139,12 @@ pub(crate) fn bid_table<'g, F: RowFamily>(
     ensures covers { IfOk result (λ table. Covers table.most table.arcs) }
 {
     let count = graph.dag().arcs();
-    let mut most = 0;
     let mut arcs = Arcs::with_room(alloc, count as usize)?;
     for k in 0..count {
         let term = term_at(net, rows, bid, graph, making, k)?;
-        most = widened(most, term.value());
         arcs.push(term)?;
     }
+    let most = most_of(&arcs.slice());
     Ok(BidTable {
         graph,
         arcs,

@@ -1,6 +1,6 @@
 //! Touches, lent to be read.
-ghost use Rattle.std.specs.Prelude.{◌≡◌, ◌<◌, true, All, length, slice_index_or};
-ghost use Rattle.optra_prices.specs.NarrowTouches.{no_touch};
+ghost use Rattle.std.specs.Prelude.{◌≡◌, ◌<◌, true, All, IfSome, length, map, slice_index_or};
+ghost use Rattle.optra_prices.specs.NarrowTouches.{no_touch, touch_of};
 
 use crate::touch::Touch;
 use std::marker::Model;
@@ -35,6 +35,17 @@ impl TouchSlice<'_> {
         ensures { result ≡ true → All (λ touch. touch.uses ≡ 1) self.now }
     {
         self.wide.is_empty()
+    }
+
+    /// The rows, where it is known that each touch uses its row once.
+    pub(crate) fn narrow_rows(&self) -> Option<&[u32]>
+        ensures { IfSome result (λ rows. map touch_of rows.now ≡ self.now) }
+    {
+        if self.wide.is_empty() {
+            Some(self.narrow)
+        } else {
+            None
+        }
     }
 
     /// The touch at a place.

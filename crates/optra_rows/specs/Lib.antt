@@ -1,3 +1,4 @@
+pub mod Codes
 pub mod Headways
 pub mod Eithers
 pub mod Loads
@@ -5,6 +6,7 @@ pub mod ListLemmas
 pub mod HeartLemmas
 pub mod TouchedLemmas
 pub mod RuleLemmas
+pub mod EitherCodes
 pub mod EitherLemmas
 pub mod EitherPlaces
 pub mod FewRows

@@ -17,7 +17,7 @@ ghost use Rattle.optra_rows.specs.PlaceOrder.{minute_places, window_places};
 use crate::HRow;
 use crate::minute_places::{MINUTE_PLACES, WINDOW_PLACES, minute_place, window_place};
 use optra_network::{Minute, Network, NoMemory, Partner, TrackId, TypeId};
-use optra_walk::{Leg, RowFamily};
+use optra_walk::{Leg, RowFamily, RowList};
 
 /// The family of headway rows. Its rule is that the uses of tracks at every two different places are compatible.
 ///
@@ -133,7 +133,7 @@ impl RowFamily for HeadwayRows {
         kind: TypeId,
         leg: Leg,
         from: u32,
-        list: &mut Vec<HRow>,
+        list: &mut RowList<HRow>,
     ) -> Result<(), NoMemory> {
         let least = u32::from(least_of(net, leg.track, kind));
         push_windows(list, leg, from, least)?;
@@ -188,7 +188,7 @@ fn pair_places(net: &Network) -> usize
 }
 
 /// Adds the windows of a leg from one place up to another.
-fn push_windows(list: &mut Vec<HRow>, leg: Leg, from: u32, least: u32) -> Result<(), NoMemory>
+fn push_windows(list: &mut RowList<HRow>, leg: Leg, from: u32, least: u32) -> Result<(), NoMemory>
     requires depart { leg.depart ≤ 2879 }
     requires least { least ≤ 120 }
     ensures { OnOk result (list.new.items ≡ list.old.items
@@ -205,7 +205,7 @@ fn push_windows(list: &mut Vec<HRow>, leg: Leg, from: u32, least: u32) -> Result
 
 /// Adds the rows of a leg and its partners in the day, from one of these on.
 fn push_pairs(
-    list: &mut Vec<HRow>,
+    list: &mut RowList<HRow>,
     partners: &[Partner],
     kind: TypeId,
     leg: Leg,

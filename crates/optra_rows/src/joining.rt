@@ -4,10 +4,11 @@ ghost use Rattle.optra_network.specs.Net.{Net, IsProper};
 ghost use Rattle.optra_network.specs.declared.TypeId.{TypeId as Kind};
 ghost use Rattle.optra_walk.specs.declared.Leg.{Leg as Step};
 ghost use Rattle.optra_walk.specs.Families.{IsUsable};
+ghost use Rattle.optra_rows.specs.EitherCodes.{past};
 ghost use Rattle.optra_rows.specs.Eithers.{AreFew};
 
 use optra_network::{Network, TypeId};
-use optra_walk::{Leg, RowFamily};
+use optra_walk::{CodedRow, Leg, RowFamily};
 
 /// A row of the first or of the second family. All of the first are below all of the second.
 #[derive(Clone, Copy, Debug, PartialEq, Eq, PartialOrd, Ord)]
@@ -156,4 +157,55 @@ impl<A: RowFamily, B: RowFamily> RowFamily for Both<A, B> {
         self.first.use_alike(net, kind, first, second)
             && self.second.use_alike(net, kind, first, second)
     }
+}
+
+/// The numbers of rows of the second family stand past those of the first.
+impl<P: CodedRow, Q: CodedRow> CodedRow for Either<P, Q> {
+    ghost use Rattle.std.proofs.Common.{refl};
+    ghost use Rattle.optra_rows.specs.EitherCodes.{either_code, either_row, either_codes, either_leads_back, either_ordered, either_few, either_below};
+
+    ghost code_of = { λ row. either_code P.code_of Q.code_of P.codes row };
+
+    ghost row_of = { λ code. either_row P.row_of Q.row_of P.codes code };
+
+    ghost codes = { either_codes P.codes Q.codes };
+
+    ghost leads_back = { either_leads_back P.code_of Q.code_of P.row_of Q.row_of P.codes P.leads_back Q.leads_back P.below };
+
+    ghost ordered = { either_ordered P.cmp Q.cmp ⟦<Either<P, Q> as Ord>⟧.cmp (λ a b. refl) (λ a b. refl) (λ a b. refl) (λ a b. refl) P.code_of Q.code_of P.codes P.ordered Q.ordered P.below };
+
+    ghost few = { either_few P.codes Q.codes };
+
+    ghost below = { either_below P.code_of Q.code_of P.codes Q.codes P.few P.below Q.below };
+
+    fn code(self) -> Option<u64> {
+        match self {
+            Either::First(p) => p.code(),
+            Either::Second(q) => past(P::codes(), q.code()?),
+        }
+    }
+
+    fn of_code(code: u64) -> Either<P, Q> {
+        let first = P::codes();
+        if code < first {
+            Either::First(P::of_code(code))
+        } else {
+            Either::Second(Q::of_code(code - first))
+        }
+    }
+
+    fn codes() -> u64 {
+        P::codes().saturating_add(Q::codes())
+    }
+}
+
+/// A number past so many others, where the greatest number of 64 bits is greater.
+fn past(others: u64, code: u64) -> Option<u64>
+    ensures { result ≡ past others code }
+{
+    let sum = others.saturating_add(code);
+    if sum == u64::MAX {
+        return None;
+    }
+    Some(sum)
 }

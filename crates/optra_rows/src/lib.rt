@@ -9,6 +9,7 @@ use optra_network::{Minute, TrackId, TypeId};
 mod headways;
 mod joining;
 mod minute_places;
+mod row_codes;
 mod totals;
 
 pub use headways::{HeadwayRows, headway_rows_are_few};

@@ -357,6 +357,50 @@ fn the_rows_of_the_second_family_come_after_the_first(rt: HostRuntime) -> Result
     check_read(&rt, &PAIRS, &SecondFamily)
 }
 
+/// The rows that x uses which departs at a minute, from a place on, are listed as they are told one by one.
+fn check_listed<F: RowFamily>(
+    rt: &impl Abort,
+    alloc: Global,
+    net: &Network,
+    rows: &F,
+    depart: u16,
+    from: u32,
+) -> Result<(), NoMemory> {
+    assert!(rt; depart <= 2879);
+    assert!(rt; net.run(AB, X, false, false).is_some());
+    net.laws();
+    let mut list = Vec::new(alloc);
+    rows.list_touched(net, X, leg(depart), from, &mut list)?;
+    let count = rows.used_count(net, X, leg(depart));
+    assert!(rt; list.len() == count.saturating_sub(from) as usize);
+    for k in from..count {
+        let listed = list.get((k - from) as usize).copied();
+        assert!(rt; listed == rows.touched(net, X, leg(depart), k));
+    }
+    Ok(())
+}
+
+struct AtOnce;
+
+impl Check for AtOnce {
+    fn check<R: Abort + AllocGlobal>(&self, rt: &R, inst: Instance<'_>) -> Result<(), Fail> {
+        for from in [0, 1, 3, 20] {
+            check_listed(rt, rt.alloc(), inst.net, &HeadwayRows::new(), 0, from)?;
+            check_listed(rt, rt.alloc(), inst.net, &HeadwayRows::new(), 100, from)?;
+            check_listed(rt, rt.alloc(), inst.net, &HeadwayRows::new(), 2879, from)?;
+            check_listed(rt, rt.alloc(), inst.net, &doubled(), 100, from)?;
+        }
+        same(rt, &HeadwayRows::new().lasting_count(inst.net, X, leg(0)), &1);
+        same(rt, &doubled().lasting_count(inst.net, X, leg(0)), &8_192);
+        Ok(())
+    }
+}
+
+#[test]
+fn rows_are_listed_at_once_as_one_by_one(rt: HostRuntime) -> Result<(), Fail> {
+    check_read(&rt, &TWO_TYPES, &AtOnce)
+}
+
 /// A leg by which a train that passed the tail passes the head.
 fn passing(depart: u16) -> Leg
     ensures track { result.track ≡ AB }

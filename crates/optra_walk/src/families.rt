@@ -11,6 +11,8 @@ ghost use Rattle.optra_walk.specs.declared.Leg.{Leg as Step};
 ghost use Rattle.optra_walk.specs.Families.{IsUsable, Entry, Rows, UseAlike, ListsRows, UsesFew, TellsApart, PlacesRise, FitRows};
 
 use crate::Leg;
+use crate::coded_row::CodedRow;
+use crate::row_list::RowList;
 use optra_network::{Network, NoMemory, TypeId};
 
 /// A leg uses at most so many rows.
@@ -24,7 +26,7 @@ const MOST_USED: u32 = 8_192;
 /// Each family proves the laws below the calls. Code that is generic over a family rests on them alone.
 pub trait RowFamily {
     /// A row. Rows are ordered, and rows that compare as equal are the same.
-    type Row: Copy + Ord;
+    type Row: CodedRow;
 
     /// The rows on a network: which values are rows, the capacity of each, and how much of each a leg of a type uses.
     ghost rows_of: { Self → Net → Rows Self.Row };
@@ -90,7 +92,7 @@ pub trait RowFamily {
         kind: TypeId,
         leg: Leg,
         from: u32,
-        list: &mut Vec<Self::Row>,
+        list: &mut RowList<Self::Row>,
     ) -> Result<(), NoMemory>
         requires { IsUsable net.now kind leg }
         ensures { OnOk result (list.new.items ≡ list.old.items

@@ -7,16 +7,20 @@
 use optra_network::{Minute, TrackId};
 use std::marker::Model;
 
+mod coded_row;
 mod families;
 mod following;
 mod instance;
 mod ordering;
+mod row_list;
 mod valuing;
 
+pub use coded_row::CodedRow;
 pub use families::RowFamily;
 pub use following::{arrival, follows, next_depart};
 pub use instance::Instance;
 pub use ordering::walk_order;
+pub use row_list::RowList;
 pub use valuing::value;
 
 /// What a train does at the head of a track.

@@ -4,4 +4,4 @@ use Rattle.optra_graph.proofs.DeadlineLemmas.{first_deadlines}
 use Rattle.optra_graph.proofs.deadlines.make_deadlines.Goals as goal
 
 pub returns : goal.returns
-returns c = first_deadlines c.args.net.now c.args.bid.now.path _ c.station_count.ensures.proper (search rules) (search rules)
+returns c = first_deadlines c.args.net.now c.args.bid.now.path c.args.target _ c.station_count.ensures.proper (search rules) c.requires.before (search rules)

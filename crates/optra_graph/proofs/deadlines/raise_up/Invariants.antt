@@ -1,11 +1,11 @@
--- While none has changed, the stations so far keep their deadlines.
+-- While none has changed, the tracks so far keep the deadlines of their tails.
 use Rattle.std.proofs.Common.{◌≡◌, ◌<◌, false}
-use Rattle.optra_network.specs.declared.StationId.{StationId}
+use Rattle.optra_network.specs.declared.TrackId.{TrackId}
 use Rattle.optra_graph.specs.Deadlines.{AreBounded, IsLeftTooLate}
 use Rattle.optra_graph.proofs.deadlines.raise_up.Given as goal
 
-abbrev pub invariant-loop-station : goal.invariant-loop-station
-invariant-loop-station l = record {
-  bounded : AreBounded l.net l.bid.path l.deadlines;
-  done : l.changed ≡ false → (s : StationId) → s.0 < l.station → IsLeftTooLate l.net l.bid.path l.deadlines s;
+abbrev pub invariant-loop-track : goal.invariant-loop-track
+invariant-loop-track l = record {
+  bounded : AreBounded l.net l.bid.path l.target l.deadlines;
+  done : l.changed ≡ false → (t : TrackId) → t.0 < l.track → IsLeftTooLate l.net l.bid.path l.target l.deadlines t;
 }

@@ -27,11 +27,13 @@ pub loop-minute-preserved-then-not-kept-place : goal.loop-minute-preserved-then-
 loop-minute-preserved-then-not-kept-place c =
     let e : c.place-place.result ≡ place_of c.args.layout (start_state c.args.bid.now.path c.loop-minute.minute) = c.place-place.ensures.value ∙ ap (place_of c.args.layout) c.make_start.ensures in
     let i = c.loop-minute.invariant in
+    let t = start_timely c.args.net.now c.args.bid.now.path c.args.layout c.requires.setting c.loop-minute.minute (omega arith) (omega arith) in
+    let late = t.placed.late in
     record {
       starts = starts_skip c.args.bid.now.path c.args.layout c.args.kept.flags.now c.loop-minute.minute c.loop-minute.dag.arcs c.loop-minute.minutes.items (ap (is_set c.args.kept.flags.now) (sym e) ∙ c.if-not-kept-place.true) i.starts;
       ends = i.ends;
       few = let f = i.few in omega arith;
-      end = omega arith;
+      end = omega (arith, late);
     }
 
 pub arc-requires-clause-node : goal.arc-requires-clause-node
@@ -79,4 +81,4 @@ loop-minute-preserved c =
 
 pub returns-clause-starts : goal.returns-clause-starts
 returns-clause-starts c = starts_end c.args.bid.now.path c.args.layout c.args.kept.flags.now c.loop-minute.minute (c.args.layout.first + c.args.layout.minutes) c.loop-minute.dag.arcs c.loop-minute.minutes.items c.loop-minute.invariant.end
-    (far_start c.args.bid.now.path.depart.to (deadline_of c.args.layout c.args.bid.now.path.origin) c.loop-minute.minute (omega arith)) c.loop-minute.invariant.starts
+    (far_start c.args.bid.now.path.depart.to (deadline_of c.args.layout 0 c.args.bid.now.path.origin) c.loop-minute.minute (omega arith)) c.loop-minute.invariant.starts

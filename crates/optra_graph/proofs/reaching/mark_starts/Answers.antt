@@ -23,4 +23,4 @@ loop-minute-preserved c =
 
 pub returns : goal.returns
 returns c = starts_all c.args.bid.now.path c.args.layout c.loop-minute.minute (c.args.layout.first + c.args.layout.minutes) c.args.flags.now.items c.loop-minute.flags.items
-    (far_start c.args.bid.now.path.depart.to (deadline_of c.args.layout c.args.bid.now.path.origin) c.loop-minute.minute (omega arith)) c.loop-minute.invariant
+    (far_start c.args.bid.now.path.depart.to (deadline_of c.args.layout 0 c.args.bid.now.path.origin) c.loop-minute.minute (omega arith)) c.loop-minute.invariant

@@ -1,5 +1,5 @@
 -- A halt for each dwell in the range of the next stop, ascending.
-use Rattle.std.proofs.Common.{arith, length, length-append, sym, ap, ◌∷◌, []}
+use Rattle.std.proofs.Common.{arith, ℕ, ◌+◌, ◌<◌, ◌≤◌, ◌⊎◌, subst, length, length-append, sym, ap, ◌∷◌, []}
 use Rattle.optra_graph.proofs.StepLemmas.{halt_no_stop, halt_none, halt_start, halt_push, halt_end, halted_at, stop_small, dwell_over}
 use Rattle.optra_graph.proofs.stepping.add_halts.Goals as goal
 
@@ -35,7 +35,7 @@ pub returns-clause-steps : goal.returns-clause-steps
 returns-clause-steps c =
     let s = stop_small c.args.net.now c.args.bid.now.path c.args.layout c.requires.setting c.args.state c.requires.placed c.in-Some.stop (sym c.in-Some.ensures) in
     halt_end c.args.net.now c.args.bid.now.path c.args.layout c.requires.setting c.args.state c.requires.placed c.args.way c.requires.way c.loop-dwell.steps.items c.in-Some.stop c.loop-dwell.dwell (sym c.in-Some.ensures) s.1 (let f = c.loop-dwell.invariant.few in omega (arith, f, s.1))
-    (dwell_over c.in-Some.stop.max_dwell c.args.way.deadline c.args.way.halt c.loop-dwell.dwell (omega arith)) c.loop-dwell.invariant.below
+    (let t = c.deadline-deadline.ensures in subst (λ (n : ℕ). (c.in-Some.stop.max_dwell < c.loop-dwell.dwell) ⊎ (n ≤ c.args.way.halt + c.loop-dwell.dwell)) t (dwell_over c.in-Some.stop.max_dwell c.deadline-deadline.result c.args.way.halt c.loop-dwell.dwell (omega arith))) c.loop-dwell.invariant.below
 
 pub returns-clause-few : goal.returns-clause-few
 returns-clause-few c =

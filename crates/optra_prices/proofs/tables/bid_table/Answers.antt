@@ -1,12 +1,10 @@
-use Rattle.std.proofs.Common.{◌∷◌, [], length, refl, sym, ap, ◌∙◌, subst, arith, rules, ℤ}
-use Rattle.std.specs.Prelude.{FitsSigned, neg_ℤ}
-use Rattle.std.specs.Int.{w64}
-use Rattle.std.proofs.lemmas.Int.{to_z-of_z}
+use Rattle.std.proofs.Common.{◌∷◌, [], length, sym, ap, subst, arith, rules}
+use Rattle.std.specs.Prelude.{All}
 use Rattle.std.proofs.lemmas.List.{length-append}
-use Rattle.optra_bid.specs.Specs.{IsBetween}
-use Rattle.optra_prices.specs.Standings.{Covers}
+use Rattle.optra_prices.specs.ArcTerms.{ArcTerm}
+use Rattle.optra_prices.specs.Arcs.{IsArcValue}
 use Rattle.optra_prices.specs.Terms.{IsTerm, AreTerms}
-use Rattle.optra_prices.proofs.MakingLemmas.{grows_more, covers_push, covers_none}
+use Rattle.optra_prices.proofs.MakingLemmas.{grows_more}
 use Rattle.optra_prices.proofs.TermLemmas.{terms_kept, terms_push}
 use Rattle.optra_prices.proofs.tables.bid_table.Goals as goal
 
@@ -30,17 +28,11 @@ loop-k-preserved g c =
     let kept = terms_kept net rows used bid t old.named.items numbered old.groups.starts.items starts old.groups.touches touches arcs is.grows.extends is.grows.keeps inv.terms in
     let here = subst (λ k. IsTerm net rows used bid t numbered starts touches k term) (sym inv.count) is.term in
     let pushed = c.in_ok-push.ensures in
-    let fits : FitsSigned w64 c.value.result = search rules in
-    let size = c.widened-most.result in
-    let size_fits : FitsSigned w64 size = search rules in
-    let value = subst (IsBetween (neg_ℤ size) size) (to_z-of_z w64 c.value.result fits ∙ c.value.ensures) c.widened-most.ensures.value in
     record {
       making = is.making;
       grows = grows_more _ old new inv.grows is.grows;
       count = let e = ap length pushed in let n = length-append arcs (term ∷ []) in let o = inv.count in omega arith;
       terms = subst (AreTerms net rows used bid t numbered starts touches) (sym pushed) (terms_push net rows used bid t numbered starts touches arcs term kept here);
-      covers = subst (λ (m : ℤ). Covers m c.push.new.self) (sym (to_z-of_z w64 size size_fits))
-          (subst (Covers size) (sym pushed) (covers_push _ _ arcs term inv.covers c.widened-most.ensures.range c.widened-most.ensures.before value));
     }
 
 pub loop-k-init : goal.loop-k-init
@@ -49,8 +41,10 @@ loop-k-init g c = record {
   grows = search rules;
   count = search rules;
   terms = search rules;
-  covers = covers_none _ _ c.in_ok-arcs.ensures refl;
 }
+
+pub most_of-most-requires : goal.most_of-most-requires
+most_of-most-requires g c = subst (All (λ (arc : ArcTerm). IsArcValue arc.value)) (sym c.slice.ensures) c.loop-k.invariant.terms.values
 
 pub returns-clause-table : goal.returns-clause-table
 returns-clause-table g c = record {

@@ -1,0 +1,171 @@
+-- The numbers that tell rows of headways: first those of windows, and then those of pairs.
+use Rattle.std.proofs.Common.{◌≡◌, ℕ, ◌+◌, ◌-◌, ◌*◌, ◌/◌, ◌%◌, ◌^◌, ◌<◌, ◌≤◌, Bool, true, false, cond, nat_lt, refl, sym, ap, ◌∙◌, arith, inl, inr}
+use Rattle.std.specs.Prelude.{Option, Some, None, ◌&&◌}
+use Rattle.std.specs.Cmp.{nat_cmp_is}
+use Rattle.std.specs.Ordering.{nat_cmp, ordering_then}
+use Rattle.std.specs.declared.cmp.Ordering.{Ordering}
+use Rattle.std.specs.declared.cmp.Ordering.TheVariants.{Less, Equal, Greater}
+use Rattle.std.proofs.lemmas.Bool.{and_parts, cases_order, ltb-true, lt-ltb, le-ltb}
+use Rattle.optra_network.specs.declared.TrackId.{TrackId}
+use Rattle.optra_network.specs.declared.TypeId.{TypeId}
+use Rattle.optra_walk.specs.Codes.{moved_cmp, parts_cmp, scaled_cmp, some_parts, then_then}
+use Rattle.optra_rows.specs.declared.HRow.{HRow}
+use Rattle.optra_rows.specs.declared.HRow.TheVariants.{Window, Pair}
+use Rattle.optra_rows.specs.TouchedLemmas.{row_cmp, window_cmp, pair_cmp, window_below_pair}
+
+-- so many numbers
+abbrev pub codes : ℕ
+codes = 4672924418048
+
+-- whether a use of a track may be told
+abbrev pub may_tell : TrackId → ℕ → TypeId → Bool
+may_tell k m a = nat_lt k.0 1024 && (nat_lt m 4096 && nat_lt a.0 16)
+
+-- the number of a use of a track
+abbrev pub use_code : ℕ → TypeId → ℕ
+use_code m a = m * 16 + a.0
+
+-- the number of a window
+abbrev pub window_code : TrackId → ℕ → Option ℕ
+window_code k m = cond (may_tell k m (record { 0 = 0 })) (Some ((k.0 * 4096 + m) * 65536)) None
+
+-- the number of a pair by those of its uses
+abbrev pub pair_code : TrackId → ℕ → ℕ → ℕ
+pair_code k first second = 274877906944 + (k.0 * 65536 + first) * 65536 + second
+
+abbrev pub code_of : HRow → Option ℕ
+code_of (Window k m) = window_code k m
+code_of (Pair k t a u b) = cond (may_tell k t a && may_tell k u b) (Some (pair_code k (use_code t a) (use_code u b))) None
+
+abbrev pub kind_of : ℕ → TypeId
+kind_of code = record { 0 = code % 16 }
+
+abbrev pub minute_of : ℕ → ℕ
+minute_of code = code / 16 % 4096
+
+abbrev pub track_of : ℕ → TrackId
+track_of code = record { 0 = code % 1024 }
+
+abbrev pair_of_code : ℕ → HRow
+pair_of_code pair = Pair (track_of (pair / 65536 / 65536)) (minute_of (pair / 65536 % 65536)) (kind_of (pair / 65536 % 65536)) (minute_of (pair % 65536)) (kind_of (pair % 65536))
+
+abbrev pub row_of : ℕ → HRow
+row_of code = cond (nat_lt code 274877906944) (Window (track_of (code / 65536 / 4096)) (code / 65536 % 4096)) (pair_of_code (code - 274877906944))
+
+-- ---- the parts of a row that has a number
+record AreTold (k : TrackId) (m : ℕ) (a : TypeId) : Type 0 where
+  track : k.0 < 1024
+  minute : m < 4096
+  kind : a.0 < 16
+
+told_parts : (k : TrackId) (m : ℕ) (a : TypeId) → may_tell k m a ≡ true → AreTold k m a
+told_parts k m a is =
+    let parts = and_parts (nat_lt k.0 1024) (nat_lt m 4096 && nat_lt a.0 16) is in
+    let rest = and_parts (nat_lt m 4096) (nat_lt a.0 16) parts.1 in
+    record { track = ltb-true k.0 1024 parts.0; minute = ltb-true m 4096 rest.0; kind = ltb-true a.0 16 rest.1 }
+
+window_parts : (k : TrackId) (m code : ℕ) → code_of (Window k m) ≡ Some code → (k.0 < 1024) × (m < 4096) × ((k.0 * 4096 + m) * 65536 ≡ code)
+window_parts k m code is =
+    let both = some_parts (may_tell k m (record { 0 = 0 })) ((k.0 * 4096 + m) * 65536) code is in
+    let told = told_parts k m (record { 0 = 0 }) both.0 in
+    (told.track, told.minute, both.1)
+
+pair_parts : (k : TrackId) (t : ℕ) (a : TypeId) (u : ℕ) (b : TypeId) (code : ℕ) → code_of (Pair k t a u b) ≡ Some code → AreTold k t a × AreTold k u b × (pair_code k (use_code t a) (use_code u b) ≡ code)
+pair_parts k t a u b code is =
+    let both = some_parts (may_tell k t a && may_tell k u b) (pair_code k (use_code t a) (use_code u b)) code is in
+    let parts = and_parts (may_tell k t a) (may_tell k u b) both.0 in
+    (told_parts k t a parts.0, told_parts k u b parts.1, both.1)
+
+-- ---- the laws
+pub below : (row : HRow) (code : ℕ) → code_of row ≡ Some code → code < codes
+below (Window k m) code is =
+    let p = window_parts k m code is in
+    let track = p.0 in let minute = p.1 in let sum = p.2 in omega arith
+below (Pair k t a u b) code is =
+    let p = pair_parts k t a u b code is in
+    let first = p.0 in let second = p.1 in let sum = p.2 in
+    let ta = first.track in let tb = first.minute in let tc = first.kind in let ua = second.minute in let ub = second.kind in omega arith
+
+pub leads_back : (row : HRow) (code : ℕ) → code_of row ≡ Some code → row_of code ≡ row
+leads_back (Window k m) code is =
+    let p = window_parts k m code is in
+    let small = p.0 in
+    let minute = p.1 in
+    let sum = p.2 in
+    let low : nat_lt code 274877906944 ≡ true = lt-ltb code 274877906944 (omega arith) in
+    let whole : code / 65536 ≡ k.0 * 4096 + m = omega arith in
+    let of_track : code / 65536 / 4096 % 1024 ≡ k.0 = omega arith in
+    let of_minute : code / 65536 % 4096 ≡ m = omega arith in
+    ap (λ (b : Bool). cond b (Window (track_of (code / 65536 / 4096)) (code / 65536 % 4096)) (pair_of_code (code - 274877906944))) low
+    ∙ (λ i. Window (record { 0 = of_track i }) (of_minute i))
+leads_back (Pair k t a u b) code is =
+    let p = pair_parts k t a u b code is in
+    let first = p.0 in
+    let second = p.1 in
+    let track = first.track in
+    let ta = first.minute in
+    let tb = first.kind in
+    let ua = second.minute in
+    let ub = second.kind in
+    let sum = p.2 in
+    let pair = code - 274877906944 in
+    let high : nat_lt code 274877906944 ≡ false = le-ltb code 274877906944 (omega arith) in
+    let parts : pair ≡ (k.0 * 65536 + (t * 16 + a.0)) * 65536 + (u * 16 + b.0) = omega arith in
+    let above : pair / 65536 ≡ k.0 * 65536 + (t * 16 + a.0) = omega arith in
+    let under : pair % 65536 ≡ u * 16 + b.0 = omega arith in
+    let middle : pair / 65536 % 65536 ≡ t * 16 + a.0 = omega arith in
+    let of_track : pair / 65536 / 65536 % 1024 ≡ k.0 = omega arith in
+    let of_t : pair / 65536 % 65536 / 16 % 4096 ≡ t = omega arith in
+    let of_a : pair / 65536 % 65536 % 16 ≡ a.0 = omega arith in
+    let of_u : pair % 65536 / 16 % 4096 ≡ u = omega arith in
+    let of_b : pair % 65536 % 16 ≡ b.0 = omega arith in
+    ap (λ (test : Bool). cond test (Window (track_of (code / 65536 / 4096)) (code / 65536 % 4096)) (pair_of_code pair)) high
+    ∙ (λ i. Pair (record { 0 = of_track i }) (of_t i) (record { 0 = of_a i }) (of_u i) (record { 0 = of_b i }))
+
+pub ordered : (a b : HRow) (x y : ℕ) → code_of a ≡ Some x → code_of b ≡ Some y → row_cmp a b ≡ nat_cmp x y
+ordered (Window k m) (Window k' m') x y is is' =
+    let p = window_parts k m x is in
+    let q = window_parts k' m' y is' in
+    window_cmp k m k' m' ∙ sym (parts_cmp 4096 k.0 m k'.0 m' p.1 q.1) ∙ sym (scaled_cmp 65536 (k.0 * 4096 + m) (k'.0 * 4096 + m') (omega arith))
+    ∙ ap (λ (n : ℕ). nat_cmp n ((k'.0 * 4096 + m') * 65536)) p.2 ∙ ap (nat_cmp x) q.2
+ordered (Window k m) (Pair k' t a u b) x y is is' =
+    let p = window_parts k m x is in
+    let small = p.0 in
+    let minute = p.1 in
+    let sum = p.2 in
+    let q = (pair_parts k' t a u b y is').2 in
+    window_below_pair k m k' t a u b ∙ nat_cmp_is x y Less (omega arith)
+ordered (Pair k t a u b) (Window k' m') x y is is' =
+    let p = window_parts k' m' y is' in
+    let small = p.0 in
+    let minute = p.1 in
+    let sum = p.2 in
+    let q = (pair_parts k t a u b x is).2 in
+    nat_cmp_is x y Greater (omega arith)
+ordered (Pair k t a u b) (Pair k' t' a' u' b') x y is is' =
+    let p = pair_parts k t a u b x is in
+    let q = pair_parts k' t' a' u' b' y is' in
+    let f = t * 16 + a.0 in
+    let s = u * 16 + b.0 in
+    let f' = t' * 16 + a'.0 in
+    let s' = u' * 16 + b'.0 in
+    let p1 = p.0.minute in let p2 = p.0.kind in let p3 = p.1.minute in let p4 = p.1.kind in
+    let q1 = q.0.minute in let q2 = q.0.kind in let q3 = q.1.minute in let q4 = q.1.kind in
+    let sum : 274877906944 + ((k.0 * 65536 + f) * 65536 + s) ≡ x = let e = p.2 in omega arith in
+    let sum' : 274877906944 + ((k'.0 * 65536 + f') * 65536 + s') ≡ y = let e = q.2 in omega arith in
+    let whole : nat_cmp x y ≡ ordering_then (nat_cmp (k.0 * 65536 + f) (k'.0 * 65536 + f')) (nat_cmp s s') =
+        sym (ap (λ (n : ℕ). nat_cmp n (274877906944 + ((k'.0 * 65536 + f') * 65536 + s'))) sum ∙ ap (nat_cmp x) sum')
+        ∙ moved_cmp 274877906944 ((k.0 * 65536 + f) * 65536 + s) ((k'.0 * 65536 + f') * 65536 + s')
+        ∙ parts_cmp 65536 (k.0 * 65536 + f) s (k'.0 * 65536 + f') s' (omega arith) (omega arith)
+    in
+    let above = parts_cmp 65536 k.0 f k'.0 f' (omega arith) (omega arith) ∙ ap (ordering_then (nat_cmp k.0 k'.0)) (parts_cmp 16 t a.0 t' a'.0 p2 q2) in
+    let under = parts_cmp 16 u b.0 u' b'.0 p4 q4 in
+    pair_cmp k t a u b k' t' a' u' b'
+    ∙ sym (whole
+      ∙ ap (λ (o : Ordering). ordering_then o (nat_cmp s s')) above
+      ∙ ap (ordering_then (ordering_then (nat_cmp k.0 k'.0) (ordering_then (nat_cmp t t') (nat_cmp a.0 a'.0)))) under
+      ∙ then_then (nat_cmp k.0 k'.0) (ordering_then (nat_cmp t t') (nat_cmp a.0 a'.0)) (ordering_then (nat_cmp u u') (nat_cmp b.0 b'.0))
+      ∙ ap (ordering_then (nat_cmp k.0 k'.0)) (then_then (nat_cmp t t') (nat_cmp a.0 a'.0) (ordering_then (nat_cmp u u') (nat_cmp b.0 b'.0))))
+
+pub few : codes < 2 ^ 64
+few = omega arith

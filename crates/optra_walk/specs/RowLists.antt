@@ -1,0 +1,14 @@
+-- Lists of rows, of which the first ones are told by numbers.
+use Rattle.std.specs.Prelude.{◌≡◌, ℕ, List, ◌++◌, map, All, Option, Some}
+
+-- a list
+pub record Listed (X : Type 0) : Type 0 where
+  pub items : List X
+
+-- the rows that the numbers tell, and then the others
+abbrev pub rows_in : {R : Type 0} → (ℕ → R) → List ℕ → List R → List R
+rows_in row_of codes wide = map row_of codes ++ wide
+
+-- each number is that of the row which it tells
+abbrev pub AreCodes : {R : Type 0} → (R → Option ℕ) → (ℕ → R) → List ℕ → Type 0
+AreCodes code_of row_of codes = All (λ code. code_of (row_of code) ≡ Some code) codes
