@@ -37,8 +37,12 @@ kind_of code = record { 0 = code % 16 }
 
 abbrev pub row_of : ℕ → CRow
 row_of code = record {
-  first_track = track_of (code / 67108864); first_at = minute_of (code / 67108864); first = kind_of (code / 67108864);
-  second_track = track_of (code % 67108864); second_at = minute_of (code % 67108864); second = kind_of (code % 67108864);
+  first_track = track_of (code / 67108864);
+  first_at = minute_of (code / 67108864);
+  first = kind_of (code / 67108864);
+  second_track = track_of (code % 67108864);
+  second_at = minute_of (code % 67108864);
+  second = kind_of (code % 67108864);
 }
 
 record AreTold (k : TrackId) (m : ℕ) (a : TypeId) : Type 0 where
@@ -100,8 +104,12 @@ leads_back row code is =
     let f = use_parts row.first_track row.first_at row.first (code / 67108864) p.0 (omega arith) in
     let s = use_parts row.second_track row.second_at row.second (code % 67108864) p.1 (omega arith) in
     λ i. record {
-      first_track = record { 0 = f.0 i }; first_at = f.1 i; first = record { 0 = f.2 i };
-      second_track = record { 0 = s.0 i }; second_at = s.1 i; second = record { 0 = s.2 i };
+      first_track = record { 0 = f.0 i };
+      first_at = f.1 i;
+      first = record { 0 = f.2 i };
+      second_track = record { 0 = s.0 i };
+      second_at = s.1 i;
+      second = record { 0 = s.2 i };
     }
 
 pub ordered : (a b : CRow) (x y : ℕ) → code_of a ≡ Some x → code_of b ≡ Some y → row_cmp a b ≡ nat_cmp x y
@@ -116,12 +124,12 @@ ordered a b x y is is' =
     let s' = use_code b.second_track b.second_at b.second in
     let rest = ordering_then (nat_cmp a.second_track.0 b.second_track.0) (ordering_then (nat_cmp a.second_at b.second_at) (nat_cmp a.second.0 b.second.0)) in
     let whole : nat_cmp x y ≡ ordering_then (nat_cmp f f') (nat_cmp s s') =
-        sym (ap (λ (n : ℕ). nat_cmp n (f' * 67108864 + s')) p.2 ∙ ap (nat_cmp x) q.2)
-        ∙ parts_cmp 67108864 f s f' s' (use_small a.second_track a.second_at a.second p.1) (use_small b.second_track b.second_at b.second q.1)
+    sym (ap (λ (n : ℕ). nat_cmp n (f' * 67108864 + s')) p.2 ∙ ap (nat_cmp x) q.2)
+    ∙ parts_cmp 67108864 f s f' s' (use_small a.second_track a.second_at a.second p.1) (use_small b.second_track b.second_at b.second q.1)
     in
     row_cmp_is a b
     ∙ sym (whole
-      ∙ ap (λ (o : Ordering). ordering_then o (nat_cmp s s')) first
-      ∙ ap (ordering_then (ordering_then (nat_cmp a.first_track.0 b.first_track.0) (ordering_then (nat_cmp a.first_at b.first_at) (nat_cmp a.first.0 b.first.0)))) second
-      ∙ then_then (nat_cmp a.first_track.0 b.first_track.0) (ordering_then (nat_cmp a.first_at b.first_at) (nat_cmp a.first.0 b.first.0)) rest
-      ∙ ap (ordering_then (nat_cmp a.first_track.0 b.first_track.0)) (then_then (nat_cmp a.first_at b.first_at) (nat_cmp a.first.0 b.first.0) rest))
+    ∙ ap (λ (o : Ordering). ordering_then o (nat_cmp s s')) first
+    ∙ ap (ordering_then (ordering_then (nat_cmp a.first_track.0 b.first_track.0) (ordering_then (nat_cmp a.first_at b.first_at) (nat_cmp a.first.0 b.first.0)))) second
+    ∙ then_then (nat_cmp a.first_track.0 b.first_track.0) (ordering_then (nat_cmp a.first_at b.first_at) (nat_cmp a.first.0 b.first.0)) rest
+    ∙ ap (ordering_then (nat_cmp a.first_track.0 b.first_track.0)) (then_then (nat_cmp a.first_at b.first_at) (nat_cmp a.first.0 b.first.0) rest))

@@ -3,6 +3,5 @@ pub mod Crosses
 pub mod Places
 pub mod PlaceLemmas
 pub mod CrossLemmas
-pub mod RowPlaces
 pub mod CrossTexts
 pub mod CrossTextLemmas

@@ -10,7 +10,6 @@ ghost use Rattle.optra_cross.specs.Places.{row_from, row_with, use_at};
 use crate::CRow;
 use crate::places::{DAYS_END, TRACK_PLACES, TYPES, place_at, total};
 use optra_network::{Network, TrackId, TrackUse, TypeId};
-use optra_rows::{MINUTE_PLACES, minute_place};
 use optra_walk::{Leg, RowFamily};
 
 /// The family of crossing rows. Its rule is that every two uses of different tracks keep their crossing, and that no use
@@ -36,8 +35,7 @@ impl RowFamily for CrossRows {
     ghost use Rattle.std.proofs.Common.{lit≤};
     ghost use Rattle.optra_cross.specs.Crosses.{KeepsCrossRule, cross_rows, most_rows};
     ghost use Rattle.optra_cross.specs.Places.{touched_rows};
-    ghost use Rattle.optra_cross.specs.RowPlaces.{cross_places_rise, place_in, places_in};
-    ghost use Rattle.optra_cross.specs.CrossLemmas.{rows_told_apart, rows_listed, few_crossings, unusable_none, crossings_by_rows};
+    ghost use Rattle.optra_cross.specs.CrossLemmas.{rows_listed, few_crossings, unusable_none, crossings_by_rows};
 
     type Row = CRow;
 
@@ -47,15 +45,7 @@ impl RowFamily for CrossRows {
 
     ghost most = { λ _. most_rows };
 
-    ghost place_of = { λ _ net row. place_in row };
-
-    ghost places_of = { λ _ net. places_in net };
-
-    ghost places_rise = { λ f net proper. cross_places_rise net proper };
-
     ghost KeepsRule = { λ _ net entries. KeepsCrossRule net entries };
-
-    ghost tells_apart = { rows_told_apart };
 
     ghost lists_rows = { λ f net kind leg u. rows_listed net (use_of kind leg) u.proper u.may_use u.depart };
 
@@ -96,14 +86,6 @@ impl RowFamily for CrossRows {
 
     fn used_count(&self, net: &Network, kind: TypeId, leg: Leg) -> u32 {
         total(net.crossers(leg.track, kind), leg.depart)
-    }
-
-    fn place(&self, _net: &Network, row: CRow) -> usize {
-        minute_place(row.first_track.0, row.first_at)
-    }
-
-    fn places(&self, net: &Network) -> usize {
-        usize::from(net.track_count()) * MINUTE_PLACES
     }
 
     /// Legs of a type use the same where they enter the same track at the same minute.

@@ -8,9 +8,9 @@
 use optra_network::{Minute, TrackId, TypeId};
 
 mod cross_rows;
-mod row_codes;
 mod laws;
 mod places;
+mod row_codes;
 mod texts;
 
 pub use cross_rows::CrossRows;

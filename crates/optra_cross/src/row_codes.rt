@@ -59,12 +59,15 @@ fn kind_of(code: u64) -> TypeId
 
 impl CodedRow for CRow {
     ghost use Rattle.optra_cross.specs.Codes.{leads_back, ordered, below, few};
+    ghost use Rattle.optra_cross.specs.CrossLemmas.{rows_told_apart};
 
     ghost code_of = { λ row. code_of row };
 
     ghost row_of = { λ code. row_of code };
 
     ghost codes = { codes };
+
+    ghost tells_apart = { rows_told_apart };
 
     ghost leads_back = { leads_back };
 

@@ -3,4 +3,3 @@ pub mod Platforms
 pub mod PlatformLemmas
 pub mod PlatformTexts
 pub mod PlatformTextLemmas
-pub mod RowPlaces

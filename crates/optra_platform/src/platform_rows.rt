@@ -7,7 +7,6 @@ ghost use Rattle.optra_platform.specs.Platforms.{IsPlatformRow, count_between, i
 
 use crate::PRow;
 use optra_network::{Minute, Network, StationId, TrackId, TypeId};
-use optra_rows::{MINUTE_PLACES, minute_place};
 use optra_walk::{Action, Leg, RowFamily, arrival, next_depart};
 
 /// Every minute of the two days is below it.
@@ -28,8 +27,7 @@ impl PlatformRows {
 impl RowFamily for PlatformRows {
     ghost use Rattle.optra_walk.specs.Rules.{KeepsHalts};
     ghost use Rattle.optra_platform.specs.Platforms.{most_rows, platform_rows, standing_rows};
-    ghost use Rattle.optra_platform.specs.RowPlaces.{place_in, places_in, platform_places_rise};
-    ghost use Rattle.optra_platform.specs.PlatformLemmas.{rows_told_apart, standing_rows_listed, few_halts, capacity_low, unusable_none, halts_by_rows};
+    ghost use Rattle.optra_platform.specs.PlatformLemmas.{standing_rows_listed, few_halts, capacity_low, unusable_none, halts_by_rows};
 
     type Row = PRow;
 
@@ -39,15 +37,7 @@ impl RowFamily for PlatformRows {
 
     ghost most = { λ _. most_rows };
 
-    ghost place_of = { λ _ net row. place_in row };
-
-    ghost places_of = { λ _ net. places_in net };
-
-    ghost places_rise = { λ f net proper. platform_places_rise net proper };
-
     ghost KeepsRule = { λ _ net entries. KeepsHalts net entries };
-
-    ghost tells_apart = { rows_told_apart };
 
     ghost lists_rows = { λ f net kind leg u. standing_rows_listed net kind leg u.proper u };
 
@@ -98,14 +88,6 @@ impl RowFamily for PlatformRows {
         } else {
             0
         }
-    }
-
-    fn place(&self, _net: &Network, row: PRow) -> usize {
-        minute_place(row.station.0, row.minute)
-    }
-
-    fn places(&self, net: &Network) -> usize {
-        usize::from(net.station_count()) * MINUTE_PLACES
     }
 
     /// Legs that use no row whatever their times are use alike.

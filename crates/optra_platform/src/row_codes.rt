@@ -16,12 +16,15 @@ const CODES: u64 = 268_435_456;
 
 impl CodedRow for PRow {
     ghost use Rattle.optra_platform.specs.Codes.{leads_back, ordered, below, few};
+    ghost use Rattle.optra_platform.specs.PlatformLemmas.{rows_told_apart};
 
     ghost code_of = { λ row. code_of row };
 
     ghost row_of = { λ code. row_of code };
 
     ghost codes = { codes };
+
+    ghost tells_apart = { rows_told_apart };
 
     ghost leads_back = { leads_back };
 

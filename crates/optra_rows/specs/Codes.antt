@@ -1,11 +1,11 @@
 -- The numbers that tell rows of headways: first those of windows, and then those of pairs.
-use Rattle.std.proofs.Common.{◌≡◌, ℕ, ◌+◌, ◌-◌, ◌*◌, ◌/◌, ◌%◌, ◌^◌, ◌<◌, ◌≤◌, Bool, true, false, cond, nat_lt, refl, sym, ap, ◌∙◌, arith, inl, inr}
+use Rattle.std.proofs.Common.{◌≡◌, ℕ, ◌+◌, ◌-◌, ◌*◌, ◌/◌, ◌%◌, ◌^◌, ◌<◌, Bool, true, false, cond, nat_lt, sym, ap, ◌∙◌, arith}
 use Rattle.std.specs.Prelude.{Option, Some, None, ◌&&◌}
 use Rattle.std.specs.Cmp.{nat_cmp_is}
 use Rattle.std.specs.Ordering.{nat_cmp, ordering_then}
 use Rattle.std.specs.declared.cmp.Ordering.{Ordering}
-use Rattle.std.specs.declared.cmp.Ordering.TheVariants.{Less, Equal, Greater}
-use Rattle.std.proofs.lemmas.Bool.{and_parts, cases_order, ltb-true, lt-ltb, le-ltb}
+use Rattle.std.specs.declared.cmp.Ordering.TheVariants.{Less, Greater}
+use Rattle.std.proofs.lemmas.Bool.{and_parts, ltb-true, lt-ltb, le-ltb}
 use Rattle.optra_network.specs.declared.TrackId.{TrackId}
 use Rattle.optra_network.specs.declared.TypeId.{TypeId}
 use Rattle.optra_walk.specs.Codes.{moved_cmp, parts_cmp, scaled_cmp, some_parts, then_then}
@@ -154,18 +154,18 @@ ordered (Pair k t a u b) (Pair k' t' a' u' b') x y is is' =
     let sum : 274877906944 + ((k.0 * 65536 + f) * 65536 + s) ≡ x = let e = p.2 in omega arith in
     let sum' : 274877906944 + ((k'.0 * 65536 + f') * 65536 + s') ≡ y = let e = q.2 in omega arith in
     let whole : nat_cmp x y ≡ ordering_then (nat_cmp (k.0 * 65536 + f) (k'.0 * 65536 + f')) (nat_cmp s s') =
-        sym (ap (λ (n : ℕ). nat_cmp n (274877906944 + ((k'.0 * 65536 + f') * 65536 + s'))) sum ∙ ap (nat_cmp x) sum')
-        ∙ moved_cmp 274877906944 ((k.0 * 65536 + f) * 65536 + s) ((k'.0 * 65536 + f') * 65536 + s')
-        ∙ parts_cmp 65536 (k.0 * 65536 + f) s (k'.0 * 65536 + f') s' (omega arith) (omega arith)
+    sym (ap (λ (n : ℕ). nat_cmp n (274877906944 + ((k'.0 * 65536 + f') * 65536 + s'))) sum ∙ ap (nat_cmp x) sum')
+    ∙ moved_cmp 274877906944 ((k.0 * 65536 + f) * 65536 + s) ((k'.0 * 65536 + f') * 65536 + s')
+    ∙ parts_cmp 65536 (k.0 * 65536 + f) s (k'.0 * 65536 + f') s' (omega arith) (omega arith)
     in
     let above = parts_cmp 65536 k.0 f k'.0 f' (omega arith) (omega arith) ∙ ap (ordering_then (nat_cmp k.0 k'.0)) (parts_cmp 16 t a.0 t' a'.0 p2 q2) in
     let under = parts_cmp 16 u b.0 u' b'.0 p4 q4 in
     pair_cmp k t a u b k' t' a' u' b'
     ∙ sym (whole
-      ∙ ap (λ (o : Ordering). ordering_then o (nat_cmp s s')) above
-      ∙ ap (ordering_then (ordering_then (nat_cmp k.0 k'.0) (ordering_then (nat_cmp t t') (nat_cmp a.0 a'.0)))) under
-      ∙ then_then (nat_cmp k.0 k'.0) (ordering_then (nat_cmp t t') (nat_cmp a.0 a'.0)) (ordering_then (nat_cmp u u') (nat_cmp b.0 b'.0))
-      ∙ ap (ordering_then (nat_cmp k.0 k'.0)) (then_then (nat_cmp t t') (nat_cmp a.0 a'.0) (ordering_then (nat_cmp u u') (nat_cmp b.0 b'.0))))
+    ∙ ap (λ (o : Ordering). ordering_then o (nat_cmp s s')) above
+    ∙ ap (ordering_then (ordering_then (nat_cmp k.0 k'.0) (ordering_then (nat_cmp t t') (nat_cmp a.0 a'.0)))) under
+    ∙ then_then (nat_cmp k.0 k'.0) (ordering_then (nat_cmp t t') (nat_cmp a.0 a'.0)) (ordering_then (nat_cmp u u') (nat_cmp b.0 b'.0))
+    ∙ ap (ordering_then (nat_cmp k.0 k'.0)) (then_then (nat_cmp t t') (nat_cmp a.0 a'.0) (ordering_then (nat_cmp u u') (nat_cmp b.0 b'.0))))
 
 pub few : codes < 2 ^ 64
 few = omega arith

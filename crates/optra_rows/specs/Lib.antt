@@ -8,7 +8,5 @@ pub mod TouchedLemmas
 pub mod RuleLemmas
 pub mod EitherCodes
 pub mod EitherLemmas
-pub mod EitherPlaces
 pub mod FewRows
 pub mod PlaceOrder
-pub mod PlaceLemmas

@@ -1,5 +1,5 @@
 -- Rows in order by several numbers, and how many of them there are where each has a place.
-use Rattle.std.proofs.Common.{◌≡◌, ℕ, zero, suc, ◌+◌, ◌*◌, ◌/◌, ◌<◌, ◌≤◌, ◌⊎◌, inl, inr, List, length, get_or, refl, sym, ◌∙◌, ap, arith}
+use Rattle.std.proofs.Common.{◌≡◌, ℕ, zero, suc, ◌<◌, ◌≤◌, ◌⊎◌, inl, inr, List, length, get_or, refl, sym, ◌∙◌, ap, arith}
 use Rattle.std.proofs.lemmas.Bool.{cases_lt}
 use Rattle.std.proofs.lemmas.List.Elements.{All-get_or}
 use Rattle.std.specs.Prelude.{All}
@@ -33,55 +33,6 @@ last_part x y less = elim (less_parts x y Less (ap (λ c. ordering_then c Less) 
   | inl lt ↦ lt
   | inr same ↦ let bad : Equal ≡ Less = nat_cmp_is x y Equal same.0 ∙ less in absurd (cc bad)
 ]
-
--- ---- about where rows stand that are ordered by a number and a minute first
-
--- so many places the minutes of a track or of a station have
-abbrev pub minute_places : ℕ
-minute_places = 1500
-
--- the place of a minute of a track or of a station, of which two share one
-abbrev pub minute_place : ℕ → ℕ → ℕ
-minute_place k minute = k * minute_places + minute / 2
-
--- so many places the windows of a track have
-abbrev pub window_places : ℕ
-window_places = 375
-
--- the place of a window of a track, of which eight share one
-abbrev pub window_place : ℕ → ℕ → ℕ
-window_place k minute = k * window_places + minute / 8
-
--- of two that are in order the first has no higher place
-pub minutes_rise : (k m k' m' : ℕ) (rest : Ordering) → m < 3000 → ordering_then (nat_cmp k k') (ordering_then (nat_cmp m m') rest) ≡ Less → minute_place k m ≤ minute_place k' m'
-minutes_rise k m k' m' rest small less = elim (less_parts k k' (ordering_then (nat_cmp m m') rest) less) [
-  | inl lt ↦ omega (arith, lt, small)
-  | inr same ↦ let e = same.0 in elim (less_parts m m' rest same.1) [
-    | inl lt ↦ omega (arith, e, lt)
-    | inr minute ↦ let f = minute.0 in omega (arith, e, f)
-  ]
-]
-
-pub last_minutes_rise : (k m k' m' : ℕ) → m < 3000 → ordering_then (nat_cmp k k') (nat_cmp m m') ≡ Less → minute_place k m ≤ minute_place k' m'
-last_minutes_rise k m k' m' small less = elim (less_parts k k' (nat_cmp m m') less) [
-  | inl lt ↦ omega (arith, lt, small)
-  | inr same ↦ let e = same.0 in let l = last_part m m' same.1 in omega (arith, e, l)
-]
-
--- of two windows that are in order the first has no higher place
-pub windows_rise : (k m k' m' : ℕ) → m < 3000 → ordering_then (nat_cmp k k') (nat_cmp m m') ≡ Less → window_place k m ≤ window_place k' m'
-windows_rise k m k' m' small less = elim (less_parts k k' (nat_cmp m m') less) [
-  | inl lt ↦ omega (arith, lt, small)
-  | inr same ↦ let e = same.0 in let l = last_part m m' same.1 in omega (arith, e, l)
-]
-
--- no window of so many tracks has a higher place
-pub window_within : (k m count : ℕ) → k < count → m < 3000 → window_place k m ≤ count * window_places
-window_within k m count l small = omega (arith, l, small)
-
--- no minute of so many tracks or stations has a higher place
-pub minute_within : (k m count : ℕ) → k < count → m < 3000 → minute_place k m ≤ count * minute_places
-minute_within k m count l small = omega (arith, l, small)
 
 -- ---- so many places, so many rows
 

@@ -12,10 +12,8 @@ ghost use Rattle.optra_walk.specs.Families.{IsUsable, FitRows, entries_of};
 ghost use Rattle.optra_rows.specs.FewRows.{AreFewHeadways};
 ghost use Rattle.optra_rows.specs.declared.HRow.TheVariants.{Window};
 ghost use Rattle.optra_rows.specs.Headways.{is_row_of, is_used_by, headway_rows, IsFirstOver, IsFirstStarted, IsHeadwayRow, in_day, pair_of, is_started, is_not_over, ShiftsRise, kept};
-ghost use Rattle.optra_rows.specs.PlaceOrder.{minute_places, window_places};
 
 use crate::HRow;
-use crate::minute_places::{MINUTE_PLACES, WINDOW_PLACES, minute_place, window_place};
 use optra_network::{Minute, Network, NoMemory, Partner, TrackId, TypeId};
 use optra_walk::{Leg, RowFamily, RowList};
 
@@ -48,8 +46,7 @@ pub fn headway_rows_are_few(net: &Network)
 
 impl RowFamily for HeadwayRows {
     ghost use Rattle.std.proofs.Common.{lit≤};
-    ghost use Rattle.optra_rows.specs.TouchedLemmas.{rows_told_apart, headway_rows_listed, few_headways, unusable_none};
-    ghost use Rattle.optra_rows.specs.PlaceLemmas.{headway_places_rise, place_in, places_in};
+    ghost use Rattle.optra_rows.specs.TouchedLemmas.{headway_rows_listed, few_headways, unusable_none};
     ghost use Rattle.optra_rows.specs.RuleLemmas.{headways_by_rows};
     ghost use Rattle.optra_rows.specs.Headways.{most_rows, touched_rows, KeepsHeadwayRule};
 
@@ -57,19 +54,11 @@ impl RowFamily for HeadwayRows {
 
     ghost rows_of = { λ _ net. headway_rows net };
 
-    ghost place_of = { λ _ net row. place_in net row };
-
-    ghost places_of = { λ _ net. places_in net };
-
     ghost rows_used = { λ _ net kind leg. touched_rows net leg.track kind leg.depart };
 
     ghost most = { λ _. most_rows };
 
     ghost KeepsRule = { λ _ net entries. KeepsHeadwayRule net entries };
-
-    ghost tells_apart = { rows_told_apart };
-
-    ghost places_rise = { λ f net proper. headway_places_rise net proper };
 
     ghost lists_rows = { λ f net kind leg u. headway_rows_listed net leg.track kind leg.depart u.proper u.may_use u.depart };
 
@@ -148,43 +137,11 @@ impl RowFamily for HeadwayRows {
         u32::from(least_of(net, leg.track, kind)).saturating_sub(1)
     }
 
-    /// First stand the windows by track and minute, and then the pairs by track and first minute.
-    fn place(&self, net: &Network, row: HRow) -> usize {
-        match row {
-            HRow::Window { track, minute } => window_place(track.0, minute),
-            HRow::Pair {
-                track,
-                first_at,
-                ..
-            } => window_places(net) + minute_place(track.0, first_at),
-        }
-    }
-
-    fn places(&self, net: &Network) -> usize {
-        window_places(net) + pair_places(net)
-    }
-
     /// Legs of a type use the same where they enter the same track at the same minute.
     #[inline(always)]
     fn use_alike(&self, _net: &Network, _kind: TypeId, first: Leg, second: Leg) -> bool {
         first.track == second.track && first.depart == second.depart
     }
-}
-
-/// How many places the windows of all tracks have.
-fn window_places(net: &Network) -> usize
-    ensures places { result ≡ length net.now.tracks * window_places }
-    ensures few { result < 2 ^ 32 }
-{
-    usize::from(net.track_count()) * WINDOW_PLACES
-}
-
-/// How many places the pairs of all tracks have.
-fn pair_places(net: &Network) -> usize
-    ensures places { result ≡ length net.now.tracks * minute_places }
-    ensures few { result < 2 ^ 32 }
-{
-    usize::from(net.track_count()) * MINUTE_PLACES
 }
 
 /// Adds the windows of a leg from one place up to another.

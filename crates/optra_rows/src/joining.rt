@@ -44,8 +44,7 @@ impl<A: RowFamily, B: RowFamily> RowFamily for Both<A, B> {
     type Row = Either<A::Row, B::Row>;
 
     ghost use Rattle.optra_rows.specs.Eithers.{both_rows, both_lists};
-    ghost use Rattle.optra_rows.specs.EitherPlaces.{either_place, sum_of_places, both_places_rise};
-    ghost use Rattle.optra_rows.specs.EitherLemmas.{tell_both_apart, lists_both, few_together, few_of_both, fits_both, caps_fit, none_of_both};
+    ghost use Rattle.optra_rows.specs.EitherLemmas.{lists_both, few_together, few_of_both, fits_both, caps_fit, none_of_both};
     ghost use Rattle.std.specs.Prelude.{refl};
 
     ghost rows_of = { λ f net. both_rows (A.rows_of f.first net) (B.rows_of f.second net) };
@@ -54,17 +53,7 @@ impl<A: RowFamily, B: RowFamily> RowFamily for Both<A, B> {
 
     ghost most = { λ f. A.most f.first + B.most f.second };
 
-    ghost place_of = { λ f net row. either_place (A.place_of f.first net) (B.place_of f.second net) (A.places_of f.first net) row };
-
-    ghost places_of = { λ f net. sum_of_places (A.places_of f.first net) (B.places_of f.second net) };
-
-    ghost places_rise = { λ f net p. both_places_rise A.Row.cmp B.Row.cmp ⟦<Either<A::Row, B::Row> as Ord>⟧.cmp (λ a b. refl) (λ a b. refl) (λ a b. refl)
-        (A.rows_of f.first net) (B.rows_of f.second net) (A.place_of f.first net) (B.place_of f.second net) (A.places_of f.first net) (B.places_of f.second net)
-        (A.places_rise f.first net p) (B.places_rise f.second net p) };
-
     ghost KeepsRule = { λ f net entries. A.KeepsRule f.first net entries × B.KeepsRule f.second net entries };
-
-    ghost tells_apart = { tell_both_apart A.Row.cmp B.Row.cmp ⟦<Either<A::Row, B::Row> as Ord>⟧.cmp (λ a b. refl) (λ a b. refl) (λ a b. refl) (λ a b. refl) A.tells_apart B.tells_apart };
 
     ghost lists_rows = { λ f net kind leg u.
         lists_both A.Row.cmp B.Row.cmp ⟦<Either<A::Row, B::Row> as Ord>⟧.cmp (λ a b. refl) (λ a b. refl) (λ a b. refl)
@@ -136,23 +125,6 @@ impl<A: RowFamily, B: RowFamily> RowFamily for Both<A, B> {
         self.first.used_count(net, kind, leg) + self.second.used_count(net, kind, leg)
     }
 
-    /// The rows of the second family stand past all of the first.
-    fn place(&self, net: &Network, row: Either<A::Row, B::Row>) -> usize {
-        match row {
-            Either::First(p) => self.first.place(net, p),
-            Either::Second(q) => self
-                .first
-                .places(net)
-                .saturating_add(self.second.place(net, q)),
-        }
-    }
-
-    fn places(&self, net: &Network) -> usize {
-        self.first
-            .places(net)
-            .saturating_add(self.second.places(net))
-    }
-
     fn use_alike(&self, net: &Network, kind: TypeId, first: Leg, second: Leg) -> bool {
         self.first.use_alike(net, kind, first, second)
             && self.second.use_alike(net, kind, first, second)
@@ -163,12 +135,15 @@ impl<A: RowFamily, B: RowFamily> RowFamily for Both<A, B> {
 impl<P: CodedRow, Q: CodedRow> CodedRow for Either<P, Q> {
     ghost use Rattle.std.proofs.Common.{refl};
     ghost use Rattle.optra_rows.specs.EitherCodes.{either_code, either_row, either_codes, either_leads_back, either_ordered, either_few, either_below};
+    ghost use Rattle.optra_rows.specs.EitherLemmas.{tell_both_apart};
 
     ghost code_of = { λ row. either_code P.code_of Q.code_of P.codes row };
 
     ghost row_of = { λ code. either_row P.row_of Q.row_of P.codes code };
 
     ghost codes = { either_codes P.codes Q.codes };
+
+    ghost tells_apart = { tell_both_apart P.cmp Q.cmp ⟦<Either<P, Q> as Ord>⟧.cmp (λ a b. refl) (λ a b. refl) (λ a b. refl) (λ a b. refl) P.tells_apart Q.tells_apart };
 
     ghost leads_back = { either_leads_back P.code_of Q.code_of P.row_of Q.row_of P.codes P.leads_back Q.leads_back P.below };
 

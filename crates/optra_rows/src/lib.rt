@@ -8,13 +8,11 @@ use optra_network::{Minute, TrackId, TypeId};
 
 mod headways;
 mod joining;
-mod minute_places;
 mod row_codes;
 mod totals;
 
 pub use headways::{HeadwayRows, headway_rows_are_few};
 pub use joining::{Both, Either};
-pub use minute_places::{MINUTE_PLACES, minute_place};
 pub use totals::Load;
 
 /// A row of headways. Rows are ordered by variant and then by their fields from left to right. Each has the capacity 1.

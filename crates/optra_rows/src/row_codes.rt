@@ -81,12 +81,15 @@ fn track_of(code: u64) -> TrackId
 
 impl CodedRow for HRow {
     ghost use Rattle.optra_rows.specs.Codes.{leads_back, ordered, below, few};
+    ghost use Rattle.optra_rows.specs.TouchedLemmas.{rows_told_apart};
 
     ghost code_of = { λ row. code_of row };
 
     ghost row_of = { λ code. row_of code };
 
     ghost codes = { codes };
+
+    ghost tells_apart = { rows_told_apart };
 
     ghost leads_back = { leads_back };
 

@@ -1,5 +1,5 @@
 -- Legs of types, the rows that they use, and what a family says of its rows.
-use Rattle.std.specs.Prelude.{◌≡◌, ℕ, ◌≤◌, ◌<◌, ◌^◌, ◌↔◌, Bool, true, List, [], ◌∷◌, ◌++◌, map, length, sum_by, All, Contains, Option, None, Some, unwrap_or, ⊤}
+use Rattle.std.specs.Prelude.{◌≡◌, ℕ, ◌≤◌, ◌<◌, ◌↔◌, Bool, true, List, [], ◌∷◌, ◌++◌, map, length, sum_by, All, Contains, Option, None, Some, unwrap_or, ⊤}
 use Rattle.std.specs.BTreeMap.{BTreeMap, get}
 use Rattle.std.specs.declared.cmp.Ordering.{Ordering}
 use Rattle.std.specs.declared.cmp.Ordering.TheVariants.{Less, Equal}
@@ -62,12 +62,6 @@ Ascends cmp (row ∷ rows) = All (λ later. cmp row later ≡ Less) rows × Asce
 -- rows that the order does not tell apart are the same
 abbrev pub TellsApart : {R : Type 0} → (R → R → Ordering) → Type 0
 TellsApart {R} cmp = (a b : R) → cmp a b ≡ Equal → a ≡ b
-
--- a row that compares as less has no higher place than another one, and no row a higher one than the most, which fits into 64 bits
-pub record PlacesRise {R : Type 0} (cmp : R → R → Ordering) (is_row : R → Bool) (place : R → ℕ) (most : ℕ) : Type 0 where
-  pub rise : (a b : R) → is_row a ≡ true → is_row b ≡ true → cmp a b ≡ Less → place a ≤ place b
-  pub within : (row : R) → is_row row ≡ true → place row ≤ most
-  pub fits : most < 2 ^ 64
 
 -- the list holds the rows in which a leg's use is above zero, ascending and each once; they are rows of the family, few, and used little in all
 pub record ListsRows {R : Type 0} (cmp : R → R → Ordering) (is_row : R → Bool) (uses : R → ℕ) (rows : List R) : Type 0 where

@@ -1,9 +1,10 @@
 //! Rows that are told by one number each, so that many of them take little memory and two of them are compared at once.
 ghost use Rattle.std.specs.Prelude.{◌≡◌, ◌<◌, ◌^◌, ℕ, Option, Some};
 ghost use Rattle.std.specs.Ordering.{nat_cmp};
+ghost use Rattle.optra_walk.specs.Families.{TellsApart};
 
-/// A row that one number tells, where its parts are as small as those of rows of networks are. Numbers are ordered as the
-/// rows that they tell.
+/// A row. Rows are ordered, and rows that compare as equal are the same. One number tells a row whose parts are as small as
+/// those of rows of networks are, and numbers are ordered as the rows that they tell.
 pub trait CodedRow: Copy + Ord {
     /// The number that tells a row, where one does.
     ghost code_of: { Self → Option ℕ };
@@ -25,6 +26,9 @@ pub trait CodedRow: Copy + Ord {
     /// A number above all that tell a row.
     fn codes() -> u64
         ensures { result ≡ codes };
+
+    /// Rows that compare as equal are the same.
+    ghost tells_apart: { TellsApart Self.cmp };
 
     /// The number of a row leads back to it.
     ghost leads_back: { (row : Self) (code : ℕ) → code_of row ≡ Some code → row_of code ≡ row };

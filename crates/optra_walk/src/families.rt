@@ -8,7 +8,7 @@ ghost use Rattle.std.specs.Prelude.{◌≡◌, ℕ, ◌≤◌, ◌↔◌, ◌++�
 ghost use Rattle.optra_network.specs.Net.{Net, IsProper, MayUse};
 ghost use Rattle.optra_network.specs.declared.TypeId.{TypeId as Kind};
 ghost use Rattle.optra_walk.specs.declared.Leg.{Leg as Step};
-ghost use Rattle.optra_walk.specs.Families.{IsUsable, Entry, Rows, UseAlike, ListsRows, UsesFew, TellsApart, PlacesRise, FitRows};
+ghost use Rattle.optra_walk.specs.Families.{IsUsable, Entry, Rows, UseAlike, ListsRows, UsesFew, FitRows};
 
 use crate::Leg;
 use crate::coded_row::CodedRow;
@@ -36,12 +36,6 @@ pub trait RowFamily {
 
     /// So many rows a leg uses at most, on any network, and so much of them in all.
     ghost most: { Self → ℕ };
-
-    /// About where a row stands among all rows.
-    ghost place_of: { Self → Net → Self.Row → ℕ };
-
-    /// No row has a higher place.
-    ghost places_of: { Self → Net → ℕ };
 
     /// The rule on the legs of all trains together, each with its type.
     ghost KeepsRule: { Self → Net → List Entry → Type 0 };
@@ -86,6 +80,7 @@ pub trait RowFamily {
 
     /// Adds the rows that a usable leg of the type uses to a list, from place `from` on, in ascending order. They are
     /// those that `touched` answers from there on; a family may know them together at less cost than one by one.
+    /// `NoMemory` is its only refusal; the list then may hold a first part of them.
     fn list_touched(
         &self,
         net: &Network,
@@ -133,22 +128,6 @@ pub trait RowFamily {
         let _ = second;
         false
     }
-
-    /// About where the row stands among all rows: one that compares as less has no higher place. Rows that are to be sorted
-    /// fall into buckets by it; so places are at most [`RowFamily::places`], and few rows share one.
-    fn place(&self, net: &Network, row: Self::Row) -> usize
-        ensures { result ≡ place_of self.now net.now row };
-
-    /// No row has a higher place.
-    fn places(&self, net: &Network) -> usize
-        ensures { result ≡ places_of self.now net.now };
-
-    /// Rows that compare as equal are the same.
-    ghost tells_apart: { TellsApart Self.Row.cmp };
-
-    /// A row of the family that compares as less has no higher place.
-    ghost places_rise: { (f : Self) (net : Net) → IsProper net
-        → PlacesRise Self.Row.cmp (rows_of f net).is_row (place_of f net) (places_of f net) };
 
     /// The rows that a usable leg uses are listed ascending and each once; they are rows of the family, at most 8,192,
     /// and the uses add up to at most 8,192.

@@ -1,5 +1,6 @@
 //! Lists of rows in eight bytes each, since a plan names a million of them.
-ghost use Rattle.std.specs.Prelude.{◌≡◌, ◌<◌, ◌++◌, ◌∷◌, [], Some, IfSome, OnOk, length, map, slice_get};
+ghost use Rattle.std.specs.Prelude.{◌≡◌, ◌<◌, ◌↔◌, ◌++◌, ◌∷◌, [], IsTrue, Some, IfSome, OnOk, length, map, slice_get};
+ghost use Rattle.optra_walk.specs.RowLists.{AreCodes};
 
 use crate::coded_row::CodedRow;
 use optra_network::NoMemory;
@@ -31,6 +32,17 @@ impl<R: CodedRow> RowList<R> {
     {
         RowList {
             codes: Vec::new(alloc),
+            wide: Vec::new(alloc),
+        }
+    }
+
+    /// The rows that numbers tell.
+    pub fn from_codes(alloc: Global, codes: Vec<u64>) -> RowList<R>
+        requires { AreCodes R.code_of R.row_of codes.items }
+        ensures { result.items ≡ map R.row_of codes.items }
+    {
+        RowList {
+            codes,
             wide: Vec::new(alloc),
         }
     }
@@ -70,9 +82,26 @@ impl<R: CodedRow> RowList<R> {
         }
     }
 
+    /// Whether the row at a place is this one: by its number, so that the other is not made from its own. It is no where
+    /// no row stands at the place.
+    #[inline(always)]
+    pub fn has(&self, place: usize, row: R) -> bool
+        ensures { IsTrue result ↔ (slice_get self.now.items place ≡ Some row) }
+    {
+        let count = self.codes.len();
+        if place < count {
+            return row.code() == Some(self.codes[place]);
+        }
+        match self.wide.get(place - count) {
+            Some(other) => other.cmp(&row).is_eq(),
+            None => false,
+        }
+    }
+
     /// The numbers of all rows, where numbers tell all of them.
     pub fn codes(&self) -> Option<&[u64]>
-        ensures { IfSome result (λ codes. self.now.items ≡ map R.row_of codes.now) }
+        ensures rows { IfSome result (λ codes. self.now.items ≡ map R.row_of codes.now) }
+        ensures tell { IfSome result (λ codes. AreCodes R.code_of R.row_of codes.now) }
     {
         if self.wide.is_empty() {
             Some(&self.codes)

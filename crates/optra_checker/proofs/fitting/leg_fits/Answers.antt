@@ -29,10 +29,10 @@ loop-k-preserved g c =
     let row = c.in-Some.row in
     let k = c.loop-k.k in
     let at : slice_get used k ≡ Some row = sym c.touched.ensures ∙ c.in-Some.is in
-    let old = still cmp g.met.F.Row.Ord.total g.met.F.RowFamily.tells_apart used lists.ascending uses before now k row c.loop-k.invariant.raised at in
+    let old = still cmp g.met.F.Row.Ord.total g.met.F.Row.CodedRow.tells_apart used lists.ascending uses before now k row c.loop-k.invariant.raised at in
     let sum : c.in_ok-sum.sum ≡ before row + uses row = c.in_ok-sum.ensures.sum ∙ (λ i. old i + c.leg_use.ensures i) in
     record {
-      raised = raised_more cmp g.met.F.Row.Ord.total g.met.F.RowFamily.tells_apart used lists.ascending uses before now (total_of cmp c.raise.new.totals) k c.leg_use.result row
+      raised = raised_more cmp g.met.F.Row.Ord.total g.met.F.Row.CodedRow.tells_apart used lists.ascending uses before now (total_of cmp c.raise.new.totals) k c.leg_use.result row
           c.loop-k.invariant.raised at c.leg_use.ensures c.in_ok-sum.ensures.raised;
       fit = fits_more rows before uses used k row c.loop-k.fits c.still_fit-fits.result c.in_ok-sum.sum at sum c.loop-k.invariant.fit
           (let cap = c.cap.ensures in let both = c.still_fit-fits.ensures in
@@ -46,7 +46,7 @@ returns-in_default-clause-added g c =
     let uses = (g.F.RowFamily.rows_of f net).uses c.args.kind c.args.leg in
     let used = g.F.RowFamily.rows_used f net c.args.kind c.args.leg in
     let lists = g.met.F.RowFamily.lists_rows f net c.args.kind c.args.leg c.requires.usable in
-    raised_all g.F.Row.Ord.cmp g.met.F.Row.Ord.total g.met.F.RowFamily.tells_apart used lists.ascending uses (total_of g.F.Row.Ord.cmp c.args.totals.now) lists.used
+    raised_all g.F.Row.Ord.cmp g.met.F.Row.Ord.total g.met.F.Row.CodedRow.tells_apart used lists.ascending uses (total_of g.F.Row.Ord.cmp c.args.totals.now) lists.used
     (total_of g.F.Row.Ord.cmp c.loop-k.totals) c.loop-k.k (none_past used c.loop-k.k (sym c.touched.ensures ∙ c.in_default.is)) c.loop-k.invariant.raised
 
 pub returns-in_default-clause-within : goal.returns-in_default-clause-within
@@ -59,7 +59,7 @@ returns-in_default-clause-within g c =
     let used = g.F.RowFamily.rows_used f net c.args.kind c.args.leg in
     let lists = g.met.F.RowFamily.lists_rows f net c.args.kind c.args.leg c.requires.usable in
     let past = none_past used c.loop-k.k (sym c.touched.ensures ∙ c.in_default.is) in
-    let added = raised_all cmp g.met.F.Row.Ord.total g.met.F.RowFamily.tells_apart used lists.ascending uses (total_of cmp c.args.totals.now) lists.used
+    let added = raised_all cmp g.met.F.Row.Ord.total g.met.F.Row.CodedRow.tells_apart used lists.ascending uses (total_of cmp c.args.totals.now) lists.used
     (total_of cmp c.loop-k.totals) c.loop-k.k past c.loop-k.invariant.raised in
     fits_all rows cmp (total_of cmp c.args.totals.now) (total_of cmp c.loop-k.totals) uses used c.loop-k.k c.loop-k.fits lists past c.requires.within added c.loop-k.invariant.fit
 
@@ -71,7 +71,7 @@ returns-clause-added g c =
     let used = g.F.RowFamily.rows_used f net c.args.kind c.args.leg in
     let lists = g.met.F.RowFamily.lists_rows f net c.args.kind c.args.leg c.requires.usable in
     let few : length used ≤ c.loop-k.k = let few = lists.few in let past = c.loop-k-test.false in omega (arith, few, past) in
-    raised_all g.F.Row.Ord.cmp g.met.F.Row.Ord.total g.met.F.RowFamily.tells_apart used lists.ascending uses (total_of g.F.Row.Ord.cmp c.args.totals.now) lists.used
+    raised_all g.F.Row.Ord.cmp g.met.F.Row.Ord.total g.met.F.Row.CodedRow.tells_apart used lists.ascending uses (total_of g.F.Row.Ord.cmp c.args.totals.now) lists.used
     (total_of g.F.Row.Ord.cmp c.loop-k.totals) c.loop-k.k few c.loop-k.invariant.raised
 
 pub returns-clause-within : goal.returns-clause-within
@@ -84,7 +84,7 @@ returns-clause-within g c =
     let used = g.F.RowFamily.rows_used f net c.args.kind c.args.leg in
     let lists = g.met.F.RowFamily.lists_rows f net c.args.kind c.args.leg c.requires.usable in
     let past : length used ≤ c.loop-k.k = let few = lists.few in let past = c.loop-k-test.false in omega (arith, few, past) in
-    let added = raised_all cmp g.met.F.Row.Ord.total g.met.F.RowFamily.tells_apart used lists.ascending uses (total_of cmp c.args.totals.now) lists.used
+    let added = raised_all cmp g.met.F.Row.Ord.total g.met.F.Row.CodedRow.tells_apart used lists.ascending uses (total_of cmp c.args.totals.now) lists.used
     (total_of cmp c.loop-k.totals) c.loop-k.k past c.loop-k.invariant.raised in
     fits_all rows cmp (total_of cmp c.args.totals.now) (total_of cmp c.loop-k.totals) uses used c.loop-k.k c.loop-k.fits lists past c.requires.within added c.loop-k.invariant.fit
 

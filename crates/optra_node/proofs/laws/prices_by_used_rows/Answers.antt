@@ -30,7 +30,7 @@ returns g c prices kind leg usable =
     let total = g.met.F.Row.Ord.total in
     let lists = g.met.F.RowFamily.lists_rows f net kind leg usable in
     by_used_rows (eq_by_cmp cmp)
-    (λ a b e. g.met.F.RowFamily.tells_apart a b (equal_is (cmp a b) e))
+    (λ a b e. g.met.F.Row.CodedRow.tells_apart a b (equal_is (cmp a b) e))
     (λ a b e same. differ e (ap (eq_by_cmp cmp a) (sym same) ∙ ap is_eq (tied_itself total a)))
     uses rows
     (λ i j d l m same. tied (ascending_pairs cmp rows lists.ascending i j d l m) (ap (cmp _) (sym same) ∙ tied_itself total _))

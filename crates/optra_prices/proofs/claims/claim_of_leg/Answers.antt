@@ -24,7 +24,7 @@ loop-k-preserved g c =
     let row = c.in-Some.row in
     let at : slice_get used c.loop-k.k ≡ Some row = sym c.touched.ensures ∙ c.in-Some.is in
     let more = subst (λ (by : ℕ). ClaimsMore (number_in cmp numbering.order.items row) by old new) c.leg_use-uses.ensures c.in_ok-claim_row.ensures in
-    claims_more cmp numbering.rows.items (rows.uses c.args.kind c.args.leg) used g.met.F.Row.Ord.total g.met.F.RowFamily.tells_apart numbering.order.items c.requires.numbering rows.is_row c.loop-k.k row old new at more c.loop-k.invariant
+    claims_more cmp numbering.rows.items (rows.uses c.args.kind c.args.leg) used g.met.F.Row.Ord.total g.met.F.Row.CodedRow.tells_apart numbering.order.items c.requires.numbering rows.is_row c.loop-k.k row old new at more c.loop-k.invariant
 
 pub returns-in_default : goal.returns-in_default
 returns-in_default g c =
@@ -34,7 +34,7 @@ returns-in_default g c =
     let used = g.F.RowFamily.rows_used f net c.args.kind c.args.leg in
     let lists = g.met.F.RowFamily.lists_rows f net c.args.kind c.args.leg c.requires.usable in
     let past : length used ≤ c.loop-k.k = none_past used c.loop-k.k (sym c.touched.ensures ∙ c.in_default.is) in
-    claims_all g.F.Row.Ord.cmp c.args.numbering.now.rows.items (rows.uses c.args.kind c.args.leg) used g.met.F.Row.Ord.total g.met.F.RowFamily.tells_apart rows.is_row lists c.loop-k.k c.loop-k.claim past c.loop-k.invariant
+    claims_all g.F.Row.Ord.cmp c.args.numbering.now.rows.items (rows.uses c.args.kind c.args.leg) used g.met.F.Row.Ord.total g.met.F.Row.CodedRow.tells_apart rows.is_row lists c.loop-k.k c.loop-k.claim past c.loop-k.invariant
 
 pub returns : goal.returns
 returns g c =
@@ -44,4 +44,4 @@ returns g c =
     let used = g.F.RowFamily.rows_used f net c.args.kind c.args.leg in
     let lists = g.met.F.RowFamily.lists_rows f net c.args.kind c.args.leg c.requires.usable in
     let past : length used ≤ c.loop-k.k = let few = lists.few in omega arith in
-    claims_all g.F.Row.Ord.cmp c.args.numbering.now.rows.items (rows.uses c.args.kind c.args.leg) used g.met.F.Row.Ord.total g.met.F.RowFamily.tells_apart rows.is_row lists c.loop-k.k c.loop-k.claim past c.loop-k.invariant
+    claims_all g.F.Row.Ord.cmp c.args.numbering.now.rows.items (rows.uses c.args.kind c.args.leg) used g.met.F.Row.Ord.total g.met.F.Row.CodedRow.tells_apart rows.is_row lists c.loop-k.k c.loop-k.claim past c.loop-k.invariant

@@ -93,7 +93,7 @@ returns-clause-priced g c =
     let same = c.still.ensures.columns.groups_are in
     let fits : FitsSigned w128 c.dual_value-kept.result = search rules in
     let whole : FitsSigned w128 kept.levels.capacity = search rules in
-    course_priced cmp g.met.F.Row.Ord.total g.met.F.RowFamily.tells_apart s _ is.numbering.ordered c.args.inst.proper c.tests_tell_allowed.ensures c.prices_by_used_rows.ensures
+    course_priced cmp g.met.F.Row.Ord.total g.met.F.Row.CodedRow.tells_apart s _ is.numbering.ordered c.args.inst.proper c.tests_tell_allowed.ensures c.prices_by_used_rows.ensures
     (record {
       is = record {
         numbering = is.numbering;

@@ -45,6 +45,6 @@ returns-clause-prices g c =
     in
     let one : listed c.leave.new.kept.numbering.order.items prices ≡ start =
     ap (λ numbering. listed numbering.order.items prices) keeps.numbering
-    ∙ listed_one cmp g.met.F.Row.Ord.total g.met.F.RowFamily.tells_apart rows kept.numbering.order.items kept.numbering.rows.items is.numbering is.rows is.numbering.ordered prices put.levels.range start c.requires.start agrees c.requires.numbered
+    ∙ listed_one cmp g.met.F.Row.Ord.total g.met.F.Row.CodedRow.tells_apart rows kept.numbering.order.items kept.numbering.rows.items is.numbering is.rows is.numbering.ordered prices put.levels.range start c.requires.start agrees c.requires.numbered
     in
     on_ok_weaker c.arrive.result (λ e. e ∙ one) c.arrive.ensures.prices

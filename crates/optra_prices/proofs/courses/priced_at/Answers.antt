@@ -45,7 +45,7 @@ returns-clause-dual g c =
     let kept = c.args.kept.now in
     let is = c.requires.priced.course.is in
     let whole : FitsSigned w128 kept.levels.capacity = search rules in
-    let capacity = to_z-of_z w128 kept.levels.capacity whole ∙ is.levels.capacity_is ∙ capacity_is g.F.Row.Ord.cmp g.met.F.Row.Ord.total g.met.F.RowFamily.tells_apart s kept is.numbering.ordered is in
+    let capacity = to_z-of_z w128 kept.levels.capacity whole ∙ is.levels.capacity_is ∙ capacity_is g.F.Row.Ord.cmp g.met.F.Row.Ord.total g.met.F.Row.CodedRow.tells_apart s kept is.numbering.ordered is in
     c.in_ok-dual.ensures ∙ ap (λ (ts : List BidTable). valuation_of (to_z w128 (of_z w128 kept.levels.capacity)) ts c.deref-2.result.now) c.deref.ensures.value
     ∙ ap (λ (ss : List Standing). valuation_of (to_z w128 (of_z w128 kept.levels.capacity)) kept.tables.items ss) c.deref-2.ensures.value
     ∙ ap (λ (z : ℤ). valuation_of z kept.tables.items kept.standings.items) capacity

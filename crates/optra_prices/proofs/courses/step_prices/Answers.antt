@@ -50,7 +50,7 @@ returns-clause-step g c =
     let by = to_z w64 (of_z w64 c.step_length-by.result) in
     let is : by ≡ step_length c.args.inst.bids.now c.args.k = to_z-of_z w64 c.step_length-by.result fits ∙ c.step_length-by.ensures.value in
     let low : pos 1 ≤ℤ by = let a = c.step_length-by.ensures.range.0 in omega (arith, ints) in
-    step_made g.F.Row.Ord.cmp g.met.F.Row.Ord.total g.met.F.RowFamily.tells_apart s proper (λ kind leg usable. g.met.F.RowFamily.lists_rows f net kind leg usable) kept c.requires.course.is c.requires.course.is.numbering.ordered c.args.k by is low
+    step_made g.F.Row.Ord.cmp g.met.F.Row.Ord.total g.met.F.Row.CodedRow.tells_apart s proper (λ kind leg usable. g.met.F.RowFamily.lists_rows f net kind leg usable) kept c.requires.course.is c.requires.course.is.numbering.ordered c.args.k by is low
     used c.move_prices.new.levels counts.prices.prices counts.prices.capacities counts.levels.use_count uses moves.levels.range moves.prices
 
 pub move_prices-requires-clause-due : goal.move_prices-requires-clause-due

@@ -9,7 +9,7 @@ returns g c =
     let rows = g.F.RowFamily.rows_of c.args.rows.now net in
     let cmp = g.F.Row.Ord.cmp in
     let total = g.met.F.Row.Ord.total in
-    let apart = g.met.F.RowFamily.tells_apart in
+    let apart = g.met.F.Row.CodedRow.tells_apart in
     record {
       one_price_list = λ a b proper proper' h. one_price_list cmp total apart rows a b proper.ascending proper.each proper'.ascending proper'.each h;
       one_valuation = valuation_unique net rows bids;

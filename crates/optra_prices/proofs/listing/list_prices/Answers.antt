@@ -13,6 +13,6 @@ returns g c =
     let order = c.args.numbering.now.order.items in
     let numbered = c.args.numbering.now.rows.items in
     let sorted = c.sort_by_key.new.self.items in
-    active_listed g.F.Row.Ord.cmp g.met.F.Row.Ord.total g.met.F.RowFamily.tells_apart order numbered c.requires.numbering levels c.requires.levels c.requires.count sorted
+    active_listed g.F.Row.Ord.cmp g.met.F.Row.Ord.total g.met.F.Row.CodedRow.tells_apart order numbered c.requires.numbering levels c.requires.levels c.requires.count sorted
     (subst (λ (es : PriceList g.row.F-Row.Denot). IsPermutation es sorted) (c.in_ok-entries.ensures ∙ ap (λ (rs : List g.row.F-Row.Denot). listed (rows_at rs levels.active.items) levels.prices.items) c.rows.ensures) c.sort_by_key.ensures.permutation)
     (c.in_ok-sort_by_key.ensures.sorted (λ e. e.0) (answers_always _ _ _ (λ f a r h called. search rules)))

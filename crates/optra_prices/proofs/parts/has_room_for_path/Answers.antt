@@ -47,7 +47,7 @@ returns g c bid t total bid_at graph room =
     let arcs = (is.tables.each number bid table bid_at at).arcs_are in
     let route = c.requires.route table.graph.now (table, at, refl) in
     let within = route_within table arcs.count path route in
-    let tells = each_tells g.F.Row.Ord.cmp g.met.F.Row.Ord.total g.met.F.RowFamily.tells_apart s proper lists kept.numbering.order.items kept.numbering.rows.items is.numbering kept.columns.groups number bid table arcs path within route total c.args.room.now room in
+    let tells = each_tells g.F.Row.Ord.cmp g.met.F.Row.Ord.total g.met.F.Row.CodedRow.tells_apart s proper lists kept.numbering.order.items kept.numbering.rows.items is.numbering kept.columns.groups number bid table arcs path within route total c.args.room.now room in
     let same : table.graph.now ≡ t = ap (λ (x : BidTable). x.graph.now) (same_Some table graph.0 (sym at ∙ graph.1)) ∙ graph.2 in
     let r = c.has_room_for_each.result in
     subst (λ (t : Timed). IsTrue r ↔ All (HasRoom s.rows total bid.path.kind) (walk_of t path)) same ((λ is_so. tells.0 (c.has_room_for_each.ensures.0 is_so)), (λ all. c.has_room_for_each.ensures.1 (tells.1 all)))

@@ -71,8 +71,8 @@ returns-then-are_arcs_within g c bid t total bid_at graph below room =
     let route = c.requires.route table.graph.now (table, at, refl) in
     let within = route_within table arcs.count path route in
     let new = c.add_arcs.new.room in
-    let added = adds_path g.F.Row.Ord.cmp g.met.F.Row.Ord.total g.met.F.RowFamily.tells_apart s proper lists kept.numbering.order.items kept.numbering.rows.items is.numbering kept.columns.groups number bid table arcs path within route total c.args.room.now new room c.in_ok-add_arcs.ensures.uses c.in_ok-add_arcs.ensures.capacities in
-    let fits = path_fits g.F.Row.Ord.cmp g.met.F.Row.Ord.total g.met.F.RowFamily.tells_apart s proper lists kept.numbering.order.items kept.numbering.rows.items is.numbering kept.columns.groups number bid table arcs path within route total new added below (c.are_arcs_within.ensures.0 c.if-are_arcs_within.true) in
+    let added = adds_path g.F.Row.Ord.cmp g.met.F.Row.Ord.total g.met.F.Row.CodedRow.tells_apart s proper lists kept.numbering.order.items kept.numbering.rows.items is.numbering kept.columns.groups number bid table arcs path within route total c.args.room.now new room c.in_ok-add_arcs.ensures.uses c.in_ok-add_arcs.ensures.capacities in
+    let fits = path_fits g.F.Row.Ord.cmp g.met.F.Row.Ord.total g.met.F.Row.CodedRow.tells_apart s proper lists kept.numbering.order.items kept.numbering.rows.items is.numbering kept.columns.groups number bid table arcs path within route total new added below (c.are_arcs_within.ensures.0 c.if-are_arcs_within.true) in
     let same : table.graph.now ≡ t = ap (λ (x : BidTable). x.graph.now) (same_Some table graph.0 (sym at ∙ graph.1)) ∙ graph.2 in
     subst (λ (t : Timed). IsPutIn s.rows kept bid.path.kind (walk_of t path) true total new) same (fits, added)
 
@@ -97,11 +97,11 @@ returns g c bid t total bid_at graph below room =
     let within = route_within table arcs.count path route in
     let mid = c.add_arcs.new.room in
     let new = c.take_arcs.new.room in
-    let added = adds_path g.F.Row.Ord.cmp g.met.F.Row.Ord.total g.met.F.RowFamily.tells_apart s proper lists kept.numbering.order.items kept.numbering.rows.items is.numbering kept.columns.groups number bid table arcs path within route total c.args.room.now mid room c.in_ok-add_arcs.ensures.uses c.in_ok-add_arcs.ensures.capacities in
-    let taken = takes_path g.F.Row.Ord.cmp g.met.F.Row.Ord.total g.met.F.RowFamily.tells_apart s proper lists kept.numbering.order.items kept.numbering.rows.items is.numbering kept.columns.groups number bid table arcs path within route total mid new added c.take_arcs.ensures.uses c.take_arcs.ensures.capacities in
+    let added = adds_path g.F.Row.Ord.cmp g.met.F.Row.Ord.total g.met.F.Row.CodedRow.tells_apart s proper lists kept.numbering.order.items kept.numbering.rows.items is.numbering kept.columns.groups number bid table arcs path within route total c.args.room.now mid room c.in_ok-add_arcs.ensures.uses c.in_ok-add_arcs.ensures.capacities in
+    let taken = takes_path g.F.Row.Ord.cmp g.met.F.Row.Ord.total g.met.F.Row.CodedRow.tells_apart s proper lists kept.numbering.order.items kept.numbering.rows.items is.numbering kept.columns.groups number bid table arcs path within route total mid new added c.take_arcs.ensures.uses c.take_arcs.ensures.capacities in
     let same : table.graph.now ≡ t = ap (λ (x : BidTable). x.graph.now) (same_Some table graph.0 (sym at ∙ graph.1)) ∙ graph.2 in
     subst (λ (t : Timed). IsPutIn s.rows kept bid.path.kind (walk_of t path) false total new) same (
-      (λ have. no (sym c.if-are_arcs_within.false ∙ c.are_arcs_within.ensures.1 (path_told g.F.Row.Ord.cmp g.met.F.Row.Ord.total g.met.F.RowFamily.tells_apart s proper lists kept.numbering.order.items kept.numbering.rows.items is.numbering kept.columns.groups number bid table arcs path within route total mid added is.rows have))),
+      (λ have. no (sym c.if-are_arcs_within.false ∙ c.are_arcs_within.ensures.1 (path_told g.F.Row.Ord.cmp g.met.F.Row.Ord.total g.met.F.Row.CodedRow.tells_apart s proper lists kept.numbering.order.items kept.numbering.rows.items is.numbering kept.columns.groups number bid table arcs path within route total mid added is.rows have))),
       taken,
     )
   where

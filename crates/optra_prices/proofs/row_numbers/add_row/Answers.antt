@@ -12,7 +12,7 @@ gap_of-place-requires-clause-other g c =
     let cmp = g.F.Row.Ord.cmp in
     let inside = c.numbering.inside in
     subst (λ (es : List (g.row.F-Row.Denot × ℕ)). number_in cmp es c.args.row ≡ None) (sym c.deref.ensures.value)
-    (later_none cmp g.met.F.Row.Ord.total g.met.F.RowFamily.tells_apart (take inside.sorted inside.rows.items) inside.later.items c.args.row
+    (later_none cmp g.met.F.Row.Ord.total g.met.F.Row.CodedRow.tells_apart (take inside.sorted inside.rows.items) inside.later.items c.args.row
     (subst (λ (v : RowNumbering g.row.F-Row.Denot). number_in cmp v.order.items c.args.row ≡ None) (sym c.numbering.view_is) c.requires.other))
 
 pub invariant_of-numbering-2 : goal.invariant_of-numbering-2
@@ -38,7 +38,7 @@ returns-clause-numbering g c =
     let same : take inside.sorted c.push.new.self.items ≡ first = ap (take inside.sorted) pushed ∙ take-append-le inside.sorted inside.rows.items _ is.within in
     subst (λ (rows : List g.row.F-Row.Denot). IsNumbering cmp (order_of cmp (take inside.sorted c.push.new.self.items) c.insert.new.self.items) rows) (sym pushed)
     (subst (λ (rows : List g.row.F-Row.Denot). IsNumbering cmp (order_of cmp rows c.insert.new.self.items) (inside.rows.items ++ c.args.row ∷ [])) (sym same)
-    (numbering_added cmp g.met.F.Row.Ord.total g.met.F.RowFamily.tells_apart first inside.rows.items inside.later.items c.insert.new.self.items c.args.row c.gap_of-place.result c.len-number.result is.first
+    (numbering_added cmp g.met.F.Row.Ord.total g.met.F.Row.CodedRow.tells_apart first inside.rows.items inside.later.items c.insert.new.self.items c.args.row c.gap_of-place.result c.len-number.result is.first
     (subst (λ (v : RowNumbering g.row.F-Row.Denot). IsNumbering cmp v.order.items v.rows.items) (sym c.numbering.view_is) c.requires.numbering)
     (subst (λ (v : RowNumbering g.row.F-Row.Denot). number_in cmp v.order.items c.args.row ≡ None) (sym c.numbering.view_is) c.requires.other)
     (subst (λ (es : List (g.row.F-Row.Denot × ℕ)). IsGap cmp es c.args.row c.gap_of-place.result) c.deref.ensures.value c.gap_of-place.ensures) (omega (arith, c.len-number.ensures, inside.rows.ok.0)) c.in_ok-insert.ensures.items))

@@ -15,7 +15,7 @@ returns-in-Ok g c =
     let is = c.binary_search_by_key.ensures.position (λ e. e.0) (answers_always _ _ _ (λ f a r h called. search rules)) in
     let bound = c.binary_search_by_key.ensures.bound in
     let there = some_at later k (found_within r k (length later) c.in-Ok.is bound) in
-    absurd (none-some there.0.1 (sym c.requires.other ∙ search_found cmp g.met.F.Row.Ord.total later row r k there.0 g.met.F.RowFamily.tells_apart c.in-Ok.is c.requires.up is there.1))
+    absurd (none-some there.0.1 (sym c.requires.other ∙ search_found cmp g.met.F.Row.Ord.total later row r k there.0 g.met.F.Row.CodedRow.tells_apart c.in-Ok.is c.requires.up is there.1))
 
 pub returns-in-Err : goal.returns-in-Err
 returns-in-Err g c =

@@ -18,7 +18,7 @@ returns-in-Ok g c =
     let first = take inside.sorted inside.rows.items in
     let is : IsBinarySearchResult (λ y. cmp y row) first r = subst (λ (rows : List g.row.F-Row.Denot). IsBinarySearchResult (λ y. cmp y row) (take inside.sorted rows) r) c.deref.ensures.value c.binary_search.ensures.position in
     let bound : IsSearchInRange r (length first) = subst (λ (rows : List g.row.F-Row.Denot). IsSearchInRange r (length (take inside.sorted rows))) c.deref.ensures.value c.binary_search.ensures.bound in
-    let at : slice_get inside.rows.items k ≡ Some row = taken_at inside.sorted inside.rows.items k row (rows_found cmp g.met.F.Row.Ord.total g.met.F.RowFamily.tells_apart first row r k c.in-Ok.is bound is) in
+    let at : slice_get inside.rows.items k ≡ Some row = taken_at inside.sorted inside.rows.items k row (rows_found cmp g.met.F.Row.Ord.total g.met.F.Row.CodedRow.tells_apart first row r k c.in-Ok.is bound is) in
     sym (c.requires.known k row (sym (ap (λ (v : RowNumbering g.row.F-Row.Denot). slice_get v.rows.items k) c.numbering.view_is) ∙ at))
 
 pub returns-in-Ok-binary_search_by_key : goal.returns-in-Ok-binary_search_by_key
@@ -34,9 +34,9 @@ returns-in-Ok-binary_search_by_key g c =
     let bound : IsSearchInRange r (length later) = subst (λ (es : List (g.row.F-Row.Denot × ℕ)). IsSearchInRange r (length es)) c.deref-2.ensures.value c.binary_search_by_key.ensures.bound in
     let e = c.index.result.now in
     let at : slice_get later k ≡ Some e = slice_get_read later (length later) k e refl (found_within r k (length later) c.in-Ok-binary_search_by_key.is bound) c.index.ensures in
-    let has = search_found cmp g.met.F.Row.Ord.total later row r k e g.met.F.RowFamily.tells_apart c.in-Ok-binary_search_by_key.is c.numbering.invariant.rest is at in
+    let has = search_found cmp g.met.F.Row.Ord.total later row r k e g.met.F.Row.CodedRow.tells_apart c.in-Ok-binary_search_by_key.is c.numbering.invariant.rest is at in
     sym (sym (ap (λ (v : RowNumbering g.row.F-Row.Denot). number_in cmp v.order.items row) c.numbering.view_is)
-    ∙ put_some cmp g.met.F.Row.Ord.total g.met.F.RowFamily.tells_apart later (placed_from 0 (take inside.sorted inside.rows.items)) row e.1 has)
+    ∙ put_some cmp g.met.F.Row.Ord.total g.met.F.Row.CodedRow.tells_apart later (placed_from 0 (take inside.sorted inside.rows.items)) row e.1 has)
 
 pub returns-in-Err : goal.returns-in-Err
 returns-in-Err g c =
@@ -54,4 +54,4 @@ returns-in-Err g c =
     let bound : IsSearchInRange q (length later) = subst (λ (es : List (g.row.F-Row.Denot × ℕ)). IsSearchInRange q (length es)) c.deref-2.ensures.value c.binary_search_by_key.ensures.bound in
     let none = gap_none cmp g.met.F.Row.Ord.total later row k c.numbering.invariant.rest (search_gap cmp g.met.F.Row.Ord.total later row q k c.in-Err.is c.numbering.invariant.rest bound is) in
     sym (sym (ap (λ (v : RowNumbering g.row.F-Row.Denot). number_in cmp v.order.items row) c.numbering.view_is)
-    ∙ order_none cmp g.met.F.Row.Ord.total g.met.F.RowFamily.tells_apart first later row (rows_missed cmp g.met.F.Row.Ord.total first row r c.in_default.field-0 c.in_default.is c.numbering.invariant.first missed) none)
+    ∙ order_none cmp g.met.F.Row.Ord.total g.met.F.Row.CodedRow.tells_apart first later row (rows_missed cmp g.met.F.Row.Ord.total first row r c.in_default.field-0 c.in_default.is c.numbering.invariant.first missed) none)

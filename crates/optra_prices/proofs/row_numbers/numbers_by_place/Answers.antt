@@ -22,4 +22,4 @@ returns-clause-numbering g c =
     let rows = c.args.rows.items in
     let all : take c.len-sorted.result rows ≡ rows = take_all c.len-sorted.result rows (omega (arith, c.len-sorted.ensures, c.args.rows.ok.0)) in
     subst (λ (later : List (g.row.F-Row.Denot × ℕ)). IsNumbering cmp (order_of cmp (take c.len-sorted.result rows) later) rows) (sym c.new.ensures.items)
-    (subst (λ (first : List g.row.F-Row.Denot). IsNumbering cmp (order_of cmp first []) rows) (sym all) (numbering_placed cmp g.met.F.Row.Ord.total g.met.F.RowFamily.tells_apart rows c.requires))
+    (subst (λ (first : List g.row.F-Row.Denot). IsNumbering cmp (order_of cmp first []) rows) (sym all) (numbering_placed cmp g.met.F.Row.Ord.total g.met.F.Row.CodedRow.tells_apart rows c.requires))

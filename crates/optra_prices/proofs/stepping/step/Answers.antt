@@ -41,5 +41,5 @@ returns g c =
     let whole = to_z-of_z w64 c.step_length-length.result fits in
     let is : length ≡ step_length bids c.args.k = whole ∙ c.step_length-length.ensures.value in
     let low : pos 1 ≤ℤ length = let a = c.step_length-length.ensures.range.0 in omega (arith, ints) in
-    let made = made_step cmp g.met.F.Row.Ord.total g.met.F.RowFamily.tells_apart rows bids replies c.args.k old c.requires.prices.each (λ row is_row. g.met.F.RowFamily.capacity_fits c.args.rows.now c.args.inst.net.now row c.args.inst.proper is_row) length m is low c.len-count.ensures.ordered holds in
+    let made = made_step cmp g.met.F.Row.Ord.total g.met.F.Row.CodedRow.tells_apart rows bids replies c.args.k old c.requires.prices.each (λ row is_row. g.met.F.RowFamily.capacity_fits c.args.rows.now c.args.inst.net.now row c.args.inst.proper is_row) length m is low c.len-count.ensures.ordered holds in
     IfOk-weaker c.made_prices.result (λ new. new ≡ stepped (next_held rows length) m.entries) (IsStep cmp rows bids replies c.args.k old) (λ new e. subst (IsStep cmp rows bids replies c.args.k old) (sym e) made) c.made_prices.ensures

@@ -13,7 +13,7 @@ returns-then-is_eq-clause-place g c =
     let known = c.index.result.now in
     let at : slice_get named c.args.guess ≡ Some known = slice_get_read named (length named) c.args.guess known refl (omega (arith, c.if-guess-len.true, c.len.ensures, c.args.named.now.ok.0)) c.index.ensures in
     let tie : is_eq (cmp known row) ≡ true = sym (c.is_eq.ensures ∙ ap is_eq c.cmp.ensures) ∙ c.if-is_eq.true in
-    at ∙ ap Some (g.met.F.RowFamily.tells_apart known row (equal_is (cmp known row) tie))
+    at ∙ ap Some (g.met.F.Row.CodedRow.tells_apart known row (equal_is (cmp known row) tie))
 
 pub returns-clause-place : goal.returns-clause-place
 returns-clause-place g c =

@@ -7,7 +7,7 @@ use Rattle.optra_prices.proofs.using.add_leg.Goals as goal
 
 pub loop-k-init : goal.loop-k-init
 loop-k-init g c =
-    adds_none g.F.Row.Ord.cmp g.met.F.Row.Ord.total g.met.F.RowFamily.tells_apart (g.F.RowFamily.rows_of c.args.rows.now c.args.net.now).is_row c.args.held.now
+    adds_none g.F.Row.Ord.cmp g.met.F.Row.Ord.total g.met.F.Row.CodedRow.tells_apart (g.F.RowFamily.rows_of c.args.rows.now c.args.net.now).is_row c.args.held.now
 
 pub loop-k-preserved : goal.loop-k-preserved
 loop-k-preserved g c =
@@ -18,7 +18,7 @@ loop-k-preserved g c =
     let used = g.F.RowFamily.rows_used f net c.args.kind c.args.leg in
     let cmp = g.F.Row.Ord.cmp in
     let total = g.met.F.Row.Ord.total in
-    let apart = g.met.F.RowFamily.tells_apart in
+    let apart = g.met.F.Row.CodedRow.tells_apart in
     let lists = g.met.F.RowFamily.lists_rows f net c.args.kind c.args.leg c.requires in
     let k = c.loop-k.k in
     let row = c.in-Some.row in
@@ -36,7 +36,7 @@ returns-in_default g c =
     let used = g.F.RowFamily.rows_used f net c.args.kind c.args.leg in
     let cmp = g.F.Row.Ord.cmp in
     let total = g.met.F.Row.Ord.total in
-    let apart = g.met.F.RowFamily.tells_apart in
+    let apart = g.met.F.Row.CodedRow.tells_apart in
     let lists = g.met.F.RowFamily.lists_rows f net c.args.kind c.args.leg c.requires in
     let past : length used ≤ c.loop-k.k = none_past used c.loop-k.k (sym c.touched.ensures ∙ c.in_default.is) in
     adds_same cmp total apart rows.is_row c.args.held.now c.loop-k.held _ uses
@@ -51,7 +51,7 @@ returns g c =
     let used = g.F.RowFamily.rows_used f net c.args.kind c.args.leg in
     let cmp = g.F.Row.Ord.cmp in
     let total = g.met.F.Row.Ord.total in
-    let apart = g.met.F.RowFamily.tells_apart in
+    let apart = g.met.F.Row.CodedRow.tells_apart in
     let lists = g.met.F.RowFamily.lists_rows f net c.args.kind c.args.leg c.requires in
     let past : length used ≤ c.loop-k.k = let few = lists.few in omega arith in
     adds_same cmp total apart rows.is_row c.args.held.now c.loop-k.held _ uses

@@ -11,7 +11,7 @@ use Rattle.optra_prices.proofs.using.add_replies.Goals as goal
 
 pub loop-number-init : goal.loop-number-init
 loop-number-init g c =
-    adds_none g.F.Row.Ord.cmp g.met.F.Row.Ord.total g.met.F.RowFamily.tells_apart (g.F.RowFamily.rows_of c.args.rows.now c.args.inst.net.now).is_row c.args.held.now
+    adds_none g.F.Row.Ord.cmp g.met.F.Row.Ord.total g.met.F.Row.CodedRow.tells_apart (g.F.RowFamily.rows_of c.args.rows.now c.args.inst.net.now).is_row c.args.held.now
 
 pub bounds-bids-number : goal.bounds-bids-number
 bounds-bids-number g c =
@@ -47,7 +47,7 @@ loop-number-preserved g c =
     let walk = c.index-replies-number.result in
     let bid_at : slice_get bids n ≡ Some bid = slice_get_read bids (length bids) n bid refl l c.index-bids-number.is in
     let walk_at : slice_get walks n ≡ Some walk = slice_get_read walks (length walks) n walk refl m c.index-replies-number.is in
-    adds_both g.F.Row.Ord.cmp g.met.F.Row.Ord.total g.met.F.RowFamily.tells_apart rows.is_row c.args.held.now c.loop-number.held c.add_reply.new.held _ _ _
+    adds_both g.F.Row.Ord.cmp g.met.F.Row.Ord.total g.met.F.Row.CodedRow.tells_apart rows.is_row c.args.held.now c.loop-number.held c.add_reply.new.held _ _ _
     (λ q. replies_more rows bids walks n bid walk q bid_at walk_at) c.loop-number.invariant c.in_ok-add_reply.ensures
 
 pub returns : goal.returns
@@ -59,5 +59,5 @@ returns g c =
     let e = zip_length (λ (b : Bid) (o : Option (List Leg)). IfSome o (IsWalk c.args.inst.net.now b.path)) bids walks c.requires in
     let past : length walks ≤ n = omega arith in
     let past_bids : length bids ≤ n = omega arith in
-    adds_same g.F.Row.Ord.cmp g.met.F.Row.Ord.total g.met.F.RowFamily.tells_apart rows.is_row c.args.held.now c.loop-number.held _ _
+    adds_same g.F.Row.Ord.cmp g.met.F.Row.Ord.total g.met.F.Row.CodedRow.tells_apart rows.is_row c.args.held.now c.loop-number.held _ _
     (λ q. ap (λ (xs : List Bid). load_of rows q (entries_of xs (take n walks))) (take_all n bids past_bids) ∙ ap (λ (ys : List (Option (List Leg))). load_of rows q (entries_of bids ys)) (take_all n walks past)) c.loop-number.invariant

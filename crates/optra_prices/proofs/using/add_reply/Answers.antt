@@ -25,7 +25,7 @@ returns-in_default g c =
     let bid = c.args.bid.now in
     let cmp = g.F.Row.Ord.cmp in
     let total = g.met.F.Row.Ord.total in
-    let apart = g.met.F.RowFamily.tells_apart in
+    let apart = g.met.F.Row.CodedRow.tells_apart in
     adds_same cmp total apart rows.is_row c.args.held.now c.args.held.now (λ q. 0) _ (λ q. ap (λ (o : Option (List Leg)). load_of rows q (entries_one bid o)) (sym c.in_default.is)) (adds_none cmp total apart rows.is_row c.args.held.now)
 
 pub returns : goal.returns
@@ -33,7 +33,7 @@ returns g c =
     let rows = g.F.RowFamily.rows_of c.args.rows.now c.args.net.now in
     let bid = c.args.bid.now in
     let cmp = g.F.Row.Ord.cmp in
-    adds_same cmp g.met.F.Row.Ord.total g.met.F.RowFamily.tells_apart rows.is_row c.args.held.now c.add_legs.new.held _ _
+    adds_same cmp g.met.F.Row.Ord.total g.met.F.Row.CodedRow.tells_apart rows.is_row c.args.held.now c.add_legs.new.held _ _
     (λ q.
     ap (λ (k : TypeId). load_of rows q (map (λ leg. (k, leg)) c.legs_of.result.now)) c.kind_of.ensures
     ∙ ap (λ (legs : List Leg). load_of rows q (map (λ leg. (bid.path.kind, leg)) legs)) c.legs_of.ensures

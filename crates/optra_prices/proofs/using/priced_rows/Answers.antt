@@ -20,7 +20,7 @@ loop-entry-preserved g c =
     let at : slice_get entries i ≡ Some e = slice_get_read entries (length entries) i e refl c.loop-entry-test.true c.entry-item.is in
     let fits : FitsSigned w64 c.entry-item.result.1 = search rules in
     let priced = all_at (IsPrice rows) entries i e c.requires.each at in
-    holds_price g.F.Row.Ord.cmp g.met.F.Row.Ord.total g.met.F.RowFamily.tells_apart rows.is_row entries i e c.loop-entry.held c.insert.new.self _ c.requires.ascending at priced.is_row (to_z-of_z w64 e.1 fits) refl c.in_ok-insert.ensures.updates.0 c.loop-entry.invariant
+    holds_price g.F.Row.Ord.cmp g.met.F.Row.Ord.total g.met.F.Row.CodedRow.tells_apart rows.is_row entries i e c.loop-entry.held c.insert.new.self _ c.requires.ascending at priced.is_row (to_z-of_z w64 e.1 fits) refl c.in_ok-insert.ensures.updates.0 c.loop-entry.invariant
 
 pub returns : goal.returns
 returns g c =

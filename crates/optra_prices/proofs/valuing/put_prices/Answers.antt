@@ -39,7 +39,7 @@ loop-entry-preserved g c =
       count = sets_count cmp rows e old new is.prices ∙ inv.count;
       agrees = agrees_more cmp g.met.F.Row.Ord.total rows old new entries i e
           (λ j k row j_at k_at. same_Some j k (sym (c.requires.numbering.known j row j_at) ∙ c.requires.numbering.known k row k_at))
-          g.met.F.RowFamily.tells_apart inv.count inv.agrees c.requires.ascending at is.prices;
+          g.met.F.Row.CodedRow.tells_apart inv.count inv.agrees c.requires.ascending at is.prices;
       levels = is.levels;
       columns = subst (λ (groups : Groups). IsColumns groups c.put_row_price.new.columns) inv.columns.groups_are is.columns;
       due = is.due;

@@ -29,4 +29,4 @@ returns-in_default-clause-prices g c =
     let order = c.args.numbering.now.order.items in
     let cmp = g.F.Row.Ord.cmp in
     let none : number_in cmp order c.args.entry.0 ≡ None = sym c.number_of.ensures ∙ c.in_default.is in
-    inr ((λ n row at tie. none-some n (sym none ∙ ap (number_in cmp order) (sym (g.met.F.RowFamily.tells_apart row c.args.entry.0 tie)) ∙ c.requires.numbering.known n row at)), refl)
+    inr ((λ n row at tie. none-some n (sym none ∙ ap (number_in cmp order) (sym (g.met.F.Row.CodedRow.tells_apart row c.args.entry.0 tie)) ∙ c.requires.numbering.known n row at)), refl)

@@ -13,7 +13,7 @@ returns g c =
     let rows = g.F.RowFamily.rows_of c.args.rows.now net in
     let cmp = g.F.Row.Ord.cmp in
     let total = g.met.F.Row.Ord.total in
-    let apart = g.met.F.RowFamily.tells_apart in
+    let apart = g.met.F.Row.CodedRow.tells_apart in
     let one = c.price_laws.ensures.one_result in
     record {
       one_turn = turn_unique cmp total apart net rows bids one;
