@@ -23,7 +23,7 @@ use crate::rooms::{Room, Told, tell_group};
 use crate::row_numbers::RowNumbers;
 use optra_graph::TimeGraph;
 use optra_network::NoMemory;
-use optra_walk::{Instance, RowFamily};
+use optra_walk::{CodedRow, Instance, RowFamily};
 
 /// Whether the arc may be taken, where it is known whether there is room for what it touches and whether the bid has
 /// decisions of its own.
@@ -130,7 +130,7 @@ fn allow_table<F: RowFamily>(
 
 /// Rows by number, and the groups that touch them.
 #[derive(Drop)]
-pub(crate) struct Grouping<'a, R: Copy + Ord> {
+pub(crate) struct Grouping<'a, R: CodedRow> {
     pub(crate) numbering: &'a RowNumbers<R>,
     pub(crate) groups: &'a Groups,
 }

@@ -7,12 +7,13 @@ use crate::levels::Levels;
 use crate::numbering::{BidTable, Standing};
 use crate::row_numbers::RowNumbers;
 use optra_dag::Buffers;
+use optra_walk::CodedRow;
 
 /// Rows by number, and for each bid what its arcs add and which rows they touch. They are made once for a plan, and serve
 /// at each of its nodes. What is known of each bid is kept twice: at zero prices, with which each price path begins, and
 /// at the prices to which the last one came.
 #[derive(Drop)]
-pub struct ArcTables<'g, R: Copy + Ord> {
+pub struct ArcTables<'g, R: CodedRow> {
     pub(crate) numbering: RowNumbers<R>,
     /// The prices of rows, by number.
     pub(crate) levels: Levels,

@@ -15,7 +15,7 @@ use crate::levels::copy_prices;
 use crate::path_ends::PathEnds;
 use optra_network::{Cents, NoMemory};
 use optra_node::Node;
-use optra_walk::{Instance, RowFamily};
+use optra_walk::{CodedRow, Instance, RowFamily};
 use std::alloc::Global;
 
 /// The best candidate so far: its prices above zero by the rows' numbers, and its dual value.
@@ -26,7 +26,7 @@ pub(crate) struct Best {
 }
 
 /// Keeps the candidate where its dual value is less than that of each one before it.
-fn keep_less<R: Copy + Ord>(best: &mut Best, kept: &ArcTables<'_, R>) -> Result<(), NoMemory>
+fn keep_less<R: CodedRow>(best: &mut Best, kept: &ArcTables<'_, R>) -> Result<(), NoMemory>
     requires { IsLevels kept.now.levels }
     ensures { OnOk result (KeepsLess kept.now best.old best.new) }
 {

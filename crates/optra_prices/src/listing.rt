@@ -11,7 +11,7 @@ use crate::rooms::unused;
 use crate::row_numbers::{RowNumbers, number};
 use crate::stepping::push_price;
 use optra_network::{Network, NoMemory};
-use optra_walk::RowFamily;
+use optra_walk::{CodedRow, RowFamily, RowList};
 use std::alloc::Global;
 
 /// Gives each listed row a number, where it has none yet.
@@ -45,15 +45,15 @@ pub(crate) fn first_levels<F: RowFamily>(
     alloc: Global,
     net: &Network,
     rows: &F,
-    numbered: &[F::Row],
+    numbered: &RowList<F::Row>,
 ) -> Result<Levels, NoMemory>
-    requires { All (λ row. (F.rows_of rows.now net.now).is_row row ≡ true) numbered.now }
+    requires { All (λ row. (F.rows_of rows.now net.now).is_row row ≡ true) numbered.now.items }
     ensures levels { IfOk result IsLevels }
     ensures unused { IfOk result AreUnused }
     ensures capacities { IfOk result (λ levels. HaveCapacities (F.rows_of rows.now net.now)
-        numbered.now levels.loads.capacities) }
+        numbered.now.items levels.loads.capacities) }
     ensures prices { IfOk result (λ levels. levels.prices.items
-        ≡ replicate (length numbered.now) (pos 0)) }
+        ≡ replicate (length numbered.now.items) (pos 0)) }
 {
     net.laws();
     let loads = unused(alloc, net, rows, numbered)?;
@@ -66,44 +66,44 @@ pub(crate) fn widen<F: RowFamily>(
     levels: &mut Levels,
     net: &Network,
     rows: &F,
-    numbered: &[F::Row],
+    numbered: &RowList<F::Row>,
 ) -> Result<(), NoMemory>
     requires levels { IsLevels levels.old }
     requires unused { AreUnused levels.old }
-    requires rows { All (λ row. (F.rows_of rows.now net.now).is_row row ≡ true) numbered.now }
-    requires few { length levels.old.prices.items ≤ length numbered.now }
+    requires rows { All (λ row. (F.rows_of rows.now net.now).is_row row ≡ true) numbered.now.items }
+    requires few { length levels.old.prices.items ≤ length numbered.now.items }
     requires capacities { HaveCapacities (F.rows_of rows.now net.now)
-        (take (length levels.old.prices.items) numbered.now) levels.old.loads.capacities }
+        (take (length levels.old.prices.items) numbered.now.items) levels.old.loads.capacities }
     ensures levels { OnOk result (IsLevels levels.new) }
     ensures unused { OnOk result (AreUnused levels.new) }
-    ensures capacities { OnOk result (HaveCapacities (F.rows_of rows.now net.now) numbered.now
+    ensures capacities { OnOk result (HaveCapacities (F.rows_of rows.now net.now) numbered.now.items
         levels.new.loads.capacities) }
     ensures prices { OnOk result (AddsZeros levels.old.prices.items levels.new.prices.items) }
-    ensures count { OnOk result (length levels.new.prices.items ≡ length numbered.now) }
+    ensures count { OnOk result (length levels.new.prices.items ≡ length numbered.now.items) }
 {
     net.laws();
     reserve_levels(levels, numbered.len())?;
     for n in levels.prices.len()..numbered.len() {
-        push_level(levels, rows.cap(net, numbered[n]))?;
+        push_level(levels, rows.cap(net, numbered.at(n)))?;
     }
     Ok(())
 }
 
 /// The prices of active rows that are above zero.
-fn active_prices<R: Copy>(
+fn active_prices<R: CodedRow>(
     alloc: Global,
-    numbered: &[R],
+    numbered: &RowList<R>,
     levels: &Levels,
 ) -> Result<Vec<(R, i64)>, NoMemory>
     requires levels { IsLevels levels.now }
-    requires count { length levels.now.prices.items ≡ length numbered.now }
-    ensures { IfOk result (λ entries. entries.items ≡ listed (rows_at numbered.now
+    requires count { length levels.now.prices.items ≡ length numbered.now.items }
+    ensures { IfOk result (λ entries. entries.items ≡ listed (rows_at numbered.now.items
         levels.now.active.items) levels.now.prices.items) }
 {
     let mut entries = Vec::new(alloc);
     for k in 0..levels.active.len() {
         let number = levels.active[k];
-        push_price(&mut entries, numbered[number], levels.prices.at(number))?;
+        push_price(&mut entries, numbered.at(number), levels.prices.at(number))?;
     }
     Ok(entries)
 }

@@ -14,7 +14,7 @@ use crate::ranking::number_rows;
 use crate::row_numbers::RowNumbers;
 use crate::touching::push_touches;
 use optra_network::{Network, NoMemory, TypeId};
-use optra_walk::{Action, Leg, RowFamily};
+use optra_walk::{Action, CodedRow, Leg, RowFamily, RowList};
 use std::alloc::Global;
 
 /// How many guesses are kept.
@@ -40,9 +40,9 @@ pub(crate) struct Head {
 /// Rows and groups while they are made, the legs that made groups, and by the places of legs which of these may have
 /// entered alike.
 #[derive(Drop)]
-pub(crate) struct Making<R: Copy + Ord> {
+pub(crate) struct Making<R: CodedRow> {
     /// The row of each touch, by place.
-    pub(crate) named: Vec<R>,
+    pub(crate) named: RowList<R>,
     pub(crate) groups: Groups,
     pub(crate) heads: Vec<Head>,
     pub(crate) guesses: Vec<u32>,
@@ -52,7 +52,7 @@ pub(crate) struct Making<R: Copy + Ord> {
 
 /// Rows by number, and groups of touches that name rows by number.
 #[derive(Drop)]
-pub(crate) struct Numbered<R: Copy + Ord> {
+pub(crate) struct Numbered<R: CodedRow> {
     pub(crate) numbering: RowNumbers<R>,
     pub(crate) groups: Groups,
 }
@@ -69,7 +69,7 @@ pub(crate) fn new_making<F: RowFamily>(
     let _ = net;
     let _ = rows;
     Ok(Making {
-        named: Vec::new(alloc),
+        named: RowList::new(alloc),
         groups: empty_groups(alloc)?,
         heads: Vec::new(alloc),
         guesses: vec![in alloc; 0; PLACES]?,
@@ -135,7 +135,7 @@ fn head_group<F: RowFamily>(
 fn new_group<F: RowFamily>(
     net: &Network,
     rows: &F,
-    named: &mut Vec<F::Row>,
+    named: &mut RowList<F::Row>,
     groups: &mut Groups,
     like: usize,
     kind: TypeId,
@@ -196,7 +196,7 @@ fn start_of(groups: &Groups, group: usize) -> usize {
 
 /// Where the second touch is guessed to stand of such a leg that departs a minute earlier. What that one touches from its
 /// second minute on, this one mostly touches from its first.
-fn minute_later<R: Copy + Ord>(making: &Making<R>, kind: TypeId, leg: Leg) -> usize {
+fn minute_later<R: CodedRow>(making: &Making<R>, kind: TypeId, leg: Leg) -> usize {
     let earlier = Leg {
         depart: leg.depart.saturating_sub(1),
         ..leg
@@ -283,6 +283,8 @@ pub(crate) fn finish_making<F: RowFamily>(
     ensures { IfOk result (IsNumbered F.Row.cmp (F.rows_of rows.now net.now) making.named.items
         making.groups) }
 {
+    let _ = net;
+    let _ = rows;
     let Making {
         named,
         mut groups,
@@ -294,6 +296,6 @@ pub(crate) fn finish_making<F: RowFamily>(
     drop(guesses);
     groups.starts.shrink_to_fit();
     groups.touches.shrink_to_fit();
-    let numbering = number_rows(alloc, net, rows, named, &mut groups.touches)?;
+    let numbering = number_rows::<F>(alloc, named, &mut groups.touches)?;
     Ok(Numbered { numbering, groups })
 }

@@ -13,7 +13,7 @@ use crate::levels::Levels;
 use crate::loading::count_uses;
 use optra_network::NoMemory;
 use optra_node::Node;
-use optra_walk::{Instance, RowFamily};
+use optra_walk::{CodedRow, Instance, RowFamily, RowList};
 use std::alloc::Global;
 
 /// Whether more is used of the row with this number than its capacity.
@@ -26,20 +26,20 @@ fn is_above(levels: &Levels, number: usize) -> bool
 }
 
 /// The rows of which more is used than their capacity.
-fn rows_above<R: Copy + Ord>(
+fn rows_above<R: CodedRow>(
     alloc: Global,
-    numbered: &[R],
+    numbered: &RowList<R>,
     levels: &Levels,
 ) -> Result<Vec<R>, NoMemory>
     requires levels { IsLevels levels.now }
-    requires count { length levels.now.prices.items ≡ length numbered.now }
-    ensures { IfOk result (λ listed. ListsAbove numbered.now levels.now listed.items) }
+    requires count { length levels.now.prices.items ≡ length numbered.now.items }
+    ensures { IfOk result (λ listed. ListsAbove numbered.now.items levels.now listed.items) }
 {
     let mut listed = Vec::new(alloc);
     for k in 0..levels.active.len() {
         let number = levels.active[k];
         if is_above(levels, number) {
-            listed.push(numbered[number])?;
+            listed.push(numbered.at(number))?;
         }
     }
     Ok(listed)

@@ -12,7 +12,7 @@ use crate::row_numbers::RowNumbers;
 use crate::touch::Touch;
 use crate::touch_slice::TouchSlice;
 use optra_network::{Network, NoMemory};
-use optra_walk::RowFamily;
+use optra_walk::{RowFamily, RowList};
 use std::alloc::Global;
 
 /// How much is used of rows, by their numbers, and how much there is of them.
@@ -26,17 +26,17 @@ pub(crate) fn unused<F: RowFamily>(
     alloc: Global,
     net: &Network,
     rows: &F,
-    numbered: &[F::Row],
+    numbered: &RowList<F::Row>,
 ) -> Result<Loads, NoMemory>
-    requires { All (λ row. (F.rows_of rows.now net.now).is_row row ≡ true) numbered.now }
-    ensures uses { IfOk result (λ loads. loads.uses ≡ replicate (length numbered.now) 0) }
+    requires { All (λ row. (F.rows_of rows.now net.now).is_row row ≡ true) numbered.now.items }
+    ensures uses { IfOk result (λ loads. loads.uses ≡ replicate (length numbered.now.items) 0) }
     ensures capacities { IfOk result (λ loads. loads.capacities
-        ≡ map (F.rows_of rows.now net.now).capacity numbered.now) }
+        ≡ map (F.rows_of rows.now net.now).capacity numbered.now.items) }
 {
     let mut loads = Loads::new(alloc);
     loads.reserve_exact(numbered.len())?;
-    for row in numbered {
-        loads.push(rows.cap(net, *row))?;
+    for number in 0..numbered.len() {
+        loads.push(rows.cap(net, numbered.at(number)))?;
     }
     Ok(loads)
 }

@@ -2,27 +2,28 @@
 //!
 //! The rows that legs touch get their numbers at once and in ascending order, so that the number of such a row is its place
 //! among them. Rows that prices list later get the next numbers, and stand with these in a list of their own.
-ghost use Rattle.std.specs.Prelude.{◌≡◌, ◌⊎◌, ◌++◌, ◌∷◌, [], None, Some, IfOk, OnOk, length, slice_get};
+ghost use Rattle.std.specs.Prelude.{◌≡◌, ◌≤◌, ◌⊎◌, ◌++◌, ◌∷◌, [], None, Some, IfOk, IfSome, OnOk, length, slice_get, take};
 ghost use Rattle.std.specs.List.Sorted.{IsStrictlySortedBy};
-ghost use Rattle.optra_prices.specs.Rankings.{IsGap};
+ghost use Rattle.optra_prices.specs.Rankings.{IsGap, IsNoneOf};
 ghost use Rattle.optra_prices.specs.Tables.{AreUp, IsNumbering, number_in};
 
 use optra_network::NoMemory;
-use optra_walk::RowFamily;
+use optra_walk::{CodedRow, RowFamily, RowList};
 use std::alloc::Global;
+use std::cmp::Ordering;
 use std::marker::Model;
 
 /// Rows by number.
 #[derive(Drop)]
-pub(crate) struct RowNumbers<R: Copy + Ord> {
-    rows: Vec<R>,
+pub(crate) struct RowNumbers<R: CodedRow> {
+    rows: RowList<R>,
     /// So many rows from the first on ascend.
     sorted: usize,
     /// The other rows with their numbers, ascending.
     later: Vec<(R, usize)>,
 }
 
-impl<R: Copy + Ord> Model for RowNumbers<R> {
+impl<R: CodedRow> Model for RowNumbers<R> {
     ghost use Rattle.std.specs.Prelude.{take};
     ghost use Rattle.optra_prices.specs.Numberings.{RowNumbering, AreHalved, order_of};
 
@@ -36,10 +37,10 @@ impl<R: Copy + Ord> Model for RowNumbers<R> {
     ghost invariant = { λ a. AreHalved R.cmp a.rows.items a.sorted a.later.items };
 }
 
-impl<R: Copy + Ord> RowNumbers<R> {
+impl<R: CodedRow> RowNumbers<R> {
     /// The rows, by number.
-    pub(crate) fn rows(&self) -> &[R]
-        ensures { result.now ≡ self.now.rows.items }
+    pub(crate) fn rows(&self) -> &RowList<R>
+        ensures { result.now.items ≡ self.now.rows.items }
     {
         &self.rows
     }
@@ -53,7 +54,10 @@ impl<R: Copy + Ord> RowNumbers<R> {
 }
 
 /// Rows that ascend, each numbered by its place.
-pub(crate) fn numbers_by_place<F: RowFamily>(alloc: Global, rows: Vec<F::Row>) -> RowNumbers<F::Row>
+pub(crate) fn numbers_by_place<F: RowFamily>(
+    alloc: Global,
+    rows: RowList<F::Row>,
+) -> RowNumbers<F::Row>
     requires { IsStrictlySortedBy F.Row.cmp rows.items }
     ensures numbering { IsNumbering F.Row.cmp result.order.items result.rows.items }
     ensures rows { result.rows.items ≡ rows.items }
@@ -66,12 +70,32 @@ pub(crate) fn numbers_by_place<F: RowFamily>(alloc: Global, rows: Vec<F::Row>) -
     }
 }
 
+/// The place of a row among so many first ones, which ascend.
+fn place_of<F: RowFamily>(rows: &RowList<F::Row>, sorted: usize, row: F::Row) -> Option<usize>
+    requires within { sorted ≤ length rows.now.items }
+    requires ascend { IsStrictlySortedBy F.Row.cmp (take sorted rows.now.items) }
+    ensures found { IfSome result (λ k. slice_get (take sorted rows.now.items) k ≡ Some row) }
+    ensures missed { result ≡ None → IsNoneOf F.Row.cmp (take sorted rows.now.items) row }
+{
+    let mut low = 0;
+    let mut high = sorted;
+    while low < high {
+        let middle = low + (high - low) / 2;
+        match rows.at(middle).cmp(&row) {
+            Ordering::Less => low = middle + 1,
+            Ordering::Equal => return Some(middle),
+            Ordering::Greater => high = middle,
+        }
+    }
+    None
+}
+
 /// The number of the row, where it has one.
 pub(crate) fn number_of<F: RowFamily>(numbering: &RowNumbers<F::Row>, row: F::Row) -> Option<usize>
     requires { IsNumbering F.Row.cmp numbering.now.order.items numbering.now.rows.items }
     ensures { result ≡ number_in F.Row.cmp numbering.now.order.items row }
 {
-    if let Ok(place) = numbering.rows[..numbering.sorted].binary_search(&row) {
+    if let Some(place) = place_of::<F>(&numbering.rows, numbering.sorted, row) {
         return Some(place);
     }
     match numbering.later.binary_search_by_key(&row, |entry| entry.0) {

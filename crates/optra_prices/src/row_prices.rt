@@ -16,7 +16,7 @@ pub(crate) struct RowPrices {
 
 impl Model for RowPrices {
     ghost use Rattle.std.specs.Prelude.{ℤ, cond};
-    ghost use Rattle.optra_prices.specs.Numberings.{Listed};
+    ghost use Rattle.optra_walk.specs.RowLists.{Listed};
     ghost use Rattle.optra_prices.specs.RowPrices.{prices_of};
 
     ghost Value = { Listed ℤ };

@@ -18,7 +18,7 @@ use crate::tables::bid_table;
 use optra_dag::Buffers;
 use optra_graph::Graphs;
 use optra_network::NoMemory;
-use optra_walk::{Instance, RowFamily};
+use optra_walk::{CodedRow, Instance, RowFamily};
 use std::alloc::Global;
 
 /// A table for each bid, in which each arc may be taken until a node says otherwise.
@@ -54,7 +54,7 @@ pub(crate) fn make_tables<'g, F: RowFamily, G: Graphs>(
 
 /// Rows by number, groups of touches, and a table for each bid, in which each arc may be taken until a node says otherwise.
 #[derive(Drop)]
-pub(crate) struct Made<'g, R: Copy + Ord> {
+pub(crate) struct Made<'g, R: CodedRow> {
     pub(crate) numbering: RowNumbers<R>,
     pub(crate) groups: Groups,
     pub(crate) tables: Vec<BidTable<'g>>,

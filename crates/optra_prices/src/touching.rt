@@ -7,11 +7,11 @@ use crate::touch::Touch;
 use crate::touch_slice::TouchSlice;
 use crate::touches::Touches;
 use optra_network::{Network, NoMemory, TypeId};
-use optra_walk::{Leg, RowFamily};
+use optra_walk::{Leg, RowFamily, RowList};
 
 /// The place of the row among those that were named: where it is guessed, or the next one.
 fn name_row<F: RowFamily>(
-    named: &mut Vec<F::Row>,
+    named: &mut RowList<F::Row>,
     guess: usize,
     row: F::Row,
 ) -> Result<usize, NoMemory>
@@ -19,7 +19,7 @@ fn name_row<F: RowFamily>(
         ⊎ (named.new.items ≡ named.old.items ++ row ∷ [])) }
     ensures place { IfOk result (λ n. slice_get named.new.items n ≡ Some row) }
 {
-    if guess < named.len() && named[guess].cmp(&row).is_eq() {
+    if named.has(guess, row) {
         return Ok(guess);
     }
     let place = named.len();
@@ -40,19 +40,20 @@ fn row_at(touches: &TouchSlice<'_>, at: usize) -> usize {
 fn touch_named<F: RowFamily>(
     net: &Network,
     rows: &F,
-    named: &[F::Row],
+    named: &RowList<F::Row>,
     start: usize,
     touches: &mut Touches,
     kind: TypeId,
     leg: Leg,
 ) -> Result<(), NoMemory>
     requires usable { IsUsable net.now kind leg }
-    requires used { All (Contains (F.rows_used rows.now net.now kind leg)) (drop start named.now) }
-    ensures { OnOk result (AddsTouches named.now ((F.rows_of rows.now net.now).uses kind leg)
-        (drop start named.now) touches.old touches.new) }
+    requires used { All (Contains (F.rows_used rows.now net.now kind leg))
+        (drop start named.now.items) }
+    ensures { OnOk result (AddsTouches named.now.items ((F.rows_of rows.now net.now).uses kind leg)
+        (drop start named.now.items) touches.old touches.new) }
 {
     for place in start..named.len() {
-        let uses = rows.touched_use(net, kind, leg, named[place]);
+        let uses = rows.touched_use(net, kind, leg, named.at(place));
         touches.push(Touch { row: place, uses })?;
     }
     Ok(())
@@ -64,7 +65,7 @@ fn touch_named<F: RowFamily>(
 pub(crate) fn push_touches<F: RowFamily>(
     net: &Network,
     rows: &F,
-    named: &mut Vec<F::Row>,
+    named: &mut RowList<F::Row>,
     touches: &mut Touches,
     like: usize,
     kind: TypeId,

@@ -8,7 +8,7 @@ use Rattle.optra_prices.specs.Columns.{PricesAllButDue}
 use Rattle.optra_prices.proofs.RunningLemmas.{running_moved}
 use Rattle.optra_prices.specs.Levels.{IsLevels}
 use Rattle.optra_prices.specs.Listings.{capacity_below}
-use Rattle.optra_prices.specs.Numberings.{Listed}
+use Rattle.optra_walk.specs.RowLists.{Listed}
 use Rattle.optra_prices.specs.Tables.{IsRowPrice}
 use Rattle.optra_prices.proofs.ColumnLemmas.{moved_due}
 use Rattle.optra_prices.proofs.ListingLemmas.{row_price_or}

@@ -14,11 +14,11 @@ loop-k-preserved c =
     let size : c.size.result ≤ c.max-most.result = search rules in
     let is : c.size.result ≡ unsigned_abs (get_or c.args.arcs.now c.loop-k.k no_narrow).cents = c.size.ensures in
     λ j l. elim (cases_eq j c.loop-k.k) as (λ _. unsigned_abs (get_or c.args.arcs.now j no_narrow).cents ≤ c.max-most.result) [
-  | inl e ↦
-      let here : unsigned_abs (get_or c.args.arcs.now c.loop-k.k no_narrow).cents ≤ c.max-most.result = omega (arith, size, is) in
-      subst (λ (i : ℕ). unsigned_abs (get_or c.args.arcs.now i no_narrow).cents ≤ c.max-most.result) (sym e) here
-  | inr apart ↦ let before = c.loop-k.invariant j (omega arith) in omega (arith, before, more)
-]
+      | inl e ↦
+          let here : unsigned_abs (get_or c.args.arcs.now c.loop-k.k no_narrow).cents ≤ c.max-most.result = omega (arith, size, is) in
+          subst (λ (i : ℕ). unsigned_abs (get_or c.args.arcs.now i no_narrow).cents ≤ c.max-most.result) (sym e) here
+      | inr apart ↦ let before = c.loop-k.invariant j (omega arith) in omega (arith, before, more)
+    ]
 
 pub returns : goal.returns
 returns c = λ k d l.
