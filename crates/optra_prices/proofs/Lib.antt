@@ -11,6 +11,7 @@ pub mod NamedLemmas
 pub mod RankLemmas
 pub mod NumberingLemmas
 pub mod PlaceLemmas
+pub mod CodeLemmas
 pub mod NumberSumLemmas
 pub mod GroupLemmas
 pub mod PriceSumLemmas

@@ -1,5 +1,5 @@
 //! Lists of rows in eight bytes each, since a plan names a million of them.
-ghost use Rattle.std.specs.Prelude.{◌≡◌, ◌<◌, ◌↔◌, ◌++◌, ◌∷◌, [], IsTrue, Some, IfSome, OnOk, length, map, slice_get};
+ghost use Rattle.std.specs.Prelude.{◌≡◌, ◌<◌, ◌↔◌, ◌++◌, ◌∷◌, [], IsTrue, Some, IfSome, OnErr, OnOk, length, map, slice_get};
 ghost use Rattle.optra_walk.specs.RowLists.{AreCodes};
 
 use crate::coded_row::CodedRow;
@@ -54,10 +54,11 @@ impl<R: CodedRow> RowList<R> {
         self.codes.len() + self.wide.len()
     }
 
-    /// Adds a row.
+    /// Adds a row. After `NoMemory`, its only refusal, the rows are those that were there.
     #[inline(always)]
     pub fn push(&mut self, row: R) -> Result<(), NoMemory>
-        ensures { OnOk result (self.new.items ≡ self.old.items ++ row ∷ []) }
+        ensures pushed { OnOk result (self.new.items ≡ self.old.items ++ row ∷ []) }
+        ensures kept { OnErr result (self.new ≡ self.old) }
     {
         if self.wide.is_empty() {
             if let Some(code) = row.code() {

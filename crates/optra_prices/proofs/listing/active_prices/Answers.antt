@@ -13,20 +13,20 @@ use Rattle.optra_prices.proofs.listing.active_prices.Goals as goal
 
 pub loop-k-preserved : goal.loop-k-preserved
 loop-k-preserved g c =
-    let numbered = c.args.numbered.now in
+    let numbered = c.args.numbered.now.items in
     let levels = c.args.levels.now in
     let active = levels.active.items in
     let prices = levels.prices.items in
     let k = c.loop-k.k in
     let here : k < length active = omega arith in
     let number = c.index-number.result.now in
-    let row = c.index-numbered-number.result in
+    let row = c.at-in-loop-k.result in
     let number_at : slice_get active k ≡ Some number = slice_get_read active (length active) k number refl here c.index-number.ensures in
     let least = c.requires.levels.within k 0 here in
     let is : number ≡ slice_index active k = c.index-number.ensures ∙ get_or_default active k number 0 here in
     let count = c.requires.count in
     let within : number < length prices = subst (λ (n : ℕ). n < length prices) (sym is) least in
-    let at : slice_get numbered number ≡ Some row = slice_get_read numbered (length numbered) number row refl (omega arith) c.index-numbered-number.is in
+    let at : slice_get numbered number ≡ Some row = c.at-in-loop-k.ensures in
     let whole : FitsSigned w64 c.at.result = search rules in
     let price : to_z w64 (of_z w64 c.at.result) ≡ slice_index_or prices number (pos 0) = to_z-of_z w64 c.at.result whole ∙ c.at.ensures in
     let one : k + 1 ≡ suc k = omega arith in

@@ -19,8 +19,8 @@ loop-n-init g c =
     record {
       levels = is.levels;
       unused = is.unused;
-      capacities = subst (λ (caps : List ℕ). HaveCapacities (g.F.RowFamily.rows_of c.args.rows.now c.args.net.now) (take c.len-n.result c.args.numbered.now) caps) (sym is.capacities)
-          (subst (λ (n : ℕ). HaveCapacities (g.F.RowFamily.rows_of c.args.rows.now c.args.net.now) (take n c.args.numbered.now) old.loads.capacities) was c.requires.capacities);
+      capacities = subst (λ (caps : List ℕ). HaveCapacities (g.F.RowFamily.rows_of c.args.rows.now c.args.net.now) (take c.len-n.result c.args.numbered.now.items) caps) (sym is.capacities)
+          (subst (λ (n : ℕ). HaveCapacities (g.F.RowFamily.rows_of c.args.rows.now c.args.net.now) (take n c.args.numbered.now.items) old.loads.capacities) was c.requires.capacities);
       prices = subst (AddsZeros old.prices.items) (sym is.prices) (no_zeros old.prices.items);
       count = count;
     }
@@ -29,10 +29,10 @@ pub push_level-requires-clause-small : goal.push_level-requires-clause-small
 push_level-requires-clause-small g c =
     let f = c.args.rows.now in
     let net = c.args.net.now in
-    let numbered = c.args.numbered.now in
+    let numbered = c.args.numbered.now.items in
     let n = c.loop-n.n in
-    let row = c.index-numbered-n.result in
-    let at : slice_get numbered n ≡ Some row = slice_get_read numbered (length numbered) n row refl c.loop-n-test.true c.index-numbered-n.is in
+    let row = c.at.result in
+    let at : slice_get numbered n ≡ Some row = c.at.ensures in
     let fits = g.met.F.RowFamily.capacity_fits f net row c.laws.ensures (all_at (λ r. (g.F.RowFamily.rows_of f net).is_row r ≡ true) numbered n row c.requires.rows at) in
     let is = c.cap.ensures in
     omega arith
@@ -40,10 +40,10 @@ push_level-requires-clause-small g c =
 pub loop-n-preserved : goal.loop-n-preserved
 loop-n-preserved g c =
     let rows = g.F.RowFamily.rows_of c.args.rows.now c.args.net.now in
-    let numbered = c.args.numbered.now in
+    let numbered = c.args.numbered.now.items in
     let n = c.loop-n.n in
-    let row = c.index-numbered-n.result in
-    let at : slice_get numbered n ≡ Some row = slice_get_read numbered (length numbered) n row refl c.loop-n-test.true c.index-numbered-n.is in
+    let row = c.at.result in
+    let at : slice_get numbered n ≡ Some row = c.at.ensures in
     let one : n + 1 ≡ suc n = omega arith in
     let taken = ap (λ (k : ℕ). take k numbered) one ∙ take_push numbered n row at in
     let now = c.loop-n.levels in
@@ -51,7 +51,7 @@ loop-n-preserved g c =
     let inv = c.loop-n.invariant in
     let is = c.in_ok-push_level.ensures in
     let short = length-take n numbered in
-    let l : n < length numbered = c.loop-n-test.true in
+    let l : n < length numbered = subst (λ (k : ℕ). n < k) c.len-n-end.ensures c.loop-n-test.true in
     let count = inv.count in
     let long : length now.loads.capacities ≡ length (take n numbered) = let a = inv.levels.capacity_count in omega arith in
     let pushed = capacities_push rows (take n numbered) now.loads.capacities row c.cap.result long inv.capacities c.cap.ensures in

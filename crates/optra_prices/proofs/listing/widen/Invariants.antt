@@ -8,7 +8,7 @@ abbrev pub invariant-loop-n : goal.invariant-loop-n
 invariant-loop-n g l = record {
   levels : IsLevels l.levels;
   unused : AreUnused l.levels;
-  capacities : HaveCapacities (g.F.RowFamily.rows_of l.rows l.net) (take l.n l.numbered) l.levels.loads.capacities;
+  capacities : HaveCapacities (g.F.RowFamily.rows_of l.rows l.net) (take l.n l.numbered.items) l.levels.loads.capacities;
   prices : AddsZeros l.fn.levels.prices.items l.levels.prices.items;
   count : length l.levels.prices.items ≡ l.n;
 }

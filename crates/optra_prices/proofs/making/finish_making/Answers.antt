@@ -7,9 +7,6 @@ use Rattle.optra_prices.proofs.ListLemmas.{all_at}
 use Rattle.optra_prices.proofs.PlaceLemmas.{contains_at}
 use Rattle.optra_prices.proofs.making.finish_making.Goals as goal
 
-pub number_rows-requires : goal.number_rows-requires
-number_rows-requires g c = c.requires.rows_are
-
 pub returns : goal.returns
 returns g c =
     let rows = g.F.RowFamily.rows_of c.args.rows.now c.args.net.now in

@@ -45,7 +45,7 @@ returns-clause-rows g c =
     let used = c.count_uses.new.levels in
     let counts = c.in_ok-count_uses.ensures in
     let uses : AreUses kept.columns.groups (lists_of kept.standings.items) used.loads.uses = subst (λ (lists : List (List ℕ)). AreUses kept.columns.groups lists used.loads.uses) (counts.lists ∙ ap lists_of c.deref.ensures.value) counts.counted.uses_are in
-    IfOk-weaker c.rows_above.result (λ listed. ListsAbove c.rows.result.now used listed.items) (λ listed. AreOverfilled rows c.args.inst.bids.now (replies_at kept) listed.items)
+    IfOk-weaker c.rows_above.result (λ listed. ListsAbove c.rows.result.now.items used listed.items) (λ listed. AreOverfilled rows c.args.inst.bids.now (replies_at kept) listed.items)
     (λ listed above. overfilled g.F.Row.Ord.cmp g.met.F.Row.Ord.total g.met.F.Row.CodedRow.tells_apart s proper (λ kind leg usable. g.met.F.RowFamily.lists_rows f net kind leg usable) kept c.requires.is used
     counts.prices.prices counts.prices.capacities counts.levels.use_count uses listed.items (subst (λ (numbered : List g.row.F-Row.Denot). ListsAbove numbered used listed.items) c.rows.ensures above))
     c.rows_above.ensures

@@ -18,8 +18,8 @@ is_above-requires-clause-within g c =
     let number : c.index-number.result.now ≡ slice_index active k = c.index-number.ensures ∙ get_or_default active k c.index-number.result.now 0 here in
     subst (λ (n : ℕ). n < length levels.prices.items) (sym number) (c.requires.levels.within k 0 here)
 
-pub bounds-numbered-number : goal.bounds-numbered-number
-bounds-numbered-number g c =
+pub at-requires : goal.at-requires
+at-requires g c =
     let levels = c.args.levels.now in
     let active = levels.active.items in
     let k = c.loop-k.k in
@@ -29,7 +29,7 @@ bounds-numbered-number g c =
 
 pub loop-k-preserved : goal.loop-k-preserved
 loop-k-preserved g c =
-    let numbered = c.args.numbered.now in
+    let numbered = c.args.numbered.now.items in
     let levels = c.args.levels.now in
     let active = levels.active.items in
     let k = c.loop-k.k in
@@ -40,8 +40,8 @@ loop-k-preserved g c =
     elim c.if-is_above.branch as (λ _. ListsAboveTo numbered levels (k + 1) c.if-is_above.listed.items) [
       | then-is_above+in_ok-push w ↦
           let above : IsAbove levels (slice_index active k) = subst (IsAbove levels) number (c.is_above.ensures.0 w.if-is_above.true) in
-          let row = w.index-numbered-number.result in
-          let at = subst (λ (n : ℕ). slice_get numbered n ≡ Some row) number (slice_get_read numbered (length numbered) c.index-number.result.now row refl within w.index-numbered-number.is) in
+          let row = w.at.result in
+          let at = subst (λ (n : ℕ). slice_get numbered n ≡ Some row) number w.at.ensures in
           subst (ListsAboveTo numbered levels (k + 1)) (sym (ap (λ v. v.items) w.listed-is ∙ w.in_ok-push.ensures.items)) (above_pushed numbered levels k listed c.loop-k.invariant row at above)
       | else-is_above w ↦
           subst (λ v. ListsAboveTo numbered levels (k + 1) v.items) (sym w.listed-is)

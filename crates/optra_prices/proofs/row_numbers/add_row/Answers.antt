@@ -20,7 +20,7 @@ invariant_of-numbering-2 g c =
     let cmp = g.F.Row.Ord.cmp in
     let inside = c.numbering.inside in
     let is = c.numbering.invariant in
-    let pushed = c.in_ok-push.ensures.items in
+    let pushed = c.in_ok-push.ensures.pushed in
     record {
       within = grind (arith, length-append, pushed, is.within);
       first = subst (IsStrictlySortedBy cmp) (sym (ap (take inside.sorted) pushed ∙ take-append-le inside.sorted inside.rows.items _ is.within)) is.first;
@@ -33,7 +33,7 @@ returns-clause-numbering g c =
     let cmp = g.F.Row.Ord.cmp in
     let inside = c.numbering.inside in
     let is = c.numbering.invariant in
-    let pushed = c.in_ok-push.ensures.items in
+    let pushed = c.in_ok-push.ensures.pushed in
     let first = take inside.sorted inside.rows.items in
     let same : take inside.sorted c.push.new.self.items ≡ first = ap (take inside.sorted) pushed ∙ take-append-le inside.sorted inside.rows.items _ is.within in
     subst (λ (rows : List g.row.F-Row.Denot). IsNumbering cmp (order_of cmp (take inside.sorted c.push.new.self.items) c.insert.new.self.items) rows) (sym pushed)
@@ -41,4 +41,4 @@ returns-clause-numbering g c =
     (numbering_added cmp g.met.F.Row.Ord.total g.met.F.Row.CodedRow.tells_apart first inside.rows.items inside.later.items c.insert.new.self.items c.args.row c.gap_of-place.result c.len-number.result is.first
     (subst (λ (v : RowNumbering g.row.F-Row.Denot). IsNumbering cmp v.order.items v.rows.items) (sym c.numbering.view_is) c.requires.numbering)
     (subst (λ (v : RowNumbering g.row.F-Row.Denot). number_in cmp v.order.items c.args.row ≡ None) (sym c.numbering.view_is) c.requires.other)
-    (subst (λ (es : List (g.row.F-Row.Denot × ℕ)). IsGap cmp es c.args.row c.gap_of-place.result) c.deref.ensures.value c.gap_of-place.ensures) (omega (arith, c.len-number.ensures, inside.rows.ok.0)) c.in_ok-insert.ensures.items))
+    (subst (λ (es : List (g.row.F-Row.Denot × ℕ)). IsGap cmp es c.args.row c.gap_of-place.result) c.deref.ensures.value c.gap_of-place.ensures) (omega (arith, c.len-number.ensures, arith)) c.in_ok-insert.ensures.items))

@@ -53,7 +53,7 @@ touch_named-requires-clause-used g c =
     let used = g.F.RowFamily.rows_used c.args.rows.now c.args.net.now c.args.kind c.args.leg in
     let lasting = c.lasting_count-lasting.result in
     let known = c.loop-k.named.items in
-    let start : c.len-start.result ≡ length known = omega (arith, c.len-start.ensures, c.loop-k.named.ok.0) in
+    let start : c.len-start.result ≡ length known = c.len-start.ensures in
     let named : c.deref.result.now ≡ known ++ drop lasting used = c.deref.ensures.value ∙ c.in_ok-list_touched.ensures in
     let rest : drop c.len-start.result c.deref.result.now ≡ drop lasting used = (λ i. drop (start i) (named i)) ∙ drop-append_seam known (drop lasting used) in
     subst (All (Contains used)) (sym rest) (All-drop (Contains used) lasting used (All-contains_itself used))
@@ -71,7 +71,7 @@ returns g c =
     let new = c.list_touched.new.list.items in
     let rest = drop lasting used in
     let pushed : new ≡ known ++ rest = c.in_ok-list_touched.ensures in
-    let start : c.len-start.result ≡ length known = omega (arith, c.len-start.ensures, c.loop-k.named.ok.0) in
+    let start : c.len-start.result ≡ length known = c.len-start.ensures in
     let named : c.deref.result.now ≡ known ++ rest = c.deref.ensures.value ∙ pushed in
     let left : drop c.len-start.result c.deref.result.now ≡ rest = (λ i. drop (start i) (named i)) ∙ drop-append_seam known rest in
     let count : c.loop-k.k ≡ lasting = let last = c.loop-k-test.false in let end = c.loop-k.auto.k-end in omega (arith, last, end) in

@@ -12,7 +12,7 @@ pub loop-place-init : goal.loop-place-init
 loop-place-init g c =
     let uses = (g.F.RowFamily.rows_of c.args.rows.now c.args.net.now).uses c.args.kind c.args.leg in
     let start = c.args.start in
-    let named = c.args.named.now in
+    let named = c.args.named.now.items in
     let none : 0 ≡ start - start = omega arith in
     record {
       from = omega arith;
@@ -23,13 +23,13 @@ pub loop-place-preserved : goal.loop-place-preserved
 loop-place-preserved g c =
     let uses = (g.F.RowFamily.rows_of c.args.rows.now c.args.net.now).uses c.args.kind c.args.leg in
     let start = c.args.start in
-    let named = c.args.named.now in
+    let named = c.args.named.now.items in
     let place = c.loop-place.place in
-    let row = c.index-named-place.result in
+    let row = c.at.result in
     let from = c.loop-place.invariant.from in
     let here : start + (place - start) ≡ place = omega (arith, from) in
     let next : place - start + 1 ≡ place + 1 - start = omega (arith, from) in
-    let at : slice_get named place ≡ Some row = slice_get_read named (length named) place row refl c.loop-place-test.true c.index-named-place.is in
+    let at : slice_get named place ≡ Some row = c.at.ensures in
     let inside : slice_get (drop start named) (place - start) ≡ Some row = at_drop start named (place - start) ∙ ap (slice_get named) here ∙ at in
     record {
       from = omega (arith, from);
@@ -41,7 +41,7 @@ loop-place-preserved g c =
 pub returns : goal.returns
 returns g c =
     let start = c.args.start in
-    let named = c.args.named.now in
+    let named = c.args.named.now.items in
     let last = c.loop-place-test.false in
     let from = c.loop-place.invariant.from in
     all_touches _ _ (drop start named) (c.loop-place.place - start) _ _ c.loop-place.invariant.touches (let l = length-drop start named in omega (arith, l, last, from))
@@ -50,10 +50,10 @@ pub touched_use-uses-requires-clause-used : goal.touched_use-uses-requires-claus
 touched_use-uses-requires-clause-used g c =
     let used = g.F.RowFamily.rows_used c.args.rows.now c.args.net.now c.args.kind c.args.leg in
     let start = c.args.start in
-    let named = c.args.named.now in
+    let named = c.args.named.now.items in
     let place = c.loop-place.place in
-    let row = c.index-named-place.result in
+    let row = c.at.result in
     let from = c.loop-place.invariant.from in
     let here : start + (place - start) ≡ place = omega (arith, from) in
-    let at : slice_get named place ≡ Some row = slice_get_read named (length named) place row refl c.loop-place-test.true c.index-named-place.is in
+    let at : slice_get named place ≡ Some row = c.at.ensures in
     all_at (Contains used) (drop start named) (place - start) row c.requires.used (at_drop start named (place - start) ∙ ap (slice_get named) here ∙ at)

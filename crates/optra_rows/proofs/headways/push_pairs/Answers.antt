@@ -18,7 +18,7 @@ loop-k-preserved c =
     let at : slice_get pairs (k - first) ≡ Some c.pair_of.result =
     pair_in_day leg.track c.args.kind leg.depart c.args.partners.now first c.first_over-k-end.result k (k - first) _ c.first_started-first.ensures.parts c.first_over-k-end.ensures here c.loop-k-test.true
     ∙ ap Some (sym c.pair_of.ensures) in
-    let more = listed_more (c.args.list.now.items ++ drop c.args.from pairs) c.loop-k.list.items c.push.new.self.items pairs (k - first) c.pair_of.result c.loop-k.invariant.list at c.in_ok-push.ensures in
+    let more = listed_more (c.args.list.now.items ++ drop c.args.from pairs) c.loop-k.list.items c.push.new.self.items pairs (k - first) c.pair_of.result c.loop-k.invariant.list at c.in_ok-push.ensures.pushed in
     record {
       started = omega (arith, started);
       list = ap (λ (m : ℕ). c.push.new.self.items ++ drop m pairs) (sym next) ∙ more;

@@ -16,7 +16,7 @@ loop-k-preserved c =
     let k = c.loop-k.k in
     let at : slice_get (map row minutes) k ≡ Some (row (c.args.leg.depart + k)) =
     slice_get-map row minutes k ∙ ap (option_map row) (slice_get-range c.args.leg.depart c.args.least k c.loop-k-test.true) in
-    listed_more _ _ _ (map row minutes) k (row (c.args.leg.depart + k)) c.loop-k.invariant at c.in_ok-push.ensures
+    listed_more _ _ _ (map row minutes) k (row (c.args.leg.depart + k)) c.loop-k.invariant at c.in_ok-push.ensures.pushed
 
 pub returns : goal.returns
 returns c =
