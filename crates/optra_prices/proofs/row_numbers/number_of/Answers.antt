@@ -15,7 +15,7 @@ returns-in-Some g c =
     let inside = c.numbering.inside in
     let row = c.args.row in
     let k = c.in-Some.place in
-    let at : slice_get inside.rows.items k ≡ Some row = taken_at inside.sorted inside.rows.items k row c.in-Some.place_of.ensures.found in
+    let at : slice_get inside.rows.items k ≡ Some row = taken_at inside.sorted inside.rows.items k row c.in-Some.ensures.found in
     sym (c.requires.known k row (sym (ap (λ (v : RowNumbering g.row.F-Row.Denot). slice_get v.rows.items k) c.numbering.view_is) ∙ at))
 
 pub returns-in-Ok : goal.returns-in-Ok

@@ -54,8 +54,8 @@ touch_named-requires-clause-used g c =
     let lasting = c.lasting_count-lasting.result in
     let known = c.loop-k.named.items in
     let start : c.len-start.result ≡ length known = c.len-start.ensures in
-    let named : c.deref.result.now ≡ known ++ drop lasting used = c.deref.ensures.value ∙ c.in_ok-list_touched.ensures in
-    let rest : drop c.len-start.result c.deref.result.now ≡ drop lasting used = (λ i. drop (start i) (named i)) ∙ drop-append_seam known (drop lasting used) in
+    let named : c.list_touched.new.list.items ≡ known ++ drop lasting used = c.in_ok-list_touched.ensures in
+    let rest : drop c.len-start.result c.list_touched.new.list.items ≡ drop lasting used = (λ i. drop (start i) (named i)) ∙ drop-append_seam known (drop lasting used) in
     subst (All (Contains used)) (sym rest) (All-drop (Contains used) lasting used (All-contains_itself used))
 
 pub returns : goal.returns
@@ -72,8 +72,7 @@ returns g c =
     let rest = drop lasting used in
     let pushed : new ≡ known ++ rest = c.in_ok-list_touched.ensures in
     let start : c.len-start.result ≡ length known = c.len-start.ensures in
-    let named : c.deref.result.now ≡ known ++ rest = c.deref.ensures.value ∙ pushed in
-    let left : drop c.len-start.result c.deref.result.now ≡ rest = (λ i. drop (start i) (named i)) ∙ drop-append_seam known rest in
+    let left : drop c.len-start.result new ≡ rest = (λ i. drop (start i) (pushed i)) ∙ drop-append_seam known rest in
     let count : c.loop-k.k ≡ lasting = let last = c.loop-k-test.false in let end = c.loop-k.auto.k-end in omega (arith, last, end) in
     let extends : Extends known new = subst (Extends known) (sym pushed) (append_extends known rest) in
     let are : All (λ row. rows.is_row row ≡ true) used =
@@ -81,8 +80,7 @@ returns g c =
     let first : AddsTouches known uses (take lasting used) c.args.touches.now c.loop-k.touches =
     subst (λ (n : ℕ). AddsTouches known uses (take n used) c.args.touches.now c.loop-k.touches) count c.loop-k.invariant.touches in
     let later : AddsTouches new uses rest c.loop-k.touches c.touch_named.new.touches =
-    subst (λ (numbered : List g.row.F-Row.Denot). AddsTouches numbered uses rest c.loop-k.touches c.touch_named.new.touches) c.deref.ensures.value
-    (subst (λ (more : List g.row.F-Row.Denot). AddsTouches c.deref.result.now uses more c.loop-k.touches c.touch_named.new.touches) left c.in_ok-touch_named.ensures) in
+    subst (λ (more : List g.row.F-Row.Denot). AddsTouches new uses more c.loop-k.touches c.touch_named.new.touches) left c.in_ok-touch_named.ensures in
     record {
       rows = subst (All (λ row. rows.is_row row ≡ true)) (sym pushed) (All-append (λ row. rows.is_row row ≡ true) known rest c.loop-k.invariant.rows (All-drop (λ row. rows.is_row row ≡ true) lasting used are));
       extends = extends_more _ known new c.loop-k.invariant.extends extends;
