@@ -390,7 +390,11 @@ impl Check for AtOnce {
             check_listed(rt, rt.alloc(), inst.net, &HeadwayRows::new(), 2879, from)?;
             check_listed(rt, rt.alloc(), inst.net, &doubled(), 100, from)?;
         }
-        same(rt, &HeadwayRows::new().lasting_count(inst.net, X, leg(0)), &1);
+        same(
+            rt,
+            &HeadwayRows::new().lasting_count(inst.net, X, leg(0)),
+            &1,
+        );
         same(rt, &doubled().lasting_count(inst.net, X, leg(0)), &8_192);
         Ok(())
     }

@@ -18,7 +18,7 @@ use Rattle.optra_prices.proofs.keeping.keep_arcs.Goals as goal
 pub decided_root-requires-clause-count : goal.decided_root-requires-clause-count
 decided_root-requires-clause-count g c =
     let free = c.in_ok-levels.ensures in
-    free.levels.use_count ∙ ap length free.prices ∙ length-replicate (length c.rows.result.now) (pos 0) ∙ ap length c.rows.ensures
+    free.levels.use_count ∙ ap length free.prices ∙ length-replicate (length c.rows.result.now.items) (pos 0) ∙ ap length c.rows.ensures
 
 pub decided_root-requires-clause-capacities : goal.decided_root-requires-clause-capacities
 decided_root-requires-clause-capacities g c =
@@ -54,7 +54,7 @@ returns g c =
     let made = c.in_ok-columns.ensures in
     let free = c.in_ok-levels.ensures in
     let levels = c.in_ok-levels.levels in
-    let none = length c.rows.result.now in
+    let none = length c.rows.result.now.items in
     let stand : AllStand tables [] zero = subst (λ (ts : List BidTable). AllStand ts [] zero) c.deref.ensures.value c.in_ok-known.ensures.zero in
     let same : AreCopies zero copies = c.in_ok-known.ensures.standings in
     let groups = made.columns.groups_are in
