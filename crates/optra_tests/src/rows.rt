@@ -10,7 +10,7 @@ use crate::instances::{Check, PAIRS, PLAIN, Rows, check_read, same};
 use optra_network::{Network, NoMemory, TrackId, TrackUse, TypeId, conflict};
 use optra_rows::HRow::{Pair, Window};
 use optra_rows::{Both, Either, HRow, HeadwayRows, Load};
-use optra_walk::{Action, Instance, Leg, RowFamily};
+use optra_walk::{Action, CodedRow, Instance, Leg, RowFamily, RowList};
 use std::alloc::Global;
 use std::process::Abort;
 use std::test::Fail;
@@ -369,13 +369,13 @@ fn check_listed<F: RowFamily>(
     assert!(rt; depart <= 2879);
     assert!(rt; net.run(AB, X, false, false).is_some());
     net.laws();
-    let mut list = Vec::new(alloc);
+    let mut list = RowList::new(alloc);
     rows.list_touched(net, X, leg(depart), from, &mut list)?;
     let count = rows.used_count(net, X, leg(depart));
     assert!(rt; list.len() == count.saturating_sub(from) as usize);
     for k in from..count {
-        let listed = list.get((k - from) as usize).copied();
-        assert!(rt; listed == rows.touched(net, X, leg(depart), k));
+        let listed = list.at((k - from) as usize);
+        assert!(rt; Some(listed) == rows.touched(net, X, leg(depart), k));
     }
     Ok(())
 }
@@ -403,6 +403,58 @@ impl Check for AtOnce {
 #[test]
 fn rows_are_listed_at_once_as_one_by_one(rt: HostRuntime) -> Result<(), Fail> {
     check_read(&rt, &TWO_TYPES, &AtOnce)
+}
+
+/// A window of a track that is one too many for a number.
+const FAR: HRow = Window {
+    track: TrackId(1_024),
+    minute: 0,
+};
+
+/// The 7th minute of the track with number 2.
+const NEAR: HRow = Window {
+    track: TrackId(2),
+    minute: 7,
+};
+
+/// Two uses of the track with number 1.
+const BOTH_USES: HRow = Pair {
+    track: TrackId(1),
+    first_at: 3,
+    first: X,
+    second_at: 5,
+    second: Z,
+};
+
+#[test]
+fn a_number_tells_a_row(rt: HostRuntime) -> Result<(), Fail> {
+    // 2 · 4,096 + 7 = 8,199, times 65,536.
+    same(&rt, &NEAR.code(), &Some(537_329_664));
+    // 2^38 and 65,536 + 3 · 16 + 0 = 65,584, times 65,536, and 5 · 16 + 2 = 82.
+    same(&rt, &BOTH_USES.code(), &Some(279_176_020_050));
+    same(&rt, &FAR.code(), &None);
+    same(&rt, &HRow::of_code(537_329_664), &NEAR);
+    same(&rt, &HRow::of_code(279_176_020_050), &BOTH_USES);
+    Ok(())
+}
+
+#[test]
+fn a_list_keeps_rows_that_no_number_tells(rt: HostRuntime) -> Result<(), Fail> {
+    let mut list = RowList::new(rt.alloc());
+    list.push(NEAR)?;
+    same(&rt, &list.codes().is_some(), &true);
+    list.push(FAR)?;
+    list.push(BOTH_USES)?;
+    assert!(&rt; list.len() == 3);
+    same(&rt, &list.at(0), &NEAR);
+    same(&rt, &list.at(1), &FAR);
+    same(&rt, &list.at(2), &BOTH_USES);
+    same(&rt, &list.has(1, FAR), &true);
+    same(&rt, &list.has(2, BOTH_USES), &true);
+    same(&rt, &list.has(0, FAR), &false);
+    same(&rt, &list.has(3, FAR), &false);
+    same(&rt, &list.codes().is_some(), &false);
+    Ok(())
 }
 
 /// A leg by which a train that passed the tail passes the head.
