@@ -57,7 +57,7 @@ pub(crate) struct Numbered<R: CodedRow> {
     pub(crate) groups: Groups,
 }
 
-/// No row and no leg yet.
+/// No row and no leg yet, with room for as many legs as guesses tell.
 pub(crate) fn new_making<F: RowFamily>(
     alloc: Global,
     net: &Network,
@@ -71,7 +71,7 @@ pub(crate) fn new_making<F: RowFamily>(
     Ok(Making {
         named: RowList::new(alloc),
         groups: empty_groups(alloc)?,
-        heads: Vec::new(alloc),
+        heads: Vec::with_capacity(alloc, PLACES)?,
         guesses: vec![in alloc; 0; PLACES]?,
         last: 0,
     })

@@ -6,4 +6,4 @@ pub returns : goal.returns
 returns g c =
     let net = c.args.net.now in
     let f = c.args.rows.now in
-    making_none net (g.F.RowFamily.rows_of f net) (g.F.RowFamily.rows_used f net) _ c.new.ensures c.new-2.ensures.items c.in_ok-empty_groups.ensures
+    making_none net (g.F.RowFamily.rows_of f net) (g.F.RowFamily.rows_used f net) _ c.new.ensures c.in_ok-with_capacity.ensures.items c.in_ok-empty_groups.ensures
