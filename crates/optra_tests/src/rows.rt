@@ -411,7 +411,7 @@ const FAR: HRow = Window {
     minute: 0,
 };
 
-/// The 7th minute of the track with number 2.
+/// Minute 7 of the track with number 2.
 const NEAR: HRow = Window {
     track: TrackId(2),
     minute: 7,
