@@ -2,7 +2,7 @@
 """Hands a built optra broken tables and certificates: python3 bench/hostile.py PROGRAM [COUNT] [SEED]
 
 Makes COUNT runs (10,000 if none is given) from SEED (1 if none is given). Each takes a worked case of crates/optra_cases or
-examples/one_track, changes bytes, cells, records or lengths of one or two of its files, and plans the tables or checks the
+examples/one_track, of both versions of tables, changes bytes, cells, records or lengths of one or two of its files, and plans the tables or checks the
 certificate. Each run has to end within a second of processor time, with the status and the line that bench/reader.py gives, which was
 written from the documents alone. Of a plan that is printed, the status has to be the one that the text tells; the certificate that was
 put has to be confirmed by that reader too, with the numbers of the text. Where the program plays auctions, two of them are taken as well,
@@ -21,8 +21,10 @@ from collections import Counter
 import reader
 import sheets
 
-SHEETS = ["plans.sheet", "refusals.sheet", "certificates.sheet", "checks.sheet"]
+SHEETS = ["plans.sheet", "refusals.sheet", "certificates.sheet", "checks.sheet", "version-2.sheet"]
 TABLES = {f"net/{table}.csv" if table not in ("bids", "stops") else f"{table}.csv": table for table in reader.PLAN_TABLES}
+# The table that tables of version 2 have besides.
+CROSSINGS = "net/crossings.csv"
 WORDS = ["--net", "net", "--bids", "bids.csv", "--stops", "stops.csv"]
 PLAN = ["plan", *WORDS, "--steps", "5", "--budget", "3", "--cert", "put.csv"]
 CHECK = ["check", *WORDS, "--cert", "c.csv"]
@@ -150,19 +152,31 @@ CHANGES = [some_bytes] + [some_cells] * 6 + [some_records] * 3 + [another_length
 
 # Runs
 
+def tables_of(files):
+    """The tables by name: those of version 1, and the crossings where there are any."""
+    tables = {table: files[path] for path, table in TABLES.items()}
+    return {**tables, "crossings": files[CROSSINGS]} if CROSSINGS in files else tables
+
+
+def lacks_crossings(files):
+    """Whether the stations say version 2 and there are no crossings."""
+    return CROSSINGS not in files and reader.version_of(files["net/stations.csv"]) == 2
+
+
 def is_accepted(files):
     """Whether the tables are there, not too large for many runs, and accepted."""
-    if not set(TABLES) <= set(files) or sum(map(len, files.values())) > MOST_BYTES:
+    if not set(TABLES) <= set(files) or sum(map(len, files.values())) > MOST_BYTES or lacks_crossings(files):
         return False
     try:
-        reader.read_tables({table: files[path] for path, table in TABLES.items()})
+        reader.read_tables(tables_of(files))
     except reader.Refused:
         return False
     return True
 
 
 def worked():
-    """The files of the worked cases whose tables are accepted, by the name of the case, without the large ones."""
+    """The files of the worked cases whose tables are accepted, by the name of the case, without the large ones. A case may run
+    more than once: the last of its runs whose tables are accepted counts."""
     found = {name: files for name, _, files in sheets.runs(SHEETS) if is_accepted(files)}
     example = os.path.join(os.path.dirname(os.path.dirname(os.path.realpath(__file__))), "examples", "one_track")
     found["examples/one_track"] = {path: reader.read(f"{example}/{path}") for path in TABLES}
@@ -207,9 +221,10 @@ def ran(program, folder, words):
 
 def expected(files, words):
     """The status and what is printed on the output and the error line; of a plan that is printed the status and the text are None."""
-    tables = {table: files[path] for path, table in TABLES.items()}
+    if lacks_crossings(files):
+        return (6, b"", f"absent: {CROSSINGS}\n".encode()), None
     try:
-        net, bids = reader.read_tables(tables)
+        net, bids = reader.read_tables(tables_of(files))
         if words[0] == "auction":
             reader.read_auction({table: files[f"{table}.csv"] for table in ("rules", "actions")})
     except reader.Refused as fault:
@@ -280,7 +295,7 @@ def main(program, count, seed):
         name = draws.choice(sorted(cases))
         files = dict(cases[name])
         checks, plays = "c.csv" in files and draws.random() < 0.8, "actions.csv" in files
-        paths = sorted(TABLES) + ["c.csv"] * (7 * checks) + ["rules.csv", *["actions.csv"] * 6] * plays
+        paths = sorted(TABLES) + [CROSSINGS] * 2 * (CROSSINGS in files) + ["c.csv"] * (7 * checks) + ["rules.csv", *["actions.csv"] * 6] * plays
         for _ in range(draws.choice([1, 1, 1, 2])):
             path = draws.choice(paths)
             files[path] = draws.choice(CHANGES)(draws, files[path])
