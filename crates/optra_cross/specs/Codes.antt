@@ -6,6 +6,7 @@ use Rattle.std.specs.declared.cmp.Ordering.{Ordering}
 use Rattle.std.proofs.lemmas.Bool.{and_parts, ltb-true}
 use Rattle.optra_network.specs.declared.TrackId.{TrackId}
 use Rattle.optra_network.specs.declared.TypeId.{TypeId}
+use Rattle.optra_walk.specs.UseCodes.{has_use_code, use_code, code_kind, code_minute, code_track, IsToldUse, told_use}
 use Rattle.optra_walk.specs.Codes.{parts_cmp, some_parts, then_then}
 use Rattle.optra_cross.specs.declared.CRow.{CRow}
 use Rattle.optra_cross.specs.CrossLemmas.{row_cmp, row_cmp_is}
@@ -14,74 +15,54 @@ use Rattle.optra_cross.specs.CrossLemmas.{row_cmp, row_cmp_is}
 abbrev pub codes : ℕ
 codes = 4503599627370496
 
--- whether a use of a track may be told
-abbrev pub may_tell : TrackId → ℕ → TypeId → Bool
-may_tell k m a = nat_lt k.0 1024 && (nat_lt m 4096 && nat_lt a.0 16)
-
--- the number of a use of a track
-abbrev pub use_code : TrackId → ℕ → TypeId → ℕ
-use_code k m a = (k.0 * 4096 + m) * 16 + a.0
+-- the number of a use of a track: that of the track, and then that of the use among those of the track
+abbrev pub visit_code : TrackId → ℕ → TypeId → ℕ
+visit_code k m a = k.0 * 65536 + use_code m a
 
 abbrev pub code_of : CRow → Option ℕ
-code_of row = cond (may_tell row.first_track row.first_at row.first && may_tell row.second_track row.second_at row.second)
-    (Some (use_code row.first_track row.first_at row.first * 67108864 + use_code row.second_track row.second_at row.second)) None
-
-abbrev pub track_of : ℕ → TrackId
-track_of code = record { 0 = code / 16 / 4096 % 1024 }
-
-abbrev pub minute_of : ℕ → ℕ
-minute_of code = code / 16 % 4096
-
-abbrev pub kind_of : ℕ → TypeId
-kind_of code = record { 0 = code % 16 }
+code_of row = cond (has_use_code row.first_track row.first_at row.first && has_use_code row.second_track row.second_at row.second)
+    (Some (visit_code row.first_track row.first_at row.first * 67108864 + visit_code row.second_track row.second_at row.second)) None
 
 abbrev pub row_of : ℕ → CRow
 row_of code = record {
-  first_track = track_of (code / 67108864);
-  first_at = minute_of (code / 67108864);
-  first = kind_of (code / 67108864);
-  second_track = track_of (code % 67108864);
-  second_at = minute_of (code % 67108864);
-  second = kind_of (code % 67108864);
+  first_track = code_track (code / 67108864 / 65536);
+  first_at = code_minute (code / 67108864);
+  first = code_kind (code / 67108864);
+  second_track = code_track (code % 67108864 / 65536);
+  second_at = code_minute (code % 67108864);
+  second = code_kind (code % 67108864);
 }
 
-record AreTold (k : TrackId) (m : ℕ) (a : TypeId) : Type 0 where
-  track : k.0 < 1024
-  minute : m < 4096
-  kind : a.0 < 16
-
-told_parts : (k : TrackId) (m : ℕ) (a : TypeId) → may_tell k m a ≡ true → AreTold k m a
-told_parts k m a is =
-    let parts = and_parts (nat_lt k.0 1024) (nat_lt m 4096 && nat_lt a.0 16) is in
-    let rest = and_parts (nat_lt m 4096) (nat_lt a.0 16) parts.1 in
-    record { track = ltb-true k.0 1024 parts.0; minute = ltb-true m 4096 rest.0; kind = ltb-true a.0 16 rest.1 }
-
 row_parts : (row : CRow) (code : ℕ) → code_of row ≡ Some code
-    → AreTold row.first_track row.first_at row.first × AreTold row.second_track row.second_at row.second
-    × (use_code row.first_track row.first_at row.first * 67108864 + use_code row.second_track row.second_at row.second ≡ code)
+    → IsToldUse row.first_track row.first_at row.first × IsToldUse row.second_track row.second_at row.second
+    × (visit_code row.first_track row.first_at row.first * 67108864 + visit_code row.second_track row.second_at row.second ≡ code)
 row_parts row code is =
-    let both = some_parts (may_tell row.first_track row.first_at row.first && may_tell row.second_track row.second_at row.second) _ code is in
-    let parts = and_parts (may_tell row.first_track row.first_at row.first) (may_tell row.second_track row.second_at row.second) both.0 in
-    (told_parts row.first_track row.first_at row.first parts.0, told_parts row.second_track row.second_at row.second parts.1, both.1)
+    let both = some_parts (has_use_code row.first_track row.first_at row.first && has_use_code row.second_track row.second_at row.second) _ code is in
+    let parts = and_parts (has_use_code row.first_track row.first_at row.first) (has_use_code row.second_track row.second_at row.second) both.0 in
+    (told_use row.first_track row.first_at row.first parts.0, told_use row.second_track row.second_at row.second parts.1, both.1)
 
 -- the number of a use is small, and leads back to its parts
-use_small : (k : TrackId) (m : ℕ) (a : TypeId) → AreTold k m a → use_code k m a < 67108864
-use_small k m a told = let x = told.track in let y = told.minute in let z = told.kind in omega arith
+use_small : (k : TrackId) (m : ℕ) (a : TypeId) → IsToldUse k m a → visit_code k m a < 67108864
+use_small k m a told = let x = told.track_few in let y = told.minute_few in let z = told.kind_few in omega arith
 
-use_parts : (k : TrackId) (m : ℕ) (a : TypeId) (code : ℕ) → AreTold k m a → code ≡ use_code k m a → (code / 16 / 4096 % 1024 ≡ k.0) × (code / 16 % 4096 ≡ m) × (code % 16 ≡ a.0)
+use_parts : (k : TrackId) (m : ℕ) (a : TypeId) (code : ℕ) → IsToldUse k m a → code ≡ visit_code k m a → (code / 65536 % 1024 ≡ k.0) × (code / 16 % 4096 ≡ m) × (code % 16 ≡ a.0)
 use_parts k m a code told is =
-    let x = told.track in
-    let y = told.minute in
-    let z = told.kind in
-    let above : code / 16 ≡ k.0 * 4096 + m = omega arith in
+    let x = told.track_few in
+    let y = told.minute_few in
+    let z = told.kind_few in
+    let above : code / 65536 ≡ k.0 = omega arith in
+    let under : code / 16 ≡ k.0 * 4096 + m = omega arith in
     (omega arith, omega arith, omega arith)
 
-use_cmp : (k : TrackId) (m : ℕ) (a : TypeId) (k' : TrackId) (m' : ℕ) (a' : TypeId) → AreTold k m a → AreTold k' m' a'
-    → nat_cmp (use_code k m a) (use_code k' m' a') ≡ ordering_then (nat_cmp k.0 k'.0) (ordering_then (nat_cmp m m') (nat_cmp a.0 a'.0))
+use_cmp : (k : TrackId) (m : ℕ) (a : TypeId) (k' : TrackId) (m' : ℕ) (a' : TypeId) → IsToldUse k m a → IsToldUse k' m' a'
+    → nat_cmp (visit_code k m a) (visit_code k' m' a') ≡ ordering_then (nat_cmp k.0 k'.0) (ordering_then (nat_cmp m m') (nat_cmp a.0 a'.0))
 use_cmp k m a k' m' a' told told' =
-    parts_cmp 16 (k.0 * 4096 + m) a.0 (k'.0 * 4096 + m') a'.0 told.kind told'.kind
-    ∙ ap (λ (o : Ordering). ordering_then o (nat_cmp a.0 a'.0)) (parts_cmp 4096 k.0 m k'.0 m' told.minute told'.minute)
-    ∙ then_then (nat_cmp k.0 k'.0) (nat_cmp m m') (nat_cmp a.0 a'.0)
+    let x = told.minute_few in
+    let y = told.kind_few in
+    let z = told'.minute_few in
+    let w = told'.kind_few in
+    parts_cmp 65536 k.0 (use_code m a) k'.0 (use_code m' a') (omega arith) (omega arith)
+    ∙ ap (ordering_then (nat_cmp k.0 k'.0)) (parts_cmp 16 m a.0 m' a'.0 told.kind_few told'.kind_few)
 
 -- ---- the laws
 pub few : codes < 2 ^ 64
@@ -118,10 +99,10 @@ ordered a b x y is is' =
     let q = row_parts b y is' in
     let first = use_cmp a.first_track a.first_at a.first b.first_track b.first_at b.first p.0 q.0 in
     let second = use_cmp a.second_track a.second_at a.second b.second_track b.second_at b.second p.1 q.1 in
-    let f = use_code a.first_track a.first_at a.first in
-    let s = use_code a.second_track a.second_at a.second in
-    let f' = use_code b.first_track b.first_at b.first in
-    let s' = use_code b.second_track b.second_at b.second in
+    let f = visit_code a.first_track a.first_at a.first in
+    let s = visit_code a.second_track a.second_at a.second in
+    let f' = visit_code b.first_track b.first_at b.first in
+    let s' = visit_code b.second_track b.second_at b.second in
     let rest = ordering_then (nat_cmp a.second_track.0 b.second_track.0) (ordering_then (nat_cmp a.second_at b.second_at) (nat_cmp a.second.0 b.second.0)) in
     let whole : nat_cmp x y ≡ ordering_then (nat_cmp f f') (nat_cmp s s') =
     sym (ap (λ (n : ℕ). nat_cmp n (f' * 67108864 + s')) p.2 ∙ ap (nat_cmp x) q.2)

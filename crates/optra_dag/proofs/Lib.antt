@@ -4,3 +4,4 @@ pub mod GraphLemmas
 pub mod NarrowLoops
 pub mod NarrowWays
 pub mod SkipLemmas
+pub mod SameLemmas

@@ -6,3 +6,4 @@ pub mod GraphParts
 pub mod WaySums
 pub mod NarrowSums
 pub mod Skips
+pub mod Agreeing

@@ -5,6 +5,7 @@ use std::alloc::AllocError;
 
 mod arc_slice;
 mod arcs;
+mod best;
 mod buffers;
 mod ends;
 mod graphs;
@@ -15,6 +16,7 @@ mod searching;
 mod skipping;
 mod spans;
 
+pub use best::best_by;
 pub use buffers::Buffers;
 pub use graphs::Dag;
 pub use narrow::{FAR, NARROW_ROOM, NarrowWeight, is_narrow, narrow_best_in};

@@ -154,7 +154,8 @@ fn lead_from_no_end(arcs: &NarrowSlice<'_>, ends: &Ends<'_>) -> bool
     count == 0 || arcs.at(count - 1).from < ends.first
 }
 
-/// The arcs, where all of them are narrow and leave nodes that are no ends.
+/// The arcs, where all of them are narrow and leave nodes that are no ends. A `None` too many costs time alone: the sums of the nodes
+/// are then read at each arc.
 fn inner_arcs<'a>(arcs: &ArcSlice<'a>, ends: &Ends<'_>) -> Option<NarrowSlice<'a>>
     requires { IsForward (plain_graph arcs.now ends.now) }
     ensures same { IfSome result (λ inner. inner ≡ arcs.now) }

@@ -17,11 +17,11 @@ use Rattle.optra_walk.specs.declared.Leg.{Leg}
 use Rattle.optra_walk.specs.Legs.{is_pass, arrival_of, dwell_of, after_action, next_depart_of}
 use Rattle.optra_walk.specs.Walks.{MeetsStop, head_of}
 use Rattle.optra_bid.specs.declared.Stop.{Stop}
-use Rattle.optra_graph.specs.declared.states.State.{State}
+use Rattle.optra_walk.specs.declared.state.State.{State}
 use Rattle.optra_walk.proofs.ListLemmas.{none_there}
 use Rattle.optra_graph.specs.declared.deadlines.Target.{Target}
 use Rattle.optra_graph.specs.Deadlines.{AreBounded, AreDeadlines, AreStopping, IsLeftTooLate, IsTooLate, end_of, limit_of, target_of}
-use Rattle.optra_graph.specs.Moves.{FitsAction, IsAfter, IsMove, Runs, done_after}
+use Rattle.optra_walk.specs.Moves.{FitsAction, IsAfter, IsMove, Runs, done_after}
 use Rattle.optra_graph.proofs.HorizonLemmas.{within_at}
 use Rattle.optra_graph.proofs.StepLemmas.{some_same, stop_there}
 use Rattle.optra_graph.proofs.WayLemmas.{run_within}

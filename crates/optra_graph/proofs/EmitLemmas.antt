@@ -8,7 +8,7 @@ use Rattle.optra_bid.specs.Specs.{Path}
 use Rattle.optra_graph.specs.declared.states.Layout.{Layout}
 use Rattle.optra_graph.specs.Arcs.{start_arc, IsKeptStart, Starts}
 use Rattle.optra_graph.specs.Flags.{is_set}
-use Rattle.optra_graph.specs.Moves.{start_state}
+use Rattle.optra_walk.specs.Moves.{start_state}
 use Rattle.optra_graph.specs.Places.{deadline_of, place_of}
 
 module _ (path : Path) (layout : Layout) (flags : List Bool) where

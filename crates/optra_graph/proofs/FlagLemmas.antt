@@ -10,7 +10,7 @@ use Rattle.optra_bid.specs.Specs.{Path}
 use Rattle.optra_graph.specs.declared.states.Layout.{Layout}
 use Rattle.optra_graph.specs.declared.stepping.Step.{Step}
 use Rattle.optra_graph.specs.Flags.{is_set, IsSet, IsStartPlace, AreStartsSet, Marks}
-use Rattle.optra_graph.specs.Moves.{start_state}
+use Rattle.optra_walk.specs.Moves.{start_state}
 use Rattle.optra_graph.specs.Places.{IsTimely, deadline_of, place_of}
 use Rattle.optra_graph.proofs.WayLemmas.{contains_filter}
 

@@ -18,8 +18,8 @@ use Rattle.optra_walk.specs.Values.{first_departure}
 use Rattle.optra_walk.specs.Walks.{IsWalk}
 use Rattle.optra_walk.specs.Orders.{leg_cmp, walk_cmp}
 use Rattle.optra_graph.specs.Timed.{Timed, AreAllWalks, leg_at, walk_of, IsRoute, AreAllRoutes, IsLegArc, IsStartArc, BeginsOnce, IsGraphOf}
-use Rattle.optra_graph.specs.declared.states.State.{State}
-use Rattle.optra_graph.specs.Moves.{start_state, IsMove, IsAfter, Runs}
+use Rattle.optra_walk.specs.declared.state.State.{State}
+use Rattle.optra_walk.specs.Moves.{start_state, IsMove, IsAfter, Runs}
 use Rattle.optra_graph.specs.Graphs.{state_at, IsStateNode, LeadsOn, IsTimed}
 use Rattle.optra_graph.proofs.AllRoutes.{all_routes}
 use Rattle.optra_graph.proofs.StepLemmas.{after_once}

@@ -6,8 +6,8 @@ use Rattle.optra_walk.specs.declared.Leg.{Leg}
 use Rattle.optra_walk.specs.declared.Action.TheVariants.{Finish}
 use Rattle.optra_walk.specs.Legs.{arrival_of}
 use Rattle.optra_walk.proofs.WalkLemmas.{arrival_later, next_later}
-use Rattle.optra_graph.specs.declared.states.State.{State}
-use Rattle.optra_graph.specs.Moves.{FitsAction, IsMove, IsAfter, Runs}
+use Rattle.optra_walk.specs.declared.state.State.{State}
+use Rattle.optra_walk.specs.Moves.{FitsAction, IsMove, IsAfter, Runs}
 
 pub within_at : (o : Option ℕ) (from to : ℕ) → IsSomeAnd o (IsFromTo from to) → (n : ℕ) × (o ≡ Some n) × (n ≤ to)
 within_at None from to h = absurd h

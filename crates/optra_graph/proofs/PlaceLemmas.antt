@@ -2,7 +2,7 @@
 use Rattle.std.proofs.Common.{◌≡◌, ℕ, zero, suc, ◌+◌, ◌-◌, ◌*◌, ◌/◌, ◌%◌, ◌≤◌, ◌<◌, Bool, true, false, nat_eq, ap, ◌∙◌, refl, arith}
 use Rattle.std.proofs.lemmas.Nat.{div-mul-add, div-add-mod'}
 use Rattle.std.proofs.Math.Nat.{mul-le-mul_right}
-use Rattle.optra_graph.specs.declared.states.State.{State}
+use Rattle.optra_walk.specs.declared.state.State.{State}
 use Rattle.optra_graph.specs.declared.states.Layout.{Layout}
 use Rattle.optra_graph.specs.Places.{column_at, mode_of, slot_of, place_of, places_of, state_of, station_at, HasColumns, IsPlaced}
 

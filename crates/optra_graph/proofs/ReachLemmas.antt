@@ -10,12 +10,12 @@ use Rattle.optra_walk.specs.declared.Action.{Action}
 use Rattle.optra_walk.specs.declared.Action.TheVariants.{Pass, Halt, Wait, Finish}
 use Rattle.optra_walk.specs.declared.Leg.{Leg}
 use Rattle.optra_walk.specs.Walks.{MeetsStop}
-use Rattle.optra_graph.specs.declared.states.State.{State}
+use Rattle.optra_walk.specs.declared.state.State.{State}
 use Rattle.optra_graph.specs.declared.states.Layout.{Layout}
 use Rattle.optra_graph.specs.declared.stepping.Step.{Step}
 use Rattle.optra_graph.specs.Columns.{deadline_in, stopping_in}
 use Rattle.optra_graph.specs.Flags.{is_set, IsPassed, IsSet, IsStartPlace, IsSteppedTo, AreStartsSet, Marks, IsReached, IsReachedTo, IsTrimmedTo, IsKept}
-use Rattle.optra_graph.specs.Moves.{start_state, FitsAction, IsMove, IsAfter, Runs, done_after}
+use Rattle.optra_walk.specs.Moves.{start_state, FitsAction, IsMove, IsAfter, Runs, done_after}
 use Rattle.optra_graph.specs.Places.{IsPlaced, IsTimely, deadline_of, mode_of, place_of, places_of, state_of}
 use Rattle.optra_graph.specs.Settings.{IsSetting}
 use Rattle.optra_graph.specs.Steps.{IsStep, AreSteps}

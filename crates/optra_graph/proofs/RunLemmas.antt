@@ -14,8 +14,8 @@ use Rattle.optra_walk.specs.declared.Leg.{Leg}
 use Rattle.optra_walk.specs.Legs.{is_halt, is_finish, next_depart_of, arrival_of, after_action}
 use Rattle.optra_walk.specs.Values.{first_departure}
 use Rattle.optra_walk.specs.Walks.{IsWalk, IsNext, IsEnd, IsAllowedWait, MeetsStop, FinishesLast, tail_of, head_of, last_leg}
-use Rattle.optra_graph.specs.declared.states.State.{State}
-use Rattle.optra_graph.specs.Moves.{start_state, FitsAction, IsMove, Runs, done_after}
+use Rattle.optra_walk.specs.declared.state.State.{State}
+use Rattle.optra_walk.specs.Moves.{start_state, FitsAction, IsMove, Runs, done_after}
 
 -- a walk without its start, with the stops that are left
 pub record IsTail (net : Net) (path : Path) (left : List Stop) (legs : List Leg) : Type 0 where

@@ -15,14 +15,14 @@ use Rattle.optra_walk.specs.declared.Leg.{Leg}
 use Rattle.optra_walk.specs.Legs.{next_depart_of, is_finish, dwell_of}
 use Rattle.optra_walk.specs.Walks.{MeetsStop}
 use Rattle.optra_walk.specs.Orders.{action_rank}
-use Rattle.optra_graph.specs.declared.states.State.{State}
+use Rattle.optra_walk.specs.declared.state.State.{State}
 use Rattle.optra_graph.specs.declared.states.Layout.{Layout}
 use Rattle.optra_graph.specs.declared.stepping.Step.{Step}
 use Rattle.optra_graph.specs.declared.stepping.Way.{Way}
-use Rattle.optra_graph.specs.Moves.{done_after, FitsAction, IsMove, IsAfter}
+use Rattle.optra_walk.specs.Moves.{done_after, FitsAction, IsMove, IsAfter, leg_by}
 use Rattle.optra_graph.specs.Places.{IsPlaced, IsTimely, deadline_of, place_of, places_of}
 use Rattle.optra_graph.specs.Settings.{IsSetting}
-use Rattle.optra_graph.specs.Steps.{LeadsTo, IsStep, bound_of, key_of, AreStepsBelow, leg_by, IsWay}
+use Rattle.optra_graph.specs.Steps.{LeadsTo, IsStep, bound_of, key_of, AreStepsBelow, IsWay}
 use Rattle.optra_graph.proofs.RunLemmas.{not_finish}
 use Rattle.optra_graph.proofs.ColumnLemmas.{column_there, deadline_least}
 use Rattle.optra_graph.proofs.HorizonLemmas.{after_later}

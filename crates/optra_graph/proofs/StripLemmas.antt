@@ -1,6 +1,6 @@
 -- Strips follow one another, and tell the states at their places.
 use Rattle.std.proofs.Common.{◌≡◌, ℕ, ◌+◌, ◌-◌, ◌*◌, ◌/◌, ◌%◌, ◌<◌, suc, nat_eq, ap, sym, ◌∙◌, arith}
-use Rattle.optra_graph.specs.declared.states.State.{State}
+use Rattle.optra_walk.specs.declared.state.State.{State}
 use Rattle.optra_graph.specs.declared.states.Layout.{Layout}
 use Rattle.optra_graph.specs.declared.strip.Strip.{Strip}
 use Rattle.optra_graph.specs.Places.{places_of, state_of, station_at}

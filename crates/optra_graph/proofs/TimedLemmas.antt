@@ -9,13 +9,13 @@ use Rattle.optra_network.specs.Net.{Net, IsFromTo}
 use Rattle.optra_bid.specs.Specs.{Path}
 use Rattle.optra_walk.specs.declared.Leg.{Leg}
 use Rattle.optra_walk.specs.Orders.{leg_cmp}
-use Rattle.optra_graph.specs.declared.states.State.{State}
+use Rattle.optra_walk.specs.declared.state.State.{State}
 use Rattle.optra_graph.specs.declared.states.Layout.{Layout}
 use Rattle.optra_graph.specs.declared.stepping.Step.{Step}
 use Rattle.optra_graph.specs.Arcs.{start_arc, Starts, IsKeptStep, Emits}
 use Rattle.optra_graph.specs.Flags.{IsSet, IsStartPlace, IsSteppedTo, IsKept}
 use Rattle.optra_graph.specs.Graphs.{state_at, IsStateNode, LeadsOn, IsTimed}
-use Rattle.optra_graph.specs.Moves.{start_state, IsMove, IsAfter, Runs}
+use Rattle.optra_walk.specs.Moves.{start_state, IsMove, IsAfter, Runs}
 use Rattle.optra_graph.specs.Nodes.{node_of, kept_before, states_of}
 use Rattle.optra_graph.specs.Places.{place_of, places_of, state_of}
 use Rattle.optra_graph.specs.Settings.{IsSetting}

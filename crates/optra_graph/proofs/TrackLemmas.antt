@@ -7,7 +7,7 @@ use Rattle.optra_network.specs.Net.{Net, MayUse, out_tracks_of}
 use Rattle.optra_network.specs.declared.TrackId.{TrackId}
 use Rattle.optra_network.specs.declared.Track.{Track}
 use Rattle.optra_bid.specs.Specs.{Path}
-use Rattle.optra_graph.specs.declared.states.State.{State}
+use Rattle.optra_walk.specs.declared.state.State.{State}
 use Rattle.optra_graph.specs.declared.states.Layout.{Layout}
 use Rattle.optra_graph.specs.declared.stepping.Step.{Step}
 use Rattle.optra_graph.specs.Places.{IsPlaced}

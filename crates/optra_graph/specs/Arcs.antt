@@ -11,7 +11,7 @@ use Rattle.optra_walk.specs.Orders.{leg_cmp}
 use Rattle.optra_graph.specs.declared.states.Layout.{Layout}
 use Rattle.optra_graph.specs.declared.stepping.Step.{Step}
 use Rattle.optra_graph.specs.Flags.{is_set, IsSet}
-use Rattle.optra_graph.specs.Moves.{start_state}
+use Rattle.optra_walk.specs.Moves.{start_state}
 use Rattle.optra_graph.specs.Nodes.{node_of}
 use Rattle.optra_graph.specs.Places.{IsTimely, place_of, places_of, state_of, station_at}
 use Rattle.optra_graph.specs.Steps.{IsStep}

@@ -7,9 +7,9 @@ use Rattle.optra_network.specs.declared.TrackId.{TrackId}
 use Rattle.optra_bid.specs.Specs.{Path, IsWindow}
 use Rattle.optra_bid.specs.declared.Stop.{Stop}
 use Rattle.optra_walk.specs.declared.Leg.{Leg}
-use Rattle.optra_graph.specs.declared.states.State.{State}
+use Rattle.optra_walk.specs.declared.state.State.{State}
 use Rattle.optra_graph.specs.declared.deadlines.Target.{Target}
-use Rattle.optra_graph.specs.Moves.{Runs}
+use Rattle.optra_walk.specs.Moves.{Runs}
 
 -- the destination within the arrival window
 abbrev pub end_of : Path → Target

@@ -5,7 +5,7 @@ use Rattle.optra_bid.specs.Specs.{Path}
 use Rattle.optra_walk.specs.declared.Leg.{Leg}
 use Rattle.optra_graph.specs.declared.states.Layout.{Layout}
 use Rattle.optra_graph.specs.declared.stepping.Step.{Step}
-use Rattle.optra_graph.specs.Moves.{start_state, Runs}
+use Rattle.optra_walk.specs.Moves.{start_state, Runs}
 use Rattle.optra_graph.specs.Places.{IsTimely, place_of, places_of, state_of}
 use Rattle.optra_graph.specs.Steps.{IsStep}
 

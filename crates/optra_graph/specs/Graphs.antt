@@ -7,8 +7,8 @@ use Rattle.optra_dag.specs.Paths as dag
 use Rattle.optra_walk.specs.declared.Action.TheVariants.{Finish}
 use Rattle.optra_walk.specs.declared.Leg.{Leg}
 use Rattle.optra_walk.specs.Orders.{leg_cmp}
-use Rattle.optra_graph.specs.declared.states.State.{State}
-use Rattle.optra_graph.specs.Moves.{start_state, IsMove, IsAfter, Runs}
+use Rattle.optra_walk.specs.declared.state.State.{State}
+use Rattle.optra_walk.specs.Moves.{start_state, IsMove, IsAfter, Runs}
 use Rattle.optra_graph.specs.Timed.{Timed, leg_at}
 
 abbrev pub no_state : State

@@ -1,7 +1,6 @@
 -- What time-expanded graphs mean, and what the parts of their construction keep.
 pub mod Timed
 pub mod TimedParts
-pub mod Moves
 pub mod Places
 pub mod Steps
 pub mod Deadlines

@@ -1,6 +1,6 @@
 -- The nodes of the places that are kept, which come in the order of the places.
 use Rattle.std.specs.Prelude.{◌≡◌, ℕ, zero, suc, ◌+◌, ◌-◌, ◌≤◌, Bool, true, false, List, [], ◌∷◌, length, map, take, slice_index_or}
-use Rattle.optra_graph.specs.declared.states.State.{State}
+use Rattle.optra_walk.specs.declared.state.State.{State}
 use Rattle.optra_graph.specs.declared.states.Layout.{Layout}
 use Rattle.optra_graph.specs.Flags.{IsSet}
 use Rattle.optra_graph.specs.Places.{state_of}

@@ -10,11 +10,11 @@ use Rattle.optra_walk.specs.declared.Leg.{Leg}
 use Rattle.optra_walk.specs.Legs.{dwell_of, arrival_of}
 use Rattle.optra_walk.specs.Orders.{action_rank}
 use Rattle.optra_walk.specs.Walks.{head_of, tail_of}
-use Rattle.optra_graph.specs.declared.states.State.{State}
+use Rattle.optra_walk.specs.declared.state.State.{State}
 use Rattle.optra_graph.specs.declared.states.Layout.{Layout}
 use Rattle.optra_graph.specs.declared.stepping.Step.{Step}
 use Rattle.optra_graph.specs.declared.stepping.Way.{Way}
-use Rattle.optra_graph.specs.Moves.{IsMove, IsAfter}
+use Rattle.optra_walk.specs.Moves.{IsMove, IsAfter, leg_by}
 use Rattle.optra_graph.specs.Places.{IsTimely, deadline_of, place_of, places_of}
 
 -- a leg that finishes leads to the end, any other one to the place of the state after it, which is in time
@@ -49,10 +49,6 @@ pub record AreStepsBelow (net : Net) (path : Path) (layout : Layout) (s : State)
   pub below : All (λ step. key_of step.leg < bound) steps
   pub rising : Ascend steps
   pub whole : (step : Step) → IsStep net path layout s step → key_of step.leg < bound → Contains steps step
-
--- a leg of the state on the track
-abbrev pub leg_by : State → TrackId → Action → Leg
-leg_by s track action = record { track = track; depart = s.minute; from_halt = s.halted; action = action }
 
 -- the train may leave by the track, and arrives at its head then, by whether it passes or halts there
 pub record IsWay (net : Net) (path : Path) (layout : Layout) (s : State) (way : Way) : Type 0 where

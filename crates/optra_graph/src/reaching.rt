@@ -5,15 +5,16 @@ ghost use Rattle.optra_graph.specs.Places.{IsPlaced, IsLayout, deadline_of, plac
 ghost use Rattle.optra_bid.specs.Specs.{IsWindow};
 ghost use Rattle.optra_graph.specs.Settings.{IsSetting};
 ghost use Rattle.optra_graph.specs.StepTables.{AreStepsTo};
-ghost use Rattle.optra_graph.specs.Moves.{start_state};
+ghost use Rattle.optra_walk.specs.Moves.{start_state};
 
 use crate::passing::next_set;
-use crate::states::{Layout, State};
+use crate::states::Layout;
 use crate::step_table::StepTable;
 use crate::stepping::{Step, fill_steps};
 use crate::strip::Strip;
 use optra_bid::Bid;
 use optra_network::{Minute, Network, NoMemory};
+use optra_walk::State;
 
 /// The first minute after those at which walks may begin.
 pub fn starts_end(bid: &Bid, layout: Layout<'_>) -> Minute
@@ -94,6 +95,8 @@ fn mark(flags: &mut Vec<bool>, steps: &[Step])
 
 /// Clears the flags of the places from which the end is not reached, and counts the steps between those that
 /// stay. One pass, from late to early.
+///
+/// No clause speaks of the count: it only says for how many arcs room is taken at first.
 pub fn trim(
     net: &Network,
     bid: &Bid,

@@ -8,15 +8,7 @@ ghost use Rattle.optra_graph.specs.Settings.{IsSetting};
 use crate::columns::Columns;
 use optra_bid::Bid;
 use optra_network::{Minute, Network, StationId};
-
-/// Where a train is to leave next, when, from a halt or not, and how many stops are done.
-#[derive(Clone, Copy, Debug, PartialEq, Eq)]
-pub struct State {
-    pub station: StationId,
-    pub minute: Minute,
-    pub halted: bool,
-    pub done: u16,
-}
+use optra_walk::State;
 
 /// How the states of a bid are numbered: minute by minute, in each by stops done, then by mode, then by the column of
 /// the station. A state has one of `slots` for its stops and its mode, and one of `stations` columns.

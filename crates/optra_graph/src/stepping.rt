@@ -4,12 +4,13 @@ ghost use Rattle.optra_network.specs.Net.{MayUse, out_tracks_of};
 ghost use Rattle.optra_walk.specs.Walks.{tail_of};
 ghost use Rattle.optra_graph.specs.Places.{IsPlaced, IsSmall, place_of};
 ghost use Rattle.optra_graph.specs.Settings.{IsSetting};
-ghost use Rattle.optra_graph.specs.Steps.{AreSteps, AreStepsBelow, IsWay, bound_of, leg_by};
+ghost use Rattle.optra_graph.specs.Steps.{AreSteps, AreStepsBelow, IsWay, bound_of};
+ghost use Rattle.optra_walk.specs.Moves.{leg_by};
 
-use crate::states::{Layout, State};
+use crate::states::Layout;
 use optra_bid::{Bid, Stop};
 use optra_network::{Minute, Network, NoMemory, StationId, TrackId, TypeId};
-use optra_walk::{Action, Leg};
+use optra_walk::{Action, Leg, State};
 
 /// An arc that may be: a leg, and the place that it leads to.
 #[derive(Clone, Copy, Debug, PartialEq, Eq)]

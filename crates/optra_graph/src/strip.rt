@@ -3,8 +3,9 @@ ghost use Rattle.std.specs.Prelude.{◌≡◌, ◌+◌, ◌<◌, ◌≤◌, leng
 ghost use Rattle.optra_graph.specs.Places.{places_of, state_of, HasColumns, IsPlaced, IsSmall};
 ghost use Rattle.optra_graph.specs.Strips.{IsStrip, IsWithin};
 
-use crate::states::{Layout, State};
+use crate::states::Layout;
 use optra_network::Minute;
+use optra_walk::State;
 
 /// The places of one minute, one count of stops done and one mode, which stand side by side, a column each.
 #[derive(Clone, Copy)]

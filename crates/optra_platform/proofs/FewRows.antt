@@ -6,7 +6,7 @@ use Rattle.std.specs.Prelude.{All}
 use Rattle.std.specs.Ordering.{nat_cmp}
 use Rattle.std.specs.declared.cmp.Ordering.TheVariants.{Less}
 use Rattle.optra_network.specs.Net.{Net, IsProper}
-use Rattle.optra_rows.specs.PlaceOrder.{few_by_places, last_part, less_parts}
+use Rattle.optra_rows.specs.PlaceCounts.{few_by_places, last_part, less_parts}
 use Rattle.optra_cert.specs.Counts.{AreFewerThan}
 use Rattle.optra_platform.specs.declared.PRow.{PRow}
 use Rattle.optra_platform.specs.PlatformLemmas.{row_cmp}

@@ -1,9 +1,10 @@
 //! The rows of platforms, as a family.
-ghost use Rattle.std.specs.Prelude.{◌≡◌, ◌+◌, ◌-◌, ◌↔◌, min, nat_eq, nat_le, nat_lt, false, slice_get, IsTrue, true};
+ghost use Rattle.std.specs.Prelude.{List, ◌≡◌, ◌+◌, ◌-◌, ◌↔◌, min, nat_eq, nat_le, nat_lt, false, slice_get, IsTrue, true};
 ghost use Rattle.std.specs.Option.{option_map_or};
-ghost use Rattle.optra_network.specs.Net.{halt_max_of};
-ghost use Rattle.optra_walk.specs.Rules.{head_of, is_standing, stands_at};
-ghost use Rattle.optra_platform.specs.Platforms.{IsPlatformRow, count_between, is_free, is_row_of, rows_between};
+ghost use Rattle.optra_network.specs.Net.{Net, halt_max_of};
+ghost use Rattle.optra_walk.specs.Families.{Entry, FitRows};
+ghost use Rattle.optra_walk.specs.Rules.{KeepsHalts, head_of, is_standing, stands_at};
+ghost use Rattle.optra_platform.specs.Platforms.{IsPlatformRow, count_between, is_free, is_row_of, platform_rows, rows_between};
 
 use crate::PRow;
 use optra_network::{Minute, Network, StationId, TrackId, TypeId};
@@ -19,14 +20,16 @@ pub struct PlatformRows;
 
 impl PlatformRows {
     /// The family of platform rows, which takes no memory.
-    pub fn new() -> PlatformRows {
+    pub fn new() -> PlatformRows
+        ensures { (net : Net) (entries : List Entry) → KeepsHalts net entries
+            ↔ FitRows (platform_rows net) entries }
+    {
         PlatformRows
     }
 }
 
 impl RowFamily for PlatformRows {
-    ghost use Rattle.optra_walk.specs.Rules.{KeepsHalts};
-    ghost use Rattle.optra_platform.specs.Platforms.{most_rows, platform_rows, standing_rows};
+    ghost use Rattle.optra_platform.specs.Platforms.{most_rows, standing_rows};
     ghost use Rattle.optra_platform.specs.PlatformLemmas.{standing_rows_listed, few_halts, capacity_low, unusable_none, halts_by_rows};
 
     type Row = PRow;

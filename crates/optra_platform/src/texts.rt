@@ -4,7 +4,7 @@ ghost use Rattle.optra_cert.specs.RowTexts.{read_by};
 ghost use Rattle.optra_platform.specs.PlatformTexts.{halt_kind, platform_texts};
 
 use crate::{PRow, PlatformRows};
-use optra_cert::columns::{minute_in, push_minute, push_text, station_in};
+use optra_cert::row_fields::{minute_in, push_minute, push_text, station_in};
 use optra_cert::{Cell, RowRead, RowText};
 use optra_network::{Network, NoMemory};
 use std::alloc::Global;

@@ -34,6 +34,15 @@ abbrev pub and_then : {A B F : Type 0} → Result A F → (A → Result B F) →
 and_then (Ok x) f = f x
 and_then (Err e) f = Err e
 
+-- the same, as `do` writes it
+infixl 10 ◌>>=◌
+abbrev pub ◌>>=◌ : {A B F : Type 0} → Result A F → (A → Result B F) → Result B F
+read >>= f = and_then read f
+
+-- a fault, where a test fails
+abbrev pub guard : {F : Type 0} → F → Bool → Result (Unit {0}) F
+guard f passes = if passes then Ok tt else Err f
+
 -- the records after the header, which is row 1, or what is wrong without it
 unfoldable pub rows_under : {F : Type 0} → F → Record → List Record → Result (List Record) F
 rows_under missing header [] = Err missing

@@ -8,7 +8,7 @@ ghost use Rattle.optra_records.specs.Tables.{GivesTable, rows_from, rows_under, 
 
 use crate::{Records, is_cell};
 use csv::ByteRecord;
-use std::alloc::{AllocError, Global};
+use std::alloc::{AllocError, AllocFailed, Global};
 
 /// Why a table isn't read: its first fault, or memory that couldn't be had.
 #[derive(Clone, Copy, Debug, PartialEq, Eq)]
@@ -26,6 +26,18 @@ impl<F> From<AllocError> for TableError<F> {
     ghost from_gives = { λ _ e. e ≡ NoMemory };
 
     fn from(_error: AllocError) -> TableError<F> {
+        TableError::NoMemory
+    }
+}
+
+// A growth that fails is want of memory, so that `list.push(..)?` may stand in a reader of rows.
+impl<T: Drop, F> From<AllocFailed<T>> for TableError<F> {
+    ghost use Rattle.std.specs.Prelude.{◌≡◌};
+    ghost use Rattle.optra_records.specs.declared.tables.TableError.TheVariants.{NoMemory};
+
+    ghost from_gives = { λ _ e. e ≡ NoMemory };
+
+    fn from(_error: AllocFailed<T>) -> TableError<F> {
         TableError::NoMemory
     }
 }

@@ -6,13 +6,12 @@ use Rattle.optra_network.specs.Net.{Net, IsProper}
 use Rattle.optra_network.specs.declared.TypeId.{TypeId}
 use Rattle.optra_bid.specs.declared.bids.Bid.{Bid}
 use Rattle.optra_walk.specs.declared.Leg.{Leg}
-use Rattle.optra_walk.specs.Families.{Rows, Entry, IsUsable}
+use Rattle.optra_walk.specs.Families.{Rows, Entry, IsUsable, HasRoom}
 use Rattle.optra_walk.specs.Values.{value_of}
 use Rattle.optra_walk.proofs.UsableLemmas.{walk_usable}
 use Rattle.optra_node.specs.declared.Decision.{Decision}
 use Rattle.optra_node.specs.Duals.{leg_price, walk_price, reduced_value, IsOffer, IsTerm}
 use Rattle.optra_node.proofs.SumLemmas.{sum_of-cons}
-use Rattle.optra_rows.specs.Loads.{HasRoom}
 use Rattle.optra_prices.specs.Replies.{IsReply}
 use Rattle.optra_prices.specs.Repairs.{FitBeside, IsFirstWorthiest, IsGiven}
 use Rattle.optra_prices.proofs.RepairLemmas.{worthiest_unique}

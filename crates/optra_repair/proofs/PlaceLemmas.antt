@@ -7,7 +7,7 @@ use Rattle.std.proofs.lemmas.List.Elements.{All-nil, All-cons, All-head, All-tai
 use Rattle.optra_network.specs.Net.{Net, IsProper}
 use Rattle.optra_bid.specs.declared.bids.Bid.{Bid}
 use Rattle.optra_walk.specs.declared.Leg.{Leg}
-use Rattle.optra_walk.specs.Families.{Rows, Entry, IsUsable}
+use Rattle.optra_walk.specs.Families.{Rows, Entry, IsUsable, HasRoom}
 use Rattle.optra_walk.specs.Orders.{walk_cmp}
 use Rattle.optra_walk.specs.Values.{value_of, first_departure}
 use Rattle.optra_walk.proofs.UsableLemmas.{walk_usable}
@@ -18,8 +18,7 @@ use Rattle.optra_node.specs.Duals.{sum_of}
 use Rattle.optra_node.specs.Laws.{TestsTellAllowed}
 use Rattle.optra_node.specs.Spans.{IsLegOk}
 use Rattle.optra_node.proofs.SumLemmas.{sum_of-cons}
-use Rattle.optra_rows.specs.Loads.{HasRoom}
-use Rattle.optra_prices.specs.Arcs.{leg_value}
+use Rattle.optra_walk.specs.Shares.{leg_value}
 use Rattle.optra_prices.specs.Repairs.{IsPlaceable, IsFirstWorthiest}
 use Rattle.optra_prices.proofs.ArcLemmas.{leads_on, leads_back, leads_within, leg_there}
 use Rattle.optra_prices.proofs.ValueLemmas.{walk_sum}

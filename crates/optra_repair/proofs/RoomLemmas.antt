@@ -6,10 +6,9 @@ use Rattle.std.proofs.lemmas.List.{take_all}
 use Rattle.std.proofs.lemmas.List.Sums.{sum_by-append, sum_by-cons}
 use Rattle.optra_network.specs.declared.TypeId.{TypeId}
 use Rattle.optra_walk.specs.declared.Leg.{Leg}
-use Rattle.optra_walk.specs.Families.{Rows, Entry, FitRows, load_of}
-use Rattle.optra_rows.specs.Loads.{HasRoom}
+use Rattle.optra_walk.specs.Families.{Rows, Entry, FitRows, load_of, HasRoom}
 use Rattle.optra_rows.proofs.FitLemmas.{load_of-more, fits_more}
-use Rattle.optra_rows.proofs.LoadLemmas.{none_past, at_contains}
+use Rattle.optra_walk.proofs.RoomLemmas.{none_past, at_contains}
 use Rattle.optra_prices.specs.Parts.{IsPutIn, IsRoomIn}
 use Rattle.optra_prices.specs.Repairs.{FitBeside}
 use Rattle.optra_prices.specs.declared.arc_tables.ArcTables.{ArcTables}

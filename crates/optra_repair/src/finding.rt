@@ -1,12 +1,9 @@
 //! The walk that is worth most of those that may be taken.
-ghost use Rattle.std.specs.Prelude.{◌≡◌, ◌*◌, ◌≤◌, ℕ, List, length, All, IfOk, IfSome, IfNone, MatchBool, pos, ◌<ℤ◌, ◌≤ℤ◌};
-ghost use Rattle.optra_dag.specs.Paths.{IsPath, IsFirstBest};
+ghost use Rattle.std.specs.Prelude.{◌≡◌, length, All, IfOk, MatchBool, pos, ◌<ℤ◌, ◌≤ℤ◌};
 ghost use Rattle.optra_prices.specs.Arcs.{IsArcValue};
-ghost use Rattle.optra_repair.specs.Parts.{IsWorthPath, allows_at, weight_at};
+ghost use Rattle.optra_repair.specs.Parts.{IsWorthPath};
 
-use optra_dag::{
-    Buffers, Dag, FAR, NARROW_ROOM, NarrowWeight, Weight, first_best_in, is_narrow, narrow_best_in,
-};
+use optra_dag::{Buffers, FAR, NarrowWeight, Weight, best_by};
 use optra_graph::TimeGraph;
 use optra_network::NoMemory;
 use optra_prices::parts::ArcPart;
@@ -59,42 +56,6 @@ impl<'a> NarrowWeight for Parts<'a> {
 /// What no part exceeds in size.
 const MOST: u64 = 1_000_000_000_000_000;
 
-/// The first best path, in 64 bits.
-fn narrow_best(
-    buffers: &mut Buffers,
-    dag: &Dag,
-    weights: &Parts<'_>,
-) -> Result<Option<i128>, NoMemory>
-    requires count { length weights.now.parts.now ≡ length dag.now.arcs }
-    requires range { All (λ part. IsArcValue part.value) weights.now.parts.now }
-    requires room { MOST * length dag.now.ends ≤ NARROW_ROOM }
-    ensures best { IfOk result (λ answer. IfSome answer (λ sum. IsFirstBest dag.now
-        (allows_at weights.now.parts.now) (weight_at weights.now.parts.now) sum buffers.new)) }
-    ensures none { IfOk result (λ answer. IfNone answer ((path : List ℕ)
-        → IsPath dag.now (allows_at weights.now.parts.now) path → ⊥)) }
-{
-    let Some(sum) = narrow_best_in(buffers, dag, weights, MOST)? else {
-        return Ok(None);
-    };
-    Ok(Some(i128::from(sum)))
-}
-
-/// The first best path: in 64 bits where they hold all sums.
-fn best_in(buffers: &mut Buffers, dag: &Dag, weights: &Parts<'_>) -> Result<Option<i128>, NoMemory>
-    requires count { length weights.now.parts.now ≡ length dag.now.arcs }
-    requires range { All (λ part. IsArcValue part.value) weights.now.parts.now }
-    ensures best { IfOk result (λ answer. IfSome answer (λ sum. IsFirstBest dag.now
-        (allows_at weights.now.parts.now) (weight_at weights.now.parts.now) sum buffers.new)) }
-    ensures none { IfOk result (λ answer. IfNone answer ((path : List ℕ)
-        → IsPath dag.now (allows_at weights.now.parts.now) path → ⊥)) }
-{
-    if is_narrow(dag, MOST) {
-        narrow_best(buffers, dag, weights)
-    } else {
-        first_best_in(buffers, dag, weights)
-    }
-}
-
 /// Whether a path is worth more than 0.
 fn is_worth(sum: i128) -> bool
     ensures { MatchBool result (pos 0 <ℤ sum) (sum ≤ℤ pos 0) }
@@ -114,7 +75,8 @@ pub(crate) fn worth_path(
     ensures { IfOk result (λ worth. IsWorthPath graph.now parts.now worth buffers.new) }
 {
     let weights = Parts { parts };
-    let Some(sum) = best_in(buffers, graph.dag(), &weights)? else {
+    let narrow = weights.copied();
+    let Some(sum) = best_by(buffers, graph.dag(), &weights, &narrow, MOST)? else {
         return Ok(false);
     };
     Ok(is_worth(sum))

@@ -11,10 +11,10 @@ use Rattle.optra_walk.specs.declared.Action.TheVariants.{Pass, Halt, Wait, Finis
 use Rattle.optra_walk.specs.declared.Leg.{Leg}
 use Rattle.optra_walk.specs.Legs.{is_pass, dwell_of, arrival_of, after_action}
 use Rattle.optra_walk.specs.Walks.{tail_of, head_of, MeetsStop}
-use Rattle.optra_rests.specs.declared.states.State.{State}
+use Rattle.optra_walk.specs.declared.state.State.{State}
 use Rattle.optra_rests.specs.declared.reach.Reach.{Reach}
 use Rattle.optra_rests.specs.Reaches.{IsReach, IsAhead, levels_of}
-use Rattle.optra_rests.specs.Rests.{FitsAction, IsRest, done_after}
+use Rattle.optra_walk.specs.Moves.{FitsAction, Runs, done_after}
 use Rattle.optra_rests.proofs.ReachLemmas.{some_same, track_there, head_is, ran, arrived, arrival_within}
 
 module _ (net : Net) (path : Path) (reach : Reach) (is : IsReach net path reach) where
@@ -38,7 +38,7 @@ module _ (net : Net) (path : Path) (reach : Reach) (is : IsReach net path reach)
   stop_there (Some stop) leg h = (stop, refl, h)
 
   -- the stops that are left take their time
-  pub rest_ahead : (s : State) (legs : List Leg) → s.done ≤ length path.stops → IsRest net path s legs → IsAhead path reach s
+  pub rest_ahead : (s : State) (legs : List Leg) → s.done ≤ length path.stops → Runs net path s legs → IsAhead path reach s
   rest_ahead s [] few h = absurd h
   rest_ahead s (leg ∷ rest) few (m, inl f) =
       let fits : FitsAction net path s.done leg Finish = subst (λ a. FitsAction net path s.done leg a) f.0 m.action in

@@ -13,11 +13,12 @@ use Rattle.optra_walk.specs.Families.{IsUsable}
 use Rattle.optra_walk.specs.Legs.{dwell_of}
 use Rattle.optra_rests.specs.Asks.{IsAsked, AreAsked}
 use Rattle.optra_rests.specs.Tables.{IsReadyFor}
-use Rattle.optra_rests.specs.Ways.{leg_by, IsWay}
+use Rattle.optra_walk.specs.Moves.{leg_by}
+use Rattle.optra_rests.specs.Ways.{IsWay}
 use Rattle.optra_rests.specs.Weights.{Weights, TellsCost, AreAlike, AreWeightsFor}
 use Rattle.optra_rests.specs.declared.asks.Ask.{Ask}
 use Rattle.optra_rests.specs.declared.rest_table.RestTable.{RestTable}
-use Rattle.optra_rests.specs.declared.states.State.{State}
+use Rattle.optra_walk.specs.declared.state.State.{State}
 use Rattle.optra_rests.specs.declared.ways.Way.{Way}
 use Rattle.optra_rests.proofs.ReachLemmas.{track_there}
 

@@ -11,10 +11,10 @@ use Rattle.optra_walk.specs.declared.Action.TheVariants.{Pass, Halt, Wait, Finis
 use Rattle.optra_walk.specs.declared.Leg.{Leg}
 use Rattle.optra_walk.specs.Legs.{is_pass, dwell_of, arrival_of, after_action}
 use Rattle.optra_walk.specs.Walks.{tail_of, head_of, MeetsStop}
-use Rattle.optra_rests.specs.declared.states.State.{State}
+use Rattle.optra_walk.specs.declared.state.State.{State}
 use Rattle.optra_rests.specs.declared.reach.Reach.{Reach}
 use Rattle.optra_rests.specs.Reaches.{IsReach, WasTime, behind_of}
-use Rattle.optra_rests.specs.Rests.{FitsAction, IsMove, IsAfter, done_after, start_state}
+use Rattle.optra_walk.specs.Moves.{FitsAction, IsMove, IsAfter, done_after, start_state}
 use Rattle.optra_rests.proofs.ReachLemmas.{track_there, head_is, ran, arrived}
 
 some_same : {X : Type 0} (x y : X) → Some x ≡ Some y → x ≡ y

@@ -10,8 +10,10 @@ use Rattle.optra_walk.specs.declared.Action.TheVariants.{Finish}
 use Rattle.optra_walk.specs.declared.Leg.{Leg}
 use Rattle.optra_walk.specs.Legs.{is_finish}
 use Rattle.optra_rests.specs.Weights.{Weights}
-use Rattle.optra_rests.specs.declared.states.State.{State}
-use Rattle.optra_rests.specs.Rests.{IsMove, IsAfter, IsRest, IsOpenRest, IsRestWorth, IsGreatestOf, IsRestSize, IsBestRest, AnyLeg, greater_of, worth_by, rest_worth, share_of}
+use Rattle.optra_walk.specs.declared.state.State.{State}
+use Rattle.optra_walk.specs.Moves.{IsMove, IsAfter, Runs}
+use Rattle.optra_walk.specs.Shares.{share_of}
+use Rattle.optra_rests.specs.Rests.{IsOpenRest, IsRestWorth, IsGreatestOf, IsRestSize, IsBestRest, AnyLeg, greater_of, worth_by, rest_worth}
 use Rattle.optra_rests.proofs.RestLemmas.{all_head, all_tail, not_finish}
 
 -- ---- the greatest of numbers
@@ -133,13 +135,13 @@ module _ (w : Weights) (net : Net) (bid : Bid) (s : State) where
     size = size;
   }
     where
-      there : (rest : List Leg) → IsOpenRest w net bid.path s (x ∷ rest) → ((x.action ≡ Finish) × (rest ≡ [])) ⊎ ((a : State) × IsAfter net bid.path s x a × IsRest net bid.path a rest)
+      there : (rest : List Leg) → IsOpenRest w net bid.path s (x ∷ rest) → ((x.action ≡ Finish) × (rest ≡ [])) ⊎ ((a : State) × IsAfter net bid.path s x a × Runs net bid.path a rest)
           → (w.may_have x ≡ true) × IsOpenRest w net bid.path after rest
       there rest h (inl f) = absurd (true≢false (sym (ap is_finish f.0) ∙ not_finish net bid.path x after.minute is_after.time x.action refl))
       there rest h (inr f) = (
         all_head (λ (leg : Leg). w.may_have leg ≡ true) x rest h.each,
         record {
-          rest = subst (λ (a : State). IsRest net bid.path a rest) (after_once x f.0 after f.1 is_after) f.2;
+          rest = subst (λ (a : State). Runs net bid.path a rest) (after_once x f.0 after f.1 is_after) f.2;
           each = all_tail (λ (leg : Leg). w.may_have leg ≡ true) x rest h.each;
         },
       )
@@ -159,7 +161,7 @@ module _ (w : Weights) (net : Net) (bid : Bid) (s : State) where
     size = size;
   }
     where
-      there : (rest : List Leg) → IsOpenRest w net bid.path s (x ∷ rest) → ((x.action ≡ Finish) × (rest ≡ [])) ⊎ ((a : State) × IsAfter net bid.path s x a × IsRest net bid.path a rest)
+      there : (rest : List Leg) → IsOpenRest w net bid.path s (x ∷ rest) → ((x.action ≡ Finish) × (rest ≡ [])) ⊎ ((a : State) × IsAfter net bid.path s x a × Runs net bid.path a rest)
           → (w.may_have x ≡ true) × (rest ≡ [])
       there rest h (inl f) = (all_head (λ (leg : Leg). w.may_have leg ≡ true) x rest h.each, f.1)
       there rest h (inr f) = absurd (true≢false (sym (ap is_finish finish) ∙ not_finish net bid.path x f.0.minute f.1.time x.action refl))

@@ -11,7 +11,7 @@ use Rattle.optra_bid.specs.declared.bids.Bid.{Bid}
 use Rattle.optra_network.specs.declared.StationId.{StationId}
 use Rattle.optra_bid.specs.Specs.{Path}
 use Rattle.optra_rests.specs.Weights.{Weights}
-use Rattle.optra_rests.specs.declared.states.State.{State}
+use Rattle.optra_walk.specs.declared.state.State.{State}
 use Rattle.optra_rests.specs.declared.states.Layout.{Layout}
 use Rattle.optra_rests.specs.declared.ways.Way.{Way}
 use Rattle.optra_rests.specs.Ways.{IsWay, IsOn}

@@ -6,8 +6,8 @@ use Rattle.optra_walk.specs.declared.Leg.{Leg}
 use Rattle.optra_walk.specs.declared.Action.TheVariants.{Finish}
 use Rattle.optra_walk.specs.Legs.{arrival_of}
 use Rattle.optra_walk.proofs.WalkLemmas.{arrival_later, next_later}
-use Rattle.optra_rests.specs.declared.states.State.{State}
-use Rattle.optra_rests.specs.Rests.{FitsAction, IsMove, IsAfter, IsRest}
+use Rattle.optra_walk.specs.declared.state.State.{State}
+use Rattle.optra_walk.specs.Moves.{FitsAction, IsMove, IsAfter, Runs}
 
 within_at : (o : Option ℕ) (from to : ℕ) → IsSomeAnd o (IsFromTo from to) → (n : ℕ) × (o ≡ Some n) × (n ≤ to)
 within_at None from to h = absurd h
@@ -18,7 +18,7 @@ after_later net path proper s after leg m a =
     let l = next_later net path.kind leg after.minute proper a.time in
     let e = m.time in omega arith
 
-pub rest_before : (net : Net) (path : Path) → IsProper net → (s : State) (legs : List Leg) → IsRest net path s legs → s.minute < path.arrive.to
+pub rest_before : (net : Net) (path : Path) → IsProper net → (s : State) (legs : List Leg) → Runs net path s legs → s.minute < path.arrive.to
 rest_before net path proper s [] h = absurd h
 rest_before net path proper s (leg ∷ rest) (m, inl f) =
     let fits : FitsAction net path s.done leg Finish = subst (λ a. FitsAction net path s.done leg a) f.0 m.action in

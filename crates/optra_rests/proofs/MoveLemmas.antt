@@ -18,13 +18,15 @@ use Rattle.optra_walk.specs.Legs.{next_depart_of, dwell_of}
 use Rattle.optra_walk.specs.Walks.{MeetsStop}
 use Rattle.optra_walk.specs.Families.{IsUsable}
 use Rattle.optra_rests.specs.Weights.{Weights, AreWeightsFor}
-use Rattle.optra_rests.specs.declared.states.State.{State}
+use Rattle.optra_walk.specs.declared.state.State.{State}
 use Rattle.optra_rests.specs.declared.ways.Way.{Way}
 use Rattle.optra_rests.specs.declared.rest_table.RestTable.{RestTable}
 use Rattle.optra_rests.specs.Places.{IsPlaced, mode_of}
-use Rattle.optra_rests.specs.Rests.{FitsAction, IsMove, IsAfter, IsRestSize, IsBestRest, AnyLeg, greater_of, worth_by, end_price, wait_price}
+use Rattle.optra_walk.specs.Moves.{FitsAction, IsMove, IsAfter, leg_by}
+use Rattle.optra_walk.specs.Shares.{end_price, wait_price}
+use Rattle.optra_rests.specs.Rests.{IsRestSize, IsBestRest, AnyLeg, greater_of, worth_by}
 use Rattle.optra_rests.specs.Tables.{IsReadyFor, rest_at, end_of}
-use Rattle.optra_rests.specs.Ways.{leg_by, IsWay, IsOn, IsLegBy, IsHaltBelow, IsHaltBy, IsWaitBelow, IsWaitBy}
+use Rattle.optra_rests.specs.Ways.{IsWay, IsOn, IsLegBy, IsHaltBelow, IsHaltBy, IsWaitBelow, IsWaitBy}
 use Rattle.optra_rests.proofs.BestLemmas.{best_same, best_both, best_none, best_on, best_end}
 use Rattle.optra_rests.proofs.FillLemmas.{rest_by, early_before}
 use Rattle.optra_rests.proofs.HorizonLemmas.{after_later}
@@ -104,13 +106,13 @@ module _ (net : Net) (path : Path) (s : State) where
     abbrev pub after_wait : ℕ → State
     after_wait d = record { station = way.head; minute = way.halt + d; halted = true; done = s.done }
 
-    is_after_pass : IsAfter net path s (leg_by s way.track Pass) after_pass
+    pub is_after_pass : IsAfter net path s (leg_by s way.track Pass) after_pass
     is_after_pass = record { place = by.head; time = by.pass; mode = refl; done = refl }
 
-    is_after_halt : (d : ℕ) → IsAfter net path s (leg_by s way.track (Halt d)) (after_halt d)
+    pub is_after_halt : (d : ℕ) → IsAfter net path s (leg_by s way.track (Halt d)) (after_halt d)
     is_after_halt d = record { place = by.head; time = next_halt d; mode = refl; done = refl }
 
-    is_after_wait : (d : ℕ) → IsAfter net path s (leg_by s way.track (Wait d)) (after_wait d)
+    pub is_after_wait : (d : ℕ) → IsAfter net path s (leg_by s way.track (Wait d)) (after_wait d)
     is_after_wait d = record { place = by.head; time = next_wait d; mode = refl; done = refl }
 
     -- a halt that may be next meets the stop there

@@ -4,8 +4,8 @@ use Rattle.std.specs.Prelude.{ℤ, pos, negsuc, ◌+ℤ◌, ◌*ℤ◌, ◌≤�
 use Rattle.std.specs.Int.{w128}
 use Rattle.std.proofs.Math.Nat.{mul-le-mul_left}
 use Rattle.std.proofs.lemmas.Int.{ints, to_z-of_z}
-use Rattle.optra_bid.specs.Specs.{IsBetween, IsRate}
-use Rattle.optra_rests.specs.Shares.{IsTimesPrice, IsPriceOff, IsBase, IsShare, IsStartValue}
+use Rattle.optra_bid.specs.Specs.{IsBetween}
+use Rattle.optra_walk.specs.Shares.{IsAdded}
 use Rattle.optra_rests.specs.Sizes.{IsRowPrice, IsLegPrice, IsWholeRest, IsCapacityPrice}
 
 -- a product lies within the bounds of its factors
@@ -14,15 +14,6 @@ product_within most (pos p) n low high = let h : p ≤ most = omega (arith, ints
 product_within most (negsuc p) n low high = absurd (omega (arith, ints))
 
 -- a number that fits is itself again
-pub rate_same : (z : ℤ) → IsRate z → to_z w64 (of_z w64 z) ≡ z
-rate_same z range = let a = range.0 in let b = range.1 in let fits : FitsSigned w64 z = omega (arith, ints) in to_z-of_z w64 z fits
-
-pub times_same : (z : ℤ) → IsTimesPrice z → to_z w64 (of_z w64 z) ≡ z
-times_same z range = let a = range.0 in let b = range.1 in let fits : FitsSigned w64 z = omega (arith, ints) in to_z-of_z w64 z fits
-
-pub off_same : (z : ℤ) → IsPriceOff z → to_z w64 (of_z w64 z) ≡ z
-off_same z range = let a = range.0 in let b = range.1 in let fits : FitsSigned w64 z = omega (arith, ints) in to_z-of_z w64 z fits
-
 pub row_price_same : (z : ℤ) → IsRowPrice z → to_z w64 (of_z w64 z) ≡ z
 row_price_same z range = let a = range.0 in let b = range.1 in let fits : FitsSigned w64 z = omega (arith, ints) in to_z-of_z w64 z fits
 
@@ -36,20 +27,14 @@ price_is_cost z range = let a = range.0 in let b = range.1 in subst (IsBetween (
 pub capacity_price_same : (z : ℤ) → IsCapacityPrice z → to_z w128 (of_z w128 z) ≡ z
 capacity_price_same z range = let a = range.0 in let b = range.1 in let fits : FitsSigned w128 z = omega (arith, ints) in to_z-of_z w128 z fits
 
-pub base_same : (z : ℤ) → IsBase z → to_z w64 (of_z w64 z) ≡ z
-base_same z range = let a = range.0 in let b = range.1 in let fits : FitsSigned w64 z = omega (arith, ints) in to_z-of_z w64 z fits
-
-pub share_same : (z : ℤ) → IsShare z → to_z w64 (of_z w64 z) ≡ z
-share_same z range = let a = range.0 in let b = range.1 in let fits : FitsSigned w64 z = omega (arith, ints) in to_z-of_z w64 z fits
-
-pub start_value_same : (z : ℤ) → IsStartValue z → to_z w64 (of_z w64 z) ≡ z
+pub start_value_same : (z : ℤ) → IsAdded z → to_z w64 (of_z w64 z) ≡ z
 start_value_same z range = let a = range.0 in let b = range.1 in let fits : FitsSigned w64 z = omega (arith, ints) in to_z-of_z w64 z fits
 
 pub whole_rest_same : (z : ℤ) → IsWholeRest z → to_z w128 (of_z w128 z) ≡ z
 whole_rest_same z range = let a = range.0 in let b = range.1 in let fits : FitsSigned w128 z = omega (arith, ints) in to_z-of_z w128 z fits
 
 -- a start and a rest together
-pub whole_same : (start rest sum : ℤ) → IsStartValue start → IsWholeRest rest → sum ≡ to_z w64 (of_z w64 start) +ℤ to_z w128 (of_z w128 rest) → to_z w128 (of_z w128 sum) ≡ start +ℤ rest
+pub whole_same : (start rest sum : ℤ) → IsAdded start → IsWholeRest rest → sum ≡ to_z w64 (of_z w64 start) +ℤ to_z w128 (of_z w128 rest) → to_z w128 (of_z w128 sum) ≡ start +ℤ rest
 whole_same start rest sum s r is =
     let e : sum ≡ start +ℤ rest = is ∙ (λ i. start_value_same start s i +ℤ whole_rest_same rest r i) in
     let a = s.0 in
@@ -58,52 +43,6 @@ whole_same start rest sum s r is =
     let d = r.1 in
     let fits : FitsSigned w128 sum = omega (arith, ints) in
     to_z-of_z w128 sum fits ∙ e
-
-pub rate_kept : (z : ℤ) → IsRate z → IsRate (to_z w64 (of_z w64 z))
-rate_kept z range = subst IsRate (sym (rate_same z range)) range
-
--- ---- a rate times minutes
-module _ (rate x : ℤ) (n : ℕ) (range : IsRate rate) (few : n < 131072) (is : x ≡ pos n) where
-  minutes_same : to_z w64 (of_z w64 x) ≡ pos n
-  minutes_same = let fits : FitsSigned w64 x = omega (arith, ints) in to_z-of_z w64 x fits ∙ is
-
-  factors : to_z w64 (of_z w64 rate) *ℤ to_z w64 (of_z w64 x) ≡ rate *ℤ pos n
-  factors = λ i. rate_same rate range i *ℤ minutes_same i
-
-  times_within : IsTimesPrice (rate *ℤ pos n)
-  times_within = let w = product_within 1000000 rate n range.0 range.1 in let a = w.0 in let b = w.1 in (a, omega (arith, ints))
-
-  times_fit : FitsSigned w64 (rate *ℤ pos n)
-  times_fit = let a = times_within.0 in let b = times_within.1 in omega (arith, ints)
-
-  pub rate_times_fit : FitsSigned w64 (to_z w64 (of_z w64 rate) *ℤ to_z w64 (of_z w64 x))
-  rate_times_fit = subst (λ (z : ℤ). FitsSigned w64 z) (sym factors) times_fit
-
-  pub rate_times_value : to_z w64 (of_z w64 (to_z w64 (of_z w64 rate) *ℤ to_z w64 (of_z w64 x))) ≡ rate *ℤ pos n
-  rate_times_value = ap (λ (z : ℤ). to_z w64 (of_z w64 z)) factors ∙ to_z-of_z w64 (rate *ℤ pos n) times_fit
-
-  pub rate_times_range : IsTimesPrice (to_z w64 (of_z w64 (to_z w64 (of_z w64 rate) *ℤ to_z w64 (of_z w64 x))))
-  rate_times_range = subst IsTimesPrice (sym rate_times_value) times_within
-
--- ---- the sum of two of these
-module _ (x y : ℤ) (x_range : IsTimesPrice x) (y_range : IsTimesPrice y) where
-  summands : to_z w64 (of_z w64 x) +ℤ to_z w64 (of_z w64 y) ≡ x +ℤ y
-  summands = λ i. times_same x x_range i +ℤ times_same y y_range i
-
-  sum_within : IsPriceOff (x +ℤ y)
-  sum_within = let a = x_range.0 in let b = x_range.1 in let c = y_range.0 in let d = y_range.1 in (omega (arith, ints), omega (arith, ints))
-
-  sum_fits : FitsSigned w64 (x +ℤ y)
-  sum_fits = let a = sum_within.0 in let b = sum_within.1 in omega (arith, ints)
-
-  pub times_sum_fits : FitsSigned w64 (to_z w64 (of_z w64 x) +ℤ to_z w64 (of_z w64 y))
-  times_sum_fits = subst (λ (z : ℤ). FitsSigned w64 z) (sym summands) sum_fits
-
-  pub times_sum_value : to_z w64 (of_z w64 (to_z w64 (of_z w64 x) +ℤ to_z w64 (of_z w64 y))) ≡ x +ℤ y
-  times_sum_value = ap (λ (z : ℤ). to_z w64 (of_z w64 z)) summands ∙ to_z-of_z w64 (x +ℤ y) sum_fits
-
-  pub times_sum_range : IsPriceOff (to_z w64 (of_z w64 (to_z w64 (of_z w64 x) +ℤ to_z w64 (of_z w64 y))))
-  times_sum_range = subst IsPriceOff (sym times_sum_value) sum_within
 
 -- ---- a price of a row times a count
 module _ (price x y : ℤ) (n : ℕ) (range : IsRowPrice price) (few : n < 4294967296) (x_is : x ≡ to_z w64 (of_z w64 price)) (y_is : y ≡ pos n) where

@@ -14,12 +14,12 @@ use Rattle.optra_walk.specs.declared.Action.TheVariants.{Pass, Halt, Wait, Finis
 use Rattle.optra_walk.specs.declared.Leg.{Leg}
 use Rattle.optra_walk.specs.Legs.{is_pass, arrival_of, next_depart_of, after_action}
 use Rattle.optra_walk.specs.Walks.{tail_of, head_of}
-use Rattle.optra_rests.specs.declared.states.State.{State}
+use Rattle.optra_walk.specs.declared.state.State.{State}
 use Rattle.optra_rests.specs.declared.reach.Reach.{Reach}
 use Rattle.optra_rests.specs.Reaches.{from_origin, to_destination, IsReach, IsReached, IsInTime}
 use Rattle.optra_rests.specs.declared.ways.Way.{Way}
-use Rattle.optra_rests.specs.Rests.{FitsAction, IsMove, IsAfter, IsRest}
-use Rattle.optra_rests.specs.Ways.{IsWay, leg_by}
+use Rattle.optra_walk.specs.Moves.{FitsAction, IsMove, IsAfter, Runs, leg_by}
+use Rattle.optra_rests.specs.Ways.{IsWay}
 
 pub some_same : {X : Type 0} (x y : X) → Some x ≡ Some y → x ≡ y
 some_same x y e = cc
@@ -94,7 +94,7 @@ module _ (net : Net) (path : Path) (reach : Reach) (is : IsReach net path reach)
       let k = m.0 in
       omega (arith, h, k, d, e, l)
 
-  pub rest_in_time : (s : State) (legs : List Leg) → IsRest net path s legs → IsInTime path reach s
+  pub rest_in_time : (s : State) (legs : List Leg) → Runs net path s legs → IsInTime path reach s
   rest_in_time s [] h = absurd h
   rest_in_time s (leg ∷ rest) (m, inl f) =
       let fits : FitsAction net path s.done leg Finish = subst (λ a. FitsAction net path s.done leg a) f.0 m.action in
@@ -121,7 +121,7 @@ module _ (net : Net) (path : Path) (reach : Reach) (is : IsReach net path reach)
   -- a leg by a way on which no walk may end in time has no rest
   pub late_leg : (s : State) (way : Way) (leg : Leg) (legs : List Leg) → IsWay net path s way → leg.track ≡ way.track
       → path.arrive.to < way.pass + slice_index (to_destination reach) way.head.0 → path.arrive.to < way.halt + slice_index (to_destination reach) way.head.0
-      → IsRest net path s (leg ∷ legs) → ⊥
+      → Runs net path s (leg ∷ legs) → ⊥
   late_leg s way leg legs w on pass halt (m, goes) = by goes
     where
       arrives : (n : ℕ) → arrival_of net path.kind leg ≡ Some n → path.arrive.to < n + slice_index (to_destination reach) way.head.0
@@ -142,7 +142,7 @@ module _ (net : Net) (path : Path) (reach : Reach) (is : IsReach net path reach)
       head : (x : StationId) → head_of net leg ≡ Some x → x ≡ way.head
       head x e = some_same x way.head (sym e ∙ ap (λ (t : TrackId). option_map (λ (t : Track). t.head) (slice_get net.tracks t.0)) on ∙ w.head)
 
-      by : ((leg.action ≡ Finish) × (legs ≡ [])) ⊎ ((after : State) × IsAfter net path s leg after × IsRest net path after legs) → ⊥
+      by : ((leg.action ≡ Finish) × (legs ≡ [])) ⊎ ((after : State) × IsAfter net path s leg after × Runs net path after legs) → ⊥
       by (inl f) =
           let fits : FitsAction net path s.done leg Finish = subst (λ a. FitsAction net path s.done leg a) f.0 m.action in
           let at = arrival_within (arrival_of net path.kind leg) path.arrive.from path.arrive.to fits.1.time in

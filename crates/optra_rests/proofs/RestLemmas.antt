@@ -14,8 +14,8 @@ use Rattle.optra_walk.specs.declared.Leg.{Leg}
 use Rattle.optra_walk.specs.Legs.{is_halt, is_finish, next_depart_of, arrival_of, after_action}
 use Rattle.optra_walk.specs.Values.{first_departure}
 use Rattle.optra_walk.specs.Walks.{IsWalk, IsNext, IsEnd, IsAllowedWait, MeetsStop, FinishesLast, tail_of, head_of, last_leg}
-use Rattle.optra_rests.specs.declared.states.State.{State}
-use Rattle.optra_rests.specs.Rests.{start_state, FitsAction, IsMove, IsRest, done_after}
+use Rattle.optra_walk.specs.declared.state.State.{State}
+use Rattle.optra_walk.specs.Moves.{start_state, FitsAction, IsMove, Runs, done_after}
 
 -- a walk without its start, with the stops that are left
 pub record IsTail (net : Net) (path : Path) (left : List Stop) (legs : List Leg) : Type 0 where
@@ -133,7 +133,7 @@ module _ (net : Net) (path : Path) where
   act done x r Finish e n l z w = let f = ap is_finish e in absurd (true≢false (sym f ∙ n))
 
   -- the legs of a walk from a state on are a run
-  pub rest_from : (x : Leg) (r : List Leg) (s : State) → LeavesAs net s x → s.done ≤ length path.stops → IsTail net path (drop s.done path.stops) (x ∷ r) → IsRest net path s (x ∷ r)
+  pub rest_from : (x : Leg) (r : List Leg) (s : State) → LeavesAs net s x → s.done ≤ length path.stops → IsTail net path (drop s.done path.stops) (x ∷ r) → Runs net path s (x ∷ r)
   rest_from x [] s leaves few h =
       let e : x.action ≡ Finish = h.end.finish in
       let z : AllZip (MeetsStop net path.kind) [] (drop s.done path.stops) = subst (λ ls. AllZip (MeetsStop net path.kind) ls (drop s.done path.stops)) (filter_at x [] false (ap is_halt e)) h.stops in (
@@ -209,7 +209,7 @@ module _ (net : Net) (path : Path) where
         finishes_last = λ k l. absurd (omega arith);
       }
 
-  pub tail_from : (x : Leg) (r : List Leg) (s : State) → IsRest net path s (x ∷ r) → IsTail net path (drop s.done path.stops) (x ∷ r)
+  pub tail_from : (x : Leg) (r : List Leg) (s : State) → Runs net path s (x ∷ r) → IsTail net path (drop s.done path.stops) (x ∷ r)
   tail_from x [] s (m, inl h) = one_tail x s m h.0
   tail_from x [] s (m, inr h) = absurd h.2
   tail_from x (y ∷ r) s (m, inl h) = let e = h.1 in cc
@@ -228,7 +228,7 @@ module _ (net : Net) (path : Path) where
       }
 
   -- a walk is a run from the start state of its departure
-  pub rest_of_walk : (legs : List Leg) → IsWalk net path legs → IsFromTo path.depart.from path.depart.to (first_departure legs) × IsRest net path (start_state path (first_departure legs)) legs
+  pub rest_of_walk : (legs : List Leg) → IsWalk net path legs → IsFromTo path.depart.from path.depart.to (first_departure legs) × Runs net path (start_state path (first_departure legs)) legs
   rest_of_walk [] w = absurd w.start
   rest_of_walk (x ∷ r) w = (
     w.start.window,
@@ -236,7 +236,7 @@ module _ (net : Net) (path : Path) where
         (record { may_use = w.may_use; goes_on = w.goes_on; stops = w.stops; waits = w.waits; end = w.end; finishes_last = w.finishes_last }),
   )
 
-  pub walk_of_rest : (legs : List Leg) (d : ℕ) → IsFromTo path.depart.from path.depart.to d → IsRest net path (start_state path d) legs → IsWalk net path legs
+  pub walk_of_rest : (legs : List Leg) (d : ℕ) → IsFromTo path.depart.from path.depart.to d → Runs net path (start_state path d) legs → IsWalk net path legs
   walk_of_rest [] d within h = absurd h
   walk_of_rest (x ∷ r) d within h =
       let t = tail_from x r (start_state path d) h in

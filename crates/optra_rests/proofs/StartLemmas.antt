@@ -8,11 +8,12 @@ use Rattle.optra_bid.specs.declared.bids.Bid.{Bid}
 use Rattle.optra_walk.specs.declared.Leg.{Leg}
 use Rattle.optra_walk.specs.Values.{first_departure}
 use Rattle.optra_rests.specs.Weights.{Weights, IsOpenWalk, worth_of, IsBestWorth, IsWorthSize}
-use Rattle.optra_rests.specs.declared.states.State.{State}
+use Rattle.optra_walk.specs.declared.state.State.{State}
 use Rattle.optra_rests.specs.declared.rest_table.RestTable.{RestTable}
 use Rattle.optra_rests.specs.Places.{IsPlaced}
-use Rattle.optra_rests.specs.Rests.{start_state, start_value, IsRest, IsOpenRest, IsRestWorth, IsGreatestOf, IsRestSize, IsBestRest, AnyLeg, greater_of, rest_worth}
-use Rattle.optra_rests.specs.Shares.{IsStartValue}
+use Rattle.optra_walk.specs.Moves.{start_state, Runs}
+use Rattle.optra_walk.specs.Shares.{start_value, IsAdded}
+use Rattle.optra_rests.specs.Rests.{IsOpenRest, IsRestWorth, IsGreatestOf, IsRestSize, IsBestRest, AnyLeg, greater_of, rest_worth}
 use Rattle.optra_rests.specs.Sizes.{IsWholeRest}
 use Rattle.optra_rests.specs.Starts.{IsStartWorth, IsBestStart, IsAt, IsBefore}
 use Rattle.optra_rests.specs.Tables.{IsFilled, rest_at, end_of}
@@ -43,7 +44,7 @@ module _ (w : Weights) (net : Net) (bid : Bid) where
       (time_start net bid.path table.reach h.reach minute within.0) early)
 
   -- a start and a rest behind it
-  start_open : (minute : ℕ) → w.may_start minute ≡ true → IsFromTo bid.path.depart.from bid.path.depart.to minute → (leg : Leg) (rest : List Leg)
+  pub start_open : (minute : ℕ) → w.may_start minute ≡ true → IsFromTo bid.path.depart.from bid.path.depart.to minute → (leg : Leg) (rest : List Leg)
       → IsOpenRest w net bid.path (start_state bid.path minute) (leg ∷ rest) → IsOpenWalk w net bid.path (leg ∷ rest)
   start_open minute may within leg rest h = record {
     walk = walk_of_rest net bid.path (leg ∷ rest) minute within h.rest;
@@ -54,7 +55,7 @@ module _ (w : Weights) (net : Net) (bid : Bid) where
   -- a walk that starts at the minute is such a start and rest
   open_start : (minute : ℕ) (legs : List Leg) → first_departure legs ≡ minute → IsOpenWalk w net bid.path legs → IsOpenRest w net bid.path (start_state bid.path minute) legs
   open_start minute legs at h = record {
-    rest = subst (λ (m : ℕ). IsRest net bid.path (start_state bid.path m) legs) at (rest_of_walk net bid.path legs h.walk).1;
+    rest = subst (λ (m : ℕ). Runs net bid.path (start_state bid.path m) legs) at (rest_of_walk net bid.path legs h.walk).1;
     each = h.each;
   }
 
@@ -65,10 +66,10 @@ module _ (w : Weights) (net : Net) (bid : Bid) where
   add_most : (a m n : ℤ) → m ≤ℤ n → (a +ℤ m) ≤ℤ (a +ℤ n)
   add_most a m n h = omega (arith, ints)
 
-  size_with : (minute : ℕ) (a r : ℤ) → IsStartValue a → IsRestSize minute r → IsWorthSize (a +ℤ r)
+  size_with : (minute : ℕ) (a r : ℤ) → IsAdded a → IsRestSize minute r → IsWorthSize (a +ℤ r)
   size_with minute a r h k = let a0 = h.0 in let a1 = h.1 in let r0 = k.0 in let r1 = k.1 in (omega (arith, ints), omega (arith, ints))
 
-  pub start_best : (minute : ℕ) (r n : ℤ) → IsProper net → w.may_start minute ≡ true → IsFromTo bid.path.depart.from bid.path.depart.to minute → IsStartValue (start_value bid minute)
+  pub start_best : (minute : ℕ) (r n : ℤ) → IsProper net → w.may_start minute ≡ true → IsFromTo bid.path.depart.from bid.path.depart.to minute → IsAdded (start_value bid minute)
       → IsBestRest w net bid (start_state bid.path minute) AnyLeg (Some r) → n ≡ start_value bid minute +ℤ r → IsBestStart w net bid (IsAt minute) (Some n)
   start_best minute r n proper may within range h e = record {
     greatest = record {

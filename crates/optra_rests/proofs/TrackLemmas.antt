@@ -9,8 +9,9 @@ use Rattle.optra_network.specs.declared.Track.{Track}
 use Rattle.optra_bid.specs.declared.bids.Bid.{Bid}
 use Rattle.optra_walk.specs.declared.Leg.{Leg}
 use Rattle.optra_rests.specs.Weights.{Weights}
-use Rattle.optra_rests.specs.declared.states.State.{State}
-use Rattle.optra_rests.specs.Rests.{IsMove, IsBestRest, AnyLeg, greater_of}
+use Rattle.optra_walk.specs.declared.state.State.{State}
+use Rattle.optra_walk.specs.Moves.{IsMove}
+use Rattle.optra_rests.specs.Rests.{IsBestRest, AnyLeg, greater_of}
 use Rattle.optra_rests.specs.Ways.{IsOn, IsOnFirst}
 use Rattle.optra_rests.proofs.BestLemmas.{best_same, best_both, best_none}
 use Rattle.optra_rests.proofs.WayLemmas.{out_contains, out_tail}

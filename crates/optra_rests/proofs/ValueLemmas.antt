@@ -16,8 +16,10 @@ use Rattle.optra_walk.proofs.WalkLemmas.{arrival_later}
 use Rattle.optra_node.specs.Duals.{sum_of}
 use Rattle.optra_node.proofs.SumLemmas.{sum_of-cons}
 use Rattle.optra_rests.specs.Weights.{Weights, worth_of}
-use Rattle.optra_rests.specs.declared.states.State.{State}
-use Rattle.optra_rests.specs.Rests.{start_state, FitsAction, IsRest, start_value, end_price, wait_price, action_price, share_of, rest_worth}
+use Rattle.optra_walk.specs.declared.state.State.{State}
+use Rattle.optra_walk.specs.Moves.{start_state, FitsAction, Runs}
+use Rattle.optra_walk.specs.Shares.{start_value, end_price, wait_price, action_price, share_of}
+use Rattle.optra_rests.specs.Rests.{rest_worth}
 use Rattle.optra_rests.proofs.RestLemmas.{last_suc, not_finish}
 use Rattle.optra_rests.proofs.HorizonLemmas.{after_later}
 
@@ -61,7 +63,7 @@ module _ (w : Weights) (net : Net) (bid : Bid) where
   later_last x y r = ap (λ (o : Option Leg). unwrap_or (option_and_then (arrival_of net bid.path.kind) o) 0) (last_suc x y r)
 
   -- the waits of the legs, the end of the last one, and what the legs cost
-  pub rest_sum : (s : State) (legs : List Leg) → IsRest net bid.path s legs
+  pub rest_sum : (s : State) (legs : List Leg) → Runs net bid.path s legs
       → rest_worth w net bid legs ≡ pos 0 -ℤ wait_price bid (wait_minutes legs) -ℤ end_price bid (last_arrival net bid.path.kind legs) -ℤ sum_of w.cost_of legs
   rest_sum s [] h = absurd h
   rest_sum s (x ∷ []) (m, inl f) =
@@ -88,7 +90,7 @@ module _ (w : Weights) (net : Net) (bid : Bid) where
       omega (arith, ints)
 
   -- a rest ends after it begins
-  pub rest_arrives : IsProper net → (s : State) (legs : List Leg) → IsRest net bid.path s legs → s.minute ≤ last_arrival net bid.path.kind legs
+  pub rest_arrives : IsProper net → (s : State) (legs : List Leg) → Runs net bid.path s legs → s.minute ≤ last_arrival net bid.path.kind legs
   rest_arrives proper s [] h = absurd h
   rest_arrives proper s (x ∷ []) (m, inl f) =
       let fits : FitsAction net bid.path s.done x Finish = subst (λ a. FitsAction net bid.path s.done x a) f.0 m.action in
@@ -106,7 +108,7 @@ module _ (w : Weights) (net : Net) (bid : Bid) where
       omega arith
 
   -- the start and the rest
-  pub walk_sum : IsProper net → (d : ℕ) (legs : List Leg) → IsRest net bid.path (start_state bid.path d) legs → first_departure legs ≡ d
+  pub walk_sum : IsProper net → (d : ℕ) (legs : List Leg) → Runs net bid.path (start_state bid.path d) legs → first_departure legs ≡ d
       → start_value bid d +ℤ rest_worth w net bid legs ≡ worth_of w net bid legs
   walk_sum proper d legs h first =
       let s = rest_sum (start_state bid.path d) legs h in

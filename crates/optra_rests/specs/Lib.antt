@@ -5,7 +5,6 @@ pub mod Settings
 pub mod Rests
 pub mod Ways
 pub mod Tables
-pub mod Shares
 pub mod Sizes
 pub mod Starts
 pub mod Reaches

@@ -2,7 +2,7 @@
 use Rattle.std.specs.Prelude.{◌≡◌, ℕ, ◌+◌, ◌-◌, ◌*◌, ◌/◌, ◌%◌, ◌<◌, ◌≤◌, Bool, true, false, nat_eq, length}
 use Rattle.optra_network.specs.Net.{Net}
 use Rattle.optra_bid.specs.Specs.{Path}
-use Rattle.optra_rests.specs.declared.states.State.{State}
+use Rattle.optra_walk.specs.declared.state.State.{State}
 use Rattle.optra_rests.specs.declared.states.Layout.{Layout}
 
 -- the layout of a path: its minutes are those from the first departure on and before the last arrival

@@ -8,7 +8,7 @@ use Rattle.optra_network.specs.declared.Track.{Track}
 use Rattle.optra_network.specs.declared.Times.{Times}
 use Rattle.optra_bid.specs.Specs.{Path}
 use Rattle.optra_bid.specs.declared.Stop.{Stop}
-use Rattle.optra_rests.specs.declared.states.State.{State}
+use Rattle.optra_walk.specs.declared.state.State.{State}
 use Rattle.optra_rests.specs.declared.reach.Reach.{Reach}
 
 -- the end at which a track begins, and the other one; going back it begins at its head

@@ -1,4 +1,4 @@
--- What holds while a graph is built.
+-- What holds of the bid for which a table is filled.
 use Rattle.std.specs.Prelude.{◌≤◌, length, All}
 use Rattle.optra_network.specs.Net.{Net, IsProper, IsStation}
 use Rattle.optra_bid.specs.Specs.{Path, IsWindow, IsStop}

@@ -8,8 +8,9 @@ use Rattle.optra_rests.specs.Weights.{Weights}
 use Rattle.optra_rests.specs.Places.{IsPlaced, IsSmall, place_of, places_of}
 use Rattle.optra_rests.specs.Settings.{IsSetting}
 use Rattle.optra_rests.specs.Reaches.{from_origin, to_destination, IsReach, IsReached, WasTime}
-use Rattle.optra_rests.specs.Rests.{IsBestRest, IsMove, IsAfter, AnyLeg}
-use Rattle.optra_rests.specs.declared.states.State.{State}
+use Rattle.optra_walk.specs.Moves.{IsMove, IsAfter}
+use Rattle.optra_rests.specs.Rests.{IsBestRest, AnyLeg}
+use Rattle.optra_walk.specs.declared.state.State.{State}
 use Rattle.optra_rests.specs.declared.rest_table.RestTable.{RestTable}
 
 -- a table with an entry for each place, and minutes for each station

@@ -9,12 +9,9 @@ use Rattle.optra_walk.specs.declared.Action.TheVariants.{Pass, Halt, Wait, Finis
 use Rattle.optra_walk.specs.declared.Leg.{Leg}
 use Rattle.optra_walk.specs.Legs.{arrival_of}
 use Rattle.optra_walk.specs.Walks.{head_of, tail_of}
-use Rattle.optra_rests.specs.declared.states.State.{State}
+use Rattle.optra_walk.specs.declared.state.State.{State}
+use Rattle.optra_walk.specs.Moves.{leg_by}
 use Rattle.optra_rests.specs.declared.ways.Way.{Way}
-
--- the leg from the state on the track
-abbrev pub leg_by : State → TrackId → Action → Leg
-leg_by s track action = record { track = track; depart = s.minute; from_halt = s.halted; action = action }
 
 -- the train may leave by the track, and arrives at its head then, by whether it passes or halts there
 pub record IsWay (net : Net) (path : Path) (s : State) (way : Way) : Type 0 where

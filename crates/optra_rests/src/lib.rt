@@ -12,7 +12,6 @@ mod asks;
 mod reach;
 mod rest_table;
 mod rests;
-mod shares;
 mod states;
 mod table;
 mod tracing;

@@ -5,10 +5,10 @@ ghost use Rattle.std.specs.Option.{option_map};
 ghost use Rattle.optra_bid.specs.Specs.{IsPathOn};
 ghost use Rattle.optra_rests.specs.Reaches.{near_of, far_of, IsQuickest, IsLeastAlong, AreLeast, IsNear, IsWithoutFar, SkipsFar, first_of, place_after, AreLevels, levels_of, behind_of, from_origin, to_destination, IsAhead, WasTime, IsReach, IsReached, IsInTime};
 
-use crate::states::State;
 use crate::ways::kind_of;
 use optra_bid::{Bid, Stop};
 use optra_network::{Network, NoMemory, StationId, TrackId, TypeId};
+use optra_walk::State;
 use std::alloc::Global;
 
 /// How many minutes the bid's trains take at least from its origin to each station, and from there

@@ -5,9 +5,10 @@ ghost use Rattle.optra_rests.specs.Reaches.{from_origin, to_destination};
 ghost use Rattle.optra_rests.specs.Tables.{IsTable, is_early, rest_at, rest_in, rests_of, end_of};
 
 use crate::reach::{Reach, minutes_by};
-use crate::states::{Layout, State};
+use crate::states::Layout;
 use crate::ways::Way;
 use optra_network::NoMemory;
+use optra_walk::State;
 use std::alloc::Global;
 
 /// What the best rest of a walk from each state on is worth, in thousandths of a cent, by the
@@ -134,14 +135,15 @@ impl RestTable {
         rest_in(self.rests[layout.place(state) as usize])
     }
 
-    /// What stands at the place of any state, and nothing where it has none. Of a state that a
-    /// train may not be in it says nothing.
+    /// What stands at the place of any state; nothing where it has none, or where a walk may not end in time from there. Of a
+    /// state that a train may not be in it says nothing.
     pub(crate) fn peek(&self, state: State) -> Option<i128> {
         let layout = self.layout;
         let station = state.station.0 as usize;
         let on = u32::from(self.reach.ahead.first()?.get(station).copied()?);
         let end = u32::from(layout.first).wrapping_add(u32::from(layout.minutes));
-        if state.minute < layout.first || u32::from(state.minute).wrapping_add(on) > end {
+        let late = u32::from(state.minute) >= end || u32::from(state.minute).wrapping_add(on) > end;
+        if state.minute < layout.first || late {
             return None;
         }
         let minute = u64::from(state.minute - layout.first);

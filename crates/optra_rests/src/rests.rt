@@ -4,22 +4,21 @@ ghost use Rattle.optra_bid.specs.Specs.{IsBetween};
 ghost use Rattle.optra_walk.specs.Families.{IsUsable};
 ghost use Rattle.optra_walk.specs.Walks.{tail_of};
 ghost use Rattle.optra_rests.specs.Asks.{AreAsked};
-ghost use Rattle.optra_rests.specs.Rests.{IsMove, IsBestRest, IsRestSize, AnyLeg, greater_of, worth_by};
-ghost use Rattle.optra_rests.specs.Shares.{IsShare};
+ghost use Rattle.optra_walk.specs.Moves.{IsMove, leg_by};
+ghost use Rattle.optra_rests.specs.Rests.{IsBestRest, IsRestSize, AnyLeg, greater_of, worth_by};
+ghost use Rattle.optra_walk.specs.Shares.{IsTaken};
 ghost use Rattle.optra_rests.specs.Sizes.{IsWholeRest, IsCost};
 ghost use Rattle.optra_rests.specs.Tables.{IsReadyFor};
-ghost use Rattle.optra_rests.specs.Ways.{IsWay, IsAtStop, IsAtEnd, IsOn, IsLegBy, IsHaltBy, IsWaitBy, leg_by};
+ghost use Rattle.optra_rests.specs.Ways.{IsWay, IsAtStop, IsAtEnd, IsOn, IsLegBy, IsHaltBy, IsWaitBy};
 ghost use Rattle.optra_rests.specs.Weights.{AreWeightsFor};
 
 use crate::asks::{Ask, leg_cost};
 use crate::rest_table::RestTable;
-use crate::shares::{end_price, wait_price};
-use crate::states::State;
 use crate::ways::{Way, find_way};
 use crate::weighing::Weighing;
 use optra_bid::{Bid, Stop};
 use optra_network::{Network, TrackId};
-use optra_walk::{Action, Leg};
+use optra_walk::{Action, Leg, State, end_price, wait_price};
 
 /// The greater of two numbers, of which either may be missing.
 pub fn greater(a: Option<i128>, b: Option<i128>) -> Option<i128>
@@ -35,7 +34,7 @@ pub fn greater(a: Option<i128>, b: Option<i128>) -> Option<i128>
 /// A number less two others.
 fn less(rest: i128, share: i64, cost: i128) -> i128
     requires rest { IsWholeRest rest }
-    requires share { IsShare share }
+    requires share { IsTaken share }
     requires cost { IsCost cost }
     ensures { result ≡ rest -ℤ share -ℤ cost }
 {
@@ -44,7 +43,7 @@ fn less(rest: i128, share: i64, cost: i128) -> i128
 
 /// What the best rest that begins with the leg is worth, by the leg's share of the value and the
 /// best rest behind it.
-fn begin_with<W: Weighing>(
+pub(crate) fn begin_with<W: Weighing>(
     weighing: &W,
     asks: &mut [Option<Ask>],
     leg: Leg,
@@ -54,7 +53,7 @@ fn begin_with<W: Weighing>(
     requires asks { AreAsked (W.weights weighing.now) asks.old }
     requires track { leg.track.0 < length asks.old }
     requires usable { IsUsable (W.weights weighing.now).net (W.weights weighing.now).kind leg }
-    requires share { IsShare share }
+    requires share { IsTaken share }
     requires rest { IfSome rest (IsRestSize (leg.depart + 1)) }
     ensures value { result ≡ worth_by (W.weights weighing.now) leg share rest }
     ensures size { IfSome result (IsRestSize leg.depart) }
@@ -193,7 +192,7 @@ fn halts_rest<W: Weighing>(
     best
 }
 
-fn wait_max(bid: &Bid) -> u16
+pub(crate) fn wait_max(bid: &Bid) -> u16
     ensures value { result ≡ bid.now.path.wait_max }
     ensures small { result ≤ 30 }
 {

@@ -1,4 +1,4 @@
-//! States of a train under way, and their places in one dense numbering.
+//! The places of the states of a train under way, in one dense numbering.
 ghost use Rattle.std.specs.Prelude.{◌≡◌, ℕ, ◌+◌, ◌-◌, ◌*◌, ◌<◌, ◌≤◌, length};
 ghost use Rattle.optra_bid.specs.Specs.{IsPathOn};
 ghost use Rattle.optra_rests.specs.Places.{place_of, places_of, slot_of, IsPlaced, IsSmall};
@@ -6,16 +6,8 @@ ghost use Rattle.optra_rests.specs.Settings.{IsSetting};
 ghost use Rattle.optra_rests.specs.Sizes.{IsPlaceCount, IsSpot, IsAnySlot};
 
 use optra_bid::Bid;
-use optra_network::{Minute, Network, StationId};
-
-/// Where a train is to leave next, when, from a halt or not, and how many stops are done.
-#[derive(Clone, Copy)]
-pub(crate) struct State {
-    pub station: StationId,
-    pub minute: Minute,
-    pub halted: bool,
-    pub done: u16,
-}
+use optra_network::{Minute, Network};
+use optra_walk::State;
 
 /// How the states of a bid are numbered: minute by minute, in each by station, then by stops done,
 /// then by mode. A state has one of `slots` for its stops and its mode.

@@ -1,13 +1,14 @@
 //! The best walk of a bid, by a table over the minutes that is filled in one pass from late to
 //! early.
-ghost use Rattle.std.specs.Prelude.{◌≡◌, ◌+◌, ◌-◌, ◌<◌, ◌≤◌, IfOk, IfSome, ◌+ℤ◌};
+ghost use Rattle.std.specs.Prelude.{◌≡◌, ◌+◌, ◌-◌, ◌<◌, ◌≤◌, IfOk, IfSome, OnOk, ◌+ℤ◌};
 ghost use Rattle.optra_bid.specs.Specs.{IsPathOn};
 ghost use Rattle.optra_network.specs.Net.{IsFromTo};
 ghost use Rattle.optra_rests.specs.Asks.{AreAsked};
 ghost use Rattle.optra_rests.specs.Places.{IsPlaced, slot_of, place_of, spot_at};
 ghost use Rattle.optra_rests.specs.Reaches.{IsReach, IsReached};
-ghost use Rattle.optra_rests.specs.Rests.{start_state, IsBestRest, AnyLeg};
-ghost use Rattle.optra_rests.specs.Shares.{IsStartValue};
+ghost use Rattle.optra_walk.specs.Moves.{start_state};
+ghost use Rattle.optra_rests.specs.Rests.{IsBestRest, AnyLeg};
+ghost use Rattle.optra_walk.specs.Shares.{IsAdded};
 ghost use Rattle.optra_rests.specs.Sizes.{IsWholeRest};
 ghost use Rattle.optra_rests.specs.Settings.{IsSetting};
 ghost use Rattle.optra_rests.specs.Starts.{IsBestStart, IsAt};
@@ -18,11 +19,11 @@ use crate::asks::{Ask, no_asks};
 use crate::reach::make_reach;
 use crate::rest_table::RestTable;
 use crate::rests::{greater, state_rest};
-use crate::shares::start_value;
-use crate::states::{State, make_layout};
+use crate::states::make_layout;
 use crate::weighing::Weighing;
 use optra_bid::{Bid, Window};
 use optra_network::{Minute, Network, NoMemory, StationId};
+use optra_walk::{State, start_value};
 use std::alloc::Global;
 
 /// A state with so many stops done and this mode, by the number of both.
@@ -208,8 +209,8 @@ fn start_walk<W: Weighing>(
 }
 
 /// A start and a rest together.
-fn whole(start: i64, rest: i128) -> i128
-    requires start { IsStartValue start }
+pub(crate) fn whole(start: i64, rest: i128) -> i128
+    requires start { IsAdded start }
     requires rest { IsWholeRest rest }
     ensures { result ≡ start +ℤ rest }
 {
@@ -217,7 +218,7 @@ fn whole(start: i64, rest: i128) -> i128
 }
 
 /// The minutes at which a walk may depart.
-fn departures(bid: &Bid) -> Window
+pub(crate) fn departures(bid: &Bid) -> Window
     ensures window { result ≡ bid.now.path.depart }
     ensures day { result.to ≤ 2879 }
 {
@@ -262,6 +263,7 @@ pub fn search<W: Weighing>(
     requires weights { AreWeightsFor (W.weights weighing.now) net.now bid.now.path }
     ensures best { IfOk result (IsBestWorth (W.weights weighing.now) net.now bid.now) }
     ensures size { IfOk result (λ best. IfSome best IsWorthSize) }
+    ensures filled { OnOk result (IsFilled (W.weights weighing.now) net.now bid.now table.new 0) }
 {
     let reach = make_reach(alloc, net, bid)?;
     table.turn_to(make_layout(net, bid), reach)?;

@@ -5,13 +5,11 @@
 
 use crate::rest_table::RestTable;
 use crate::rests::{may_finish, may_halt, next_stop};
-use crate::shares::{end_price, start_value, wait_price};
-use crate::states::State;
 use crate::table::make_start;
 use crate::ways::{Way, kind_of};
 use optra_bid::Bid;
 use optra_network::{Minute, Network, NoMemory, TrackId};
-use optra_walk::{Action, Leg};
+use optra_walk::{Action, Leg, State, end_price, start_value, wait_price};
 use std::alloc::Global;
 
 /// A walk has fewer legs than there are minutes in the two days.

@@ -2,12 +2,12 @@
 ghost use Rattle.std.specs.Prelude.{◌≡◌, ◌≤◌, MatchOption, Some};
 ghost use Rattle.optra_network.specs.Net.{IsProper, MayUse};
 ghost use Rattle.optra_walk.specs.Walks.{tail_of};
-ghost use Rattle.optra_rests.specs.Ways.{IsWay, leg_by};
+ghost use Rattle.optra_walk.specs.Moves.{leg_by};
+ghost use Rattle.optra_rests.specs.Ways.{IsWay};
 
-use crate::states::State;
 use optra_bid::Bid;
 use optra_network::{Minute, Network, StationId, TrackId, TypeId};
-use optra_walk::{Action, Leg};
+use optra_walk::{Action, Leg, State};
 
 /// A track by which the train may leave a state, and when it arrives at its head, passing or
 /// halting there.

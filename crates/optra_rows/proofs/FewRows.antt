@@ -14,7 +14,7 @@ use Rattle.optra_rows.specs.declared.HRow.{HRow}
 use Rattle.optra_rows.specs.declared.HRow.TheVariants.{Window, Pair}
 use Rattle.optra_rows.specs.Headways.{is_row_of}
 use Rattle.optra_rows.specs.TouchedLemmas.{row_cmp}
-use Rattle.optra_rows.specs.PlaceOrder.{few_by_places, last_part, less_parts}
+use Rattle.optra_rows.specs.PlaceCounts.{few_by_places, last_part, less_parts}
 
 -- ---- the place of a row among all that could be there
 

@@ -4,8 +4,7 @@ use Rattle.std.proofs.lemmas.Bool.{cases_eq}
 use Rattle.std.proofs.lemmas.List.Sums.{sum_by-append, sum_by-cons}
 use Rattle.optra_network.specs.declared.TypeId.{TypeId}
 use Rattle.optra_walk.specs.declared.Leg.{Leg}
-use Rattle.optra_walk.specs.Families.{Entry, Rows, FitRows, load_of}
-use Rattle.optra_rows.specs.Loads.{HasRoom}
+use Rattle.optra_walk.specs.Families.{Entry, Rows, FitRows, HasRoom, load_of}
 
 module _ {R : Type 0} (rows : Rows R) where
   -- one more leg

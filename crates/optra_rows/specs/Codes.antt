@@ -8,6 +8,7 @@ use Rattle.std.specs.declared.cmp.Ordering.TheVariants.{Less, Greater}
 use Rattle.std.proofs.lemmas.Bool.{and_parts, ltb-true, lt-ltb, le-ltb}
 use Rattle.optra_network.specs.declared.TrackId.{TrackId}
 use Rattle.optra_network.specs.declared.TypeId.{TypeId}
+use Rattle.optra_walk.specs.UseCodes.{has_use_code, use_code, code_kind, code_minute, code_track, IsToldUse, told_use}
 use Rattle.optra_walk.specs.Codes.{moved_cmp, parts_cmp, scaled_cmp, some_parts, then_then}
 use Rattle.optra_rows.specs.declared.HRow.{HRow}
 use Rattle.optra_rows.specs.declared.HRow.TheVariants.{Window, Pair}
@@ -17,17 +18,9 @@ use Rattle.optra_rows.specs.TouchedLemmas.{row_cmp, window_cmp, pair_cmp, window
 abbrev pub codes : ℕ
 codes = 4672924418048
 
--- whether a use of a track may be told
-abbrev pub may_tell : TrackId → ℕ → TypeId → Bool
-may_tell k m a = nat_lt k.0 1024 && (nat_lt m 4096 && nat_lt a.0 16)
-
--- the number of a use of a track
-abbrev pub use_code : ℕ → TypeId → ℕ
-use_code m a = m * 16 + a.0
-
 -- the number of a window
 abbrev pub window_code : TrackId → ℕ → Option ℕ
-window_code k m = cond (may_tell k m (record { 0 = 0 })) (Some ((k.0 * 4096 + m) * 65536)) None
+window_code k m = cond (has_use_code k m (record { 0 = 0 })) (Some ((k.0 * 4096 + m) * 65536)) None
 
 -- the number of a pair by those of its uses
 abbrev pub pair_code : TrackId → ℕ → ℕ → ℕ
@@ -35,46 +28,26 @@ pair_code k first second = 274877906944 + (k.0 * 65536 + first) * 65536 + second
 
 abbrev pub code_of : HRow → Option ℕ
 code_of (Window k m) = window_code k m
-code_of (Pair k t a u b) = cond (may_tell k t a && may_tell k u b) (Some (pair_code k (use_code t a) (use_code u b))) None
-
-abbrev pub kind_of : ℕ → TypeId
-kind_of code = record { 0 = code % 16 }
-
-abbrev pub minute_of : ℕ → ℕ
-minute_of code = code / 16 % 4096
-
-abbrev pub track_of : ℕ → TrackId
-track_of code = record { 0 = code % 1024 }
+code_of (Pair k t a u b) = cond (has_use_code k t a && has_use_code k u b) (Some (pair_code k (use_code t a) (use_code u b))) None
 
 abbrev pair_of_code : ℕ → HRow
-pair_of_code pair = Pair (track_of (pair / 65536 / 65536)) (minute_of (pair / 65536 % 65536)) (kind_of (pair / 65536 % 65536)) (minute_of (pair % 65536)) (kind_of (pair % 65536))
+pair_of_code pair = Pair (code_track (pair / 65536 / 65536)) (code_minute (pair / 65536 % 65536)) (code_kind (pair / 65536 % 65536)) (code_minute (pair % 65536)) (code_kind (pair % 65536))
 
 abbrev pub row_of : ℕ → HRow
-row_of code = cond (nat_lt code 274877906944) (Window (track_of (code / 65536 / 4096)) (code / 65536 % 4096)) (pair_of_code (code - 274877906944))
+row_of code = cond (nat_lt code 274877906944) (Window (code_track (code / 65536 / 4096)) (code / 65536 % 4096)) (pair_of_code (code - 274877906944))
 
 -- ---- the parts of a row that has a number
-record AreTold (k : TrackId) (m : ℕ) (a : TypeId) : Type 0 where
-  track : k.0 < 1024
-  minute : m < 4096
-  kind : a.0 < 16
-
-told_parts : (k : TrackId) (m : ℕ) (a : TypeId) → may_tell k m a ≡ true → AreTold k m a
-told_parts k m a is =
-    let parts = and_parts (nat_lt k.0 1024) (nat_lt m 4096 && nat_lt a.0 16) is in
-    let rest = and_parts (nat_lt m 4096) (nat_lt a.0 16) parts.1 in
-    record { track = ltb-true k.0 1024 parts.0; minute = ltb-true m 4096 rest.0; kind = ltb-true a.0 16 rest.1 }
-
 window_parts : (k : TrackId) (m code : ℕ) → code_of (Window k m) ≡ Some code → (k.0 < 1024) × (m < 4096) × ((k.0 * 4096 + m) * 65536 ≡ code)
 window_parts k m code is =
-    let both = some_parts (may_tell k m (record { 0 = 0 })) ((k.0 * 4096 + m) * 65536) code is in
-    let told = told_parts k m (record { 0 = 0 }) both.0 in
-    (told.track, told.minute, both.1)
+    let both = some_parts (has_use_code k m (record { 0 = 0 })) ((k.0 * 4096 + m) * 65536) code is in
+    let told = told_use k m (record { 0 = 0 }) both.0 in
+    (told.track_few, told.minute_few, both.1)
 
-pair_parts : (k : TrackId) (t : ℕ) (a : TypeId) (u : ℕ) (b : TypeId) (code : ℕ) → code_of (Pair k t a u b) ≡ Some code → AreTold k t a × AreTold k u b × (pair_code k (use_code t a) (use_code u b) ≡ code)
+pair_parts : (k : TrackId) (t : ℕ) (a : TypeId) (u : ℕ) (b : TypeId) (code : ℕ) → code_of (Pair k t a u b) ≡ Some code → IsToldUse k t a × IsToldUse k u b × (pair_code k (use_code t a) (use_code u b) ≡ code)
 pair_parts k t a u b code is =
-    let both = some_parts (may_tell k t a && may_tell k u b) (pair_code k (use_code t a) (use_code u b)) code is in
-    let parts = and_parts (may_tell k t a) (may_tell k u b) both.0 in
-    (told_parts k t a parts.0, told_parts k u b parts.1, both.1)
+    let both = some_parts (has_use_code k t a && has_use_code k u b) (pair_code k (use_code t a) (use_code u b)) code is in
+    let parts = and_parts (has_use_code k t a) (has_use_code k u b) both.0 in
+    (told_use k t a parts.0, told_use k u b parts.1, both.1)
 
 -- ---- the laws
 pub below : (row : HRow) (code : ℕ) → code_of row ≡ Some code → code < codes
@@ -84,7 +57,7 @@ below (Window k m) code is =
 below (Pair k t a u b) code is =
     let p = pair_parts k t a u b code is in
     let first = p.0 in let second = p.1 in let sum = p.2 in
-    let ta = first.track in let tb = first.minute in let tc = first.kind in let ua = second.minute in let ub = second.kind in omega arith
+    let ta = first.track_few in let tb = first.minute_few in let tc = first.kind_few in let ua = second.minute_few in let ub = second.kind_few in omega arith
 
 pub leads_back : (row : HRow) (code : ℕ) → code_of row ≡ Some code → row_of code ≡ row
 leads_back (Window k m) code is =
@@ -96,17 +69,17 @@ leads_back (Window k m) code is =
     let whole : code / 65536 ≡ k.0 * 4096 + m = omega arith in
     let of_track : code / 65536 / 4096 % 1024 ≡ k.0 = omega arith in
     let of_minute : code / 65536 % 4096 ≡ m = omega arith in
-    ap (λ (b : Bool). cond b (Window (track_of (code / 65536 / 4096)) (code / 65536 % 4096)) (pair_of_code (code - 274877906944))) low
+    ap (λ (b : Bool). cond b (Window (code_track (code / 65536 / 4096)) (code / 65536 % 4096)) (pair_of_code (code - 274877906944))) low
     ∙ (λ i. Window (record { 0 = of_track i }) (of_minute i))
 leads_back (Pair k t a u b) code is =
     let p = pair_parts k t a u b code is in
     let first = p.0 in
     let second = p.1 in
-    let track = first.track in
-    let ta = first.minute in
-    let tb = first.kind in
-    let ua = second.minute in
-    let ub = second.kind in
+    let track = first.track_few in
+    let ta = first.minute_few in
+    let tb = first.kind_few in
+    let ua = second.minute_few in
+    let ub = second.kind_few in
     let sum = p.2 in
     let pair = code - 274877906944 in
     let high : nat_lt code 274877906944 ≡ false = le-ltb code 274877906944 (omega arith) in
@@ -119,7 +92,7 @@ leads_back (Pair k t a u b) code is =
     let of_a : pair / 65536 % 65536 % 16 ≡ a.0 = omega arith in
     let of_u : pair % 65536 / 16 % 4096 ≡ u = omega arith in
     let of_b : pair % 65536 % 16 ≡ b.0 = omega arith in
-    ap (λ (test : Bool). cond test (Window (track_of (code / 65536 / 4096)) (code / 65536 % 4096)) (pair_of_code pair)) high
+    ap (λ (test : Bool). cond test (Window (code_track (code / 65536 / 4096)) (code / 65536 % 4096)) (pair_of_code pair)) high
     ∙ (λ i. Pair (record { 0 = of_track i }) (of_t i) (record { 0 = of_a i }) (of_u i) (record { 0 = of_b i }))
 
 pub ordered : (a b : HRow) (x y : ℕ) → code_of a ≡ Some x → code_of b ≡ Some y → row_cmp a b ≡ nat_cmp x y
@@ -149,8 +122,8 @@ ordered (Pair k t a u b) (Pair k' t' a' u' b') x y is is' =
     let s = u * 16 + b.0 in
     let f' = t' * 16 + a'.0 in
     let s' = u' * 16 + b'.0 in
-    let p1 = p.0.minute in let p2 = p.0.kind in let p3 = p.1.minute in let p4 = p.1.kind in
-    let q1 = q.0.minute in let q2 = q.0.kind in let q3 = q.1.minute in let q4 = q.1.kind in
+    let p1 = p.0.minute_few in let p2 = p.0.kind_few in let p3 = p.1.minute_few in let p4 = p.1.kind_few in
+    let q1 = q.0.minute_few in let q2 = q.0.kind_few in let q3 = q.1.minute_few in let q4 = q.1.kind_few in
     let sum : 274877906944 + ((k.0 * 65536 + f) * 65536 + s) ≡ x = let e = p.2 in omega arith in
     let sum' : 274877906944 + ((k'.0 * 65536 + f') * 65536 + s') ≡ y = let e = q.2 in omega arith in
     let whole : nat_cmp x y ≡ ordering_then (nat_cmp (k.0 * 65536 + f) (k'.0 * 65536 + f')) (nat_cmp s s') =

@@ -1,7 +1,6 @@
 pub mod Codes
 pub mod Headways
 pub mod Eithers
-pub mod Loads
 pub mod ListLemmas
 pub mod HeartLemmas
 pub mod TouchedLemmas
@@ -9,4 +8,4 @@ pub mod RuleLemmas
 pub mod EitherCodes
 pub mod EitherLemmas
 pub mod FewRows
-pub mod PlaceOrder
+pub mod PlaceCounts

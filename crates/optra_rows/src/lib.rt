@@ -8,12 +8,12 @@ use optra_network::{Minute, TrackId, TypeId};
 
 mod headways;
 mod joining;
+mod load;
 mod row_codes;
-mod totals;
 
 pub use headways::{HeadwayRows, headway_rows_are_few};
 pub use joining::{Both, Either};
-pub use totals::Load;
+pub use load::Load;
 
 /// A row of headways. Rows are ordered by variant and then by their fields from left to right. Each has the capacity 1.
 #[derive(Clone, Copy, Debug, PartialEq, Eq, PartialOrd, Ord)]

@@ -1,19 +1,13 @@
 //! The numbers that tell rows of headways.
 ghost use Rattle.std.specs.Prelude.{◌≡◌, ◌<◌, ◌^◌};
-ghost use Rattle.optra_rows.specs.Codes.{code_of, row_of, codes, may_tell, use_code, window_code, pair_code, kind_of, minute_of, track_of};
+ghost use Rattle.optra_rows.specs.Codes.{code_of, row_of, codes, window_code, pair_code};
 
 use crate::HRow;
 use optra_network::{Minute, TrackId, TypeId};
-use optra_walk::CodedRow;
+use optra_walk::{CodedRow, code_kind, code_minute, code_track, has_use_code, use_code};
 
-/// So many tracks may be told, and so many numbers tell the windows or the pairs of a track by their first minutes.
-const TRACKS: u64 = 1_024;
-
-/// So many minutes may be told.
+/// So many numbers tell the windows of a track.
 const MINUTES: u64 = 4_096;
-
-/// So many types may be told.
-const TYPES: u64 = 16;
 
 /// By so much differ the numbers of two windows side by side: those of windows are about as dense then as those of pairs.
 const APART: u64 = 65_536;
@@ -24,26 +18,11 @@ const WINDOWS: u64 = 274_877_906_944;
 /// So many numbers tell rows of headways.
 const CODES: u64 = 4_672_924_418_048;
 
-/// Whether a use of a track may be told.
-fn may_tell(track: TrackId, minute: Minute, kind: TypeId) -> bool
-    ensures { result ≡ may_tell track minute kind }
-{
-    u64::from(track.0) < TRACKS && (u64::from(minute) < MINUTES && u64::from(kind.0) < TYPES)
-}
-
-/// The number of a use of a track among those of the track.
-fn use_code(minute: Minute, kind: TypeId) -> u64
-    ensures value { result ≡ use_code minute kind }
-    ensures small { result < 2 ^ 32 }
-{
-    u64::from(minute) * TYPES + u64::from(kind.0)
-}
-
 /// The number of a window.
 fn window_code(track: TrackId, minute: Minute) -> Option<u64>
     ensures { result ≡ window_code track minute }
 {
-    if !may_tell(track, minute, TypeId(0)) {
+    if !has_use_code(track, minute, TypeId(0)) {
         return None;
     }
     Some((u64::from(track.0) * MINUTES + u64::from(minute)) * APART)
@@ -56,27 +35,6 @@ fn pair_code(track: TrackId, first: u64, second: u64) -> u64
     ensures { result ≡ pair_code track first second }
 {
     WINDOWS + (u64::from(track.0) * APART + first) * APART + second
-}
-
-/// The type of a number of a use.
-fn kind_of(code: u64) -> TypeId
-    ensures { result ≡ kind_of code }
-{
-    TypeId((code % TYPES) as u16)
-}
-
-/// The minute of a number of a use.
-fn minute_of(code: u64) -> Minute
-    ensures { result ≡ minute_of code }
-{
-    (code / TYPES % MINUTES) as u16
-}
-
-/// The track of a number that is told by so many times its own number.
-fn track_of(code: u64) -> TrackId
-    ensures { result ≡ track_of code }
-{
-    TrackId((code % TRACKS) as u16)
 }
 
 impl CodedRow for HRow {
@@ -109,7 +67,9 @@ impl CodedRow for HRow {
                 second_at,
                 second,
             } => {
-                if !may_tell(track, first_at, first) || !may_tell(track, second_at, second) {
+                if !has_use_code(track, first_at, first)
+                    || !has_use_code(track, second_at, second)
+                {
                     return None;
                 }
                 let first = use_code(first_at, first);
@@ -122,7 +82,7 @@ impl CodedRow for HRow {
     fn of_code(code: u64) -> HRow {
         if code < WINDOWS {
             return HRow::Window {
-                track: track_of(code / APART / MINUTES),
+                track: code_track(code / APART / MINUTES),
                 minute: (code / APART % MINUTES) as u16,
             };
         }
@@ -130,11 +90,11 @@ impl CodedRow for HRow {
         let first = pair / APART % APART;
         let second = pair % APART;
         HRow::Pair {
-            track: track_of(pair / APART / APART),
-            first_at: minute_of(first),
-            first: kind_of(first),
-            second_at: minute_of(second),
-            second: kind_of(second),
+            track: code_track(pair / APART / APART),
+            first_at: code_minute(first),
+            first: code_kind(first),
+            second_at: code_minute(second),
+            second: code_kind(second),
         }
     }
 

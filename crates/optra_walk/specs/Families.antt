@@ -1,5 +1,5 @@
 -- Legs of types, the rows that they use, and what a family says of its rows.
-use Rattle.std.specs.Prelude.{◌≡◌, ℕ, ◌≤◌, ◌<◌, ◌↔◌, Bool, true, List, [], ◌∷◌, ◌++◌, map, length, sum_by, All, Contains, Option, None, Some, unwrap_or, ⊤}
+use Rattle.std.specs.Prelude.{◌≡◌, ℕ, ◌+◌, ◌≤◌, ◌<◌, ◌↔◌, Bool, true, List, [], ◌∷◌, ◌++◌, map, length, sum_by, All, Contains, Option, None, Some, unwrap_or, ⊤}
 use Rattle.std.specs.BTreeMap.{BTreeMap, get}
 use Rattle.std.specs.declared.cmp.Ordering.{Ordering}
 use Rattle.std.specs.declared.cmp.Ordering.TheVariants.{Less, Equal}
@@ -45,6 +45,10 @@ UseAlike {R} rows used kind first second = ((row : R) → rows.uses kind first r
 -- the total of a row, 0 where none is kept
 abbrev pub total_of : {R : Type 0} → (R → R → Ordering) → BTreeMap R ℕ → R → ℕ
 total_of cmp totals row = unwrap_or (get cmp totals row) 0
+
+-- no row that the leg uses gets above its capacity by it
+abbrev pub HasRoom : {R : Type 0} → Rows R → (R → ℕ) → TypeId → Leg → Type 0
+HasRoom {R} rows total kind leg = (row : R) → 0 < rows.uses kind leg row → total row + rows.uses kind leg row ≤ rows.capacity row
 
 -- how much of a row the legs use together
 abbrev pub load_of : {R : Type 0} → Rows R → R → List Entry → ℕ

@@ -1,5 +1,5 @@
 -- Lists of rows, of which the first ones are told by numbers.
-use Rattle.std.specs.Prelude.{◌≡◌, ℕ, List, ◌++◌, map, All, Option, Some}
+use Rattle.std.specs.Prelude.{◌≡◌, ℕ, List, ◌++◌, map, All, Option, None, Some, IfSome, slice_get}
 
 -- a list
 pub record Listed (X : Type 0) : Type 0 where
@@ -12,3 +12,7 @@ rows_in row_of codes wide = map row_of codes ++ wide
 -- each number is that of the row which it tells
 abbrev pub AreCodes : {R : Type 0} → (R → Option ℕ) → (ℕ → R) → List ℕ → Type 0
 AreCodes code_of row_of codes = All (λ code. code_of (row_of code) ≡ Some code) codes
+
+-- the first of the other rows is there because it has no number
+abbrev pub StartsUntold : {R : Type 0} → (R → Option ℕ) → List R → Type 0
+StartsUntold code_of wide = IfSome (slice_get wide 0) (λ row. code_of row ≡ None)

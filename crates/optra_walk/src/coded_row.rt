@@ -19,7 +19,8 @@ pub trait CodedRow: Copy + Ord {
     fn code(self) -> Option<u64>
         ensures { result ≡ code_of self };
 
-    /// The row that a number tells.
+    /// The row that a number tells. Of a number that tells no row it is some row, whichever costs least: only numbers of rows
+    /// lead back to them, and nothing may rest on the others.
     fn of_code(code: u64) -> Self
         ensures { result ≡ row_of code };
 

@@ -2,7 +2,7 @@
 ghost use Rattle.std.specs.Prelude.{◌≡◌, ◌≢◌, ℕ, ◌≤◌, ◌<◌, ◌↔◌, IsTrue, length, All, AllPairs, filter, IsSomeAnd, IfSome, ◌^◌};
 ghost use Rattle.std.specs.List.{AllZip, AllAdjacentBelow};
 ghost use Rattle.optra_network.specs.Net.{MayUse, IsFromTo};
-ghost use Rattle.optra_walk.specs.Legs.{arrival_of, next_depart_of, is_halt, dwell_of};
+ghost use Rattle.optra_walk.specs.Legs.{arrival_of, next_depart_of, is_halt};
 ghost use Rattle.optra_walk.specs.Walks.{IsWalk, IsStart, IsNext, IsEnd, MeetsStop, IsAllowedWait, tail_of, head_of, FinishesLast};
 ghost use Rattle.optra_walk.specs.Values.{last_arrival};
 
@@ -35,8 +35,8 @@ pub fn next_depart(net: &Network, kind: TypeId, leg: Leg) -> Option<u32>
     }
 }
 
-/// The station that the leg leaves, where its track is one of the network.
-fn tail(net: &Network, leg: Leg) -> Option<StationId>
+/// The station that the leg leaves. It is `None` where its track is none of the network.
+pub fn tail(net: &Network, leg: Leg) -> Option<StationId>
     ensures { result ≡ tail_of net.now leg }
 {
     if leg.track.0 < net.track_count() {
@@ -46,8 +46,8 @@ fn tail(net: &Network, leg: Leg) -> Option<StationId>
     }
 }
 
-/// The station that the leg arrives at, where its track is one of the network.
-fn head(net: &Network, leg: Leg) -> Option<StationId>
+/// The station that the leg arrives at. It is `None` where its track is none of the network.
+pub fn head(net: &Network, leg: Leg) -> Option<StationId>
     ensures { result ≡ head_of net.now leg }
 {
     if leg.track.0 < net.track_count() {
@@ -90,21 +90,11 @@ fn arrives_within(net: &Network, kind: TypeId, leg: Leg, from: u16, to: u16) -> 
 fn meets_stop(net: &Network, kind: TypeId, leg: Leg, stop: &Stop) -> bool
     ensures { IsTrue result ↔ MeetsStop net.now kind leg stop.now }
 {
-    let dwell = dwell(leg.action);
+    let dwell = leg.action.dwell();
     head(net, leg) == Some(stop.station)
         && arrives_within(net, kind, leg, stop.arrive.from, stop.arrive.to)
         && stop.min_dwell <= dwell
         && dwell <= stop.max_dwell
-}
-
-/// The minutes that the train stands at the head of the track.
-fn dwell(action: Action) -> u16
-    ensures { result ≡ dwell_of action }
-{
-    match action {
-        Action::Pass | Action::Finish => 0,
-        Action::Halt(dwell) | Action::Wait(dwell) => dwell,
-    }
 }
 
 /// Whether a wait is at least a minute and at most so many; every other action is allowed.

@@ -4,6 +4,10 @@
 //! No call of this crate takes memory.
 #![tactic(auto)]
 
+ghost use Rattle.std.specs.Prelude.{◌≡◌, ◌≤◌};
+ghost use Rattle.optra_walk.specs.Legs.{dwell_of};
+ghost use Rattle.optra_walk.specs.Words.{action_word, longest_dwell, with_dwell, checked_dwell};
+
 use optra_network::{Minute, TrackId};
 use std::marker::Model;
 
@@ -13,15 +17,25 @@ mod following;
 mod instance;
 mod ordering;
 mod row_list;
+mod shares;
+mod state;
+mod totals;
+mod use_codes;
 mod valuing;
+mod words;
 
 pub use coded_row::CodedRow;
 pub use families::RowFamily;
-pub use following::{arrival, follows, next_depart};
+pub use following::{arrival, follows, head, next_depart, tail};
 pub use instance::Instance;
 pub use ordering::walk_order;
 pub use row_list::RowList;
+pub use shares::{end_price, leg_cents, start_cents, start_value, wait_price};
+pub use state::State;
+pub use totals::Totals;
+pub use use_codes::{code_kind, code_minute, code_track, has_use_code, use_code};
 pub use valuing::value;
+pub use words::{action_of_word, action_told, start_of_word, start_word};
 
 /// What a train does at the head of a track.
 #[derive(Clone, Copy, Debug, PartialEq, Eq)]
@@ -34,6 +48,66 @@ pub enum Action {
     Wait(u16),
     /// It ends there.
     Finish,
+}
+
+/// The longest dwell of a halt or a wait, in minutes.
+const LONGEST_DWELL: u16 = 240;
+
+impl Action {
+    /// The minutes that the train stands at the head of the track: 0 where it passes or ends there.
+    pub fn dwell(self) -> u16
+        ensures { result ≡ dwell_of self }
+    {
+        match self {
+            Action::Pass | Action::Finish => 0,
+            Action::Halt(dwell) | Action::Wait(dwell) => dwell,
+        }
+    }
+
+    /// Its word: `pass`, `halt`, `wait` or `finish`.
+    pub fn word(self) -> &'static str
+        ensures { result.now ≡ action_word self }
+    {
+        match self {
+            Action::Pass => "pass",
+            Action::Halt(_) => "halt",
+            Action::Wait(_) => "wait",
+            Action::Finish => "finish",
+        }
+    }
+
+    /// The longest dwell that it may be written with, in minutes: 240 of a halt or a wait, else 0.
+    pub fn longest_dwell(self) -> u16
+        ensures value { result ≡ longest_dwell self }
+        ensures most { result ≤ 240 }
+    {
+        match self {
+            Action::Halt(_) | Action::Wait(_) => LONGEST_DWELL,
+            _ => 0,
+        }
+    }
+
+    /// It for so many minutes in place of its own, where it has any.
+    pub fn with_dwell(self, minutes: u16) -> Action
+        ensures { result ≡ with_dwell self minutes }
+    {
+        match self {
+            Action::Pass => Action::Pass,
+            Action::Halt(_) => Action::Halt(minutes),
+            Action::Wait(_) => Action::Wait(minutes),
+            Action::Finish => Action::Finish,
+        }
+    }
+
+    /// It for so many minutes in place of its own. `None` exactly where they are more than its longest dwell.
+    pub fn checked_dwell(self, minutes: u64) -> Option<Action>
+        ensures { result ≡ checked_dwell self minutes }
+    {
+        if minutes > u64::from(self.longest_dwell()) {
+            return None;
+        }
+        Some(self.with_dwell(minutes as u16))
+    }
 }
 
 /// A run over one track, from the minute of departure to the action at the track's head.

@@ -1,5 +1,5 @@
 //! Lists of rows in eight bytes each, since a plan names a million of them.
-ghost use Rattle.std.specs.Prelude.{◌≡◌, ◌<◌, ◌↔◌, ◌++◌, ◌∷◌, [], IsTrue, Some, IfSome, OnErr, OnOk, length, map, slice_get};
+ghost use Rattle.std.specs.Prelude.{◌≡◌, ◌<◌, ◌↔◌, ◌++◌, ◌∷◌, [], IsTrue, All, Some, IsSome, IfSome, OnErr, OnOk, length, map, slice_get};
 ghost use Rattle.optra_walk.specs.RowLists.{AreCodes};
 
 use crate::coded_row::CodedRow;
@@ -16,13 +16,14 @@ pub struct RowList<R: CodedRow> {
 }
 
 impl<R: CodedRow> Model for RowList<R> {
-    ghost use Rattle.optra_walk.specs.RowLists.{Listed, rows_in, AreCodes};
+    ghost use Rattle.optra_walk.specs.RowLists.{Listed, rows_in, AreCodes, StartsUntold};
 
     ghost Value = { Listed R };
 
     ghost view = { λ a. record { items = rows_in R.row_of a.codes.items a.wide.items } };
 
-    ghost invariant = { λ a. AreCodes R.code_of R.row_of a.codes.items };
+    ghost invariant = { λ a. AreCodes R.code_of R.row_of a.codes.items
+        × StartsUntold R.code_of a.wide.items };
 }
 
 impl<R: CodedRow> RowList<R> {
@@ -99,8 +100,9 @@ impl<R: CodedRow> RowList<R> {
         }
     }
 
-    /// The numbers of all rows, where numbers tell all of them.
+    /// The numbers of all rows. `None` exactly where some row has none.
     pub fn codes(&self) -> Option<&[u64]>
+        ensures exact { IsSome result ↔ All (λ row. IsSome (R.code_of row)) self.now.items }
         ensures rows { IfSome result (λ codes. self.now.items ≡ map R.row_of codes.now) }
         ensures tell { IfSome result (λ codes. AreCodes R.code_of R.row_of codes.now) }
     {

@@ -1,9 +1,10 @@
 //! What a walk is worth.
-ghost use Rattle.std.specs.Prelude.{◌≡◌, ℕ, ◌-◌, ◌≤◌, pos, ◌*ℤ◌, ◌-ℤ◌, length};
+ghost use Rattle.std.specs.Prelude.{◌≡◌, ℕ, ◌-◌, ◌≤◌, pos, ◌*ℤ◌, ◌+ℤ◌, ◌-ℤ◌, length};
 ghost use Rattle.optra_bid.specs.Specs.{IsRate, IsMoney, IsBetween};
 ghost use Rattle.optra_walk.specs.Legs.{wait_of};
 ghost use Rattle.optra_walk.specs.Walks.{IsWalk};
-ghost use Rattle.optra_walk.specs.Values.{value_of, value_at, price_off, price_under_way, wait_minutes, IsValue};
+ghost use Rattle.optra_walk.specs.Values.{first_departure, value_of, value_at, price_off, price_under_way, wait_minutes, IsValue};
+ghost use Rattle.optra_walk.specs.Shares.{start_value, leg_value, sum_of};
 
 use crate::following::arrival;
 use crate::{Action, Leg};
@@ -15,11 +16,16 @@ use optra_network::{Cents, Network};
 /// travel rate for each minute from the first departure to the last arrival, and the wait rate for
 /// each minute of a wait.
 ///
+/// What its start gives and what each leg adds, in thousandths of a cent, come to the same.
+///
 /// It may be below zero. It is at most 1,000,000,000 and at least -20,000,000,000.
 pub fn value(net: &Network, bid: &Bid, legs: &[Leg]) -> Cents
     requires { IsWalk net.now bid.now.path legs.now }
     ensures value { result ≡ value_of net.now bid.now.path bid.now.money legs.now }
     ensures bound { IsValue result }
+    ensures shares { start_value bid.now (first_departure legs.now)
+        +ℤ sum_of (leg_value net.now bid.now) legs.now
+        ≡ pos 1000 *ℤ value_of net.now bid.now.path bid.now.money legs.now }
 {
     net.laws();
     let path = &bid.path;

@@ -3,7 +3,7 @@ use Rattle.std.proofs.Common.{arith, refl, ◌≡◌, ◌∙◌, ◌+◌, ◌∷
 use Rattle.std.proofs.lemmas.List.{length-map}
 use Rattle.optra_graph.specs.Arcs.{IsKeptStart, start_arc}
 use Rattle.optra_graph.specs.Flags.{is_set}
-use Rattle.optra_graph.specs.Moves.{start_state}
+use Rattle.optra_walk.specs.Moves.{start_state}
 use Rattle.optra_graph.specs.Nodes.{node_of}
 use Rattle.optra_graph.specs.Places.{deadline_of, place_of, places_of}
 use Rattle.optra_graph.proofs.EmitLemmas.{starts_nil, starts_skip, starts_push, starts_end, starts_from}

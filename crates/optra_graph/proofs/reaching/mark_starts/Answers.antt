@@ -1,7 +1,7 @@
 -- One more start.
 use Rattle.std.proofs.Common.{arith, ◌≡◌, ◌+◌, ◌∙◌, ap, sym, subst, set, true, ℕ}
 use Rattle.optra_graph.specs.Flags.{AreStartsSet}
-use Rattle.optra_graph.specs.Moves.{start_state}
+use Rattle.optra_walk.specs.Moves.{start_state}
 use Rattle.optra_graph.specs.Places.{deadline_of, place_of}
 use Rattle.optra_graph.proofs.FlagLemmas.{starts_more, starts_all, far_start}
 use Rattle.optra_graph.proofs.ReachLemmas.{start_timely}

@@ -1,6 +1,6 @@
 -- One more place.
 use Rattle.std.proofs.Common.{rules, arith, ◌+◌, ◌*◌, ◌<◌, ◌≤◌, subst, length}
-use Rattle.optra_graph.specs.declared.states.State.{State}
+use Rattle.optra_walk.specs.declared.state.State.{State}
 use Rattle.optra_graph.specs.Flags.{IsNext, Marks}
 use Rattle.optra_graph.specs.Places.{places_of, state_of}
 use Rattle.optra_network.specs.Net.{out_tracks_of}

@@ -15,7 +15,7 @@ returns-in_default c = none_worth c.args.graph.now c.dag.result.now c.args.parts
 pub returns : goal.returns
 returns c =
     let parts = c.args.parts.now in
-    let best = MatchOption-at_some _ (λ sum. IsFirstBest c.dag.result.now (allows_at parts) (weight_at parts) sum c.best_in.new.buffers) c.in-Some.sum c.in-Some.is c.in_ok-sum.ensures.best in
+    let best = MatchOption-at_some _ (λ sum. IsFirstBest c.dag.result.now (allows_at parts) (weight_at parts) sum c.best_by.new.buffers) c.in-Some.sum c.in-Some.is c.in_ok-sum.ensures.best in
     let fits : FitsSigned w128 c.in-Some.sum = search rules in
-    tell_worth c.args.graph.now c.dag.result.now parts c.dag.ensures c.in-Some.sum c.best_in.new.buffers best c.is_worth.result
+    tell_worth c.args.graph.now c.dag.result.now parts c.dag.ensures c.in-Some.sum c.best_by.new.buffers best c.is_worth.result
     (subst (λ (z : ℤ). MatchBool c.is_worth.result (pos 0 <ℤ z) (z ≤ℤ pos 0)) (to_z-of_z w128 c.in-Some.sum fits) c.is_worth.ensures)

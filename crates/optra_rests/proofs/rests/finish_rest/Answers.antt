@@ -2,8 +2,9 @@
 use Rattle.std.proofs.Common.{arith, refl, pos, Some, to_z, of_z, w64}
 use Rattle.std.proofs.lemmas.Int.{ints}
 use Rattle.optra_walk.specs.declared.Action.TheVariants.{Finish}
-use Rattle.optra_rests.specs.Rests.{end_price}
-use Rattle.optra_rests.specs.Ways.{leg_by, IsLegBy}
+use Rattle.optra_walk.specs.Shares.{end_price}
+use Rattle.optra_walk.specs.Moves.{leg_by}
+use Rattle.optra_rests.specs.Ways.{IsLegBy}
 use Rattle.optra_rests.proofs.MoveLemmas.{finish_none, finish_best, finish_move, named_best}
 use Rattle.optra_rests.proofs.AskLemmas.{leg_usable, track_asked}
 use Rattle.optra_rests.proofs.rests.finish_rest.Goals as goal

@@ -6,7 +6,8 @@ use Rattle.optra_walk.specs.declared.Leg.{Leg}
 use Rattle.optra_walk.specs.Families.{IsUsable}
 use Rattle.optra_walk.specs.declared.Action.TheVariants.{Halt}
 use Rattle.optra_rests.specs.Tables.{rest_at}
-use Rattle.optra_rests.specs.Ways.{leg_by, IsLegBy}
+use Rattle.optra_walk.specs.Moves.{leg_by}
+use Rattle.optra_rests.specs.Ways.{IsLegBy}
 use Rattle.optra_rests.proofs.MoveLemmas.{after_halt, halt_few, halt_usable, halt_later, halt_best, named_size, named_best}
 use Rattle.optra_rests.proofs.ReachLemmas.{track_there}
 use Rattle.optra_rests.proofs.rests.halt_rest.Goals as goal

@@ -2,7 +2,8 @@
 use Rattle.std.proofs.Common.{arith, refl, pos}
 use Rattle.optra_walk.specs.declared.Action.TheVariants.{Pass}
 use Rattle.optra_rests.specs.Tables.{rest_at}
-use Rattle.optra_rests.specs.Ways.{leg_by, IsLegBy}
+use Rattle.optra_walk.specs.Moves.{leg_by}
+use Rattle.optra_rests.specs.Ways.{IsLegBy}
 use Rattle.optra_rests.proofs.MoveLemmas.{after_pass, pass_later, pass_best, named_size, named_best}
 use Rattle.optra_rests.proofs.AskLemmas.{leg_usable, track_asked}
 use Rattle.optra_rests.proofs.rests.pass_rest.Goals as goal

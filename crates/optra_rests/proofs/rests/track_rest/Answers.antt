@@ -1,7 +1,7 @@
 -- The way by the track, where the train may use it.
 use Rattle.std.proofs.Common.{subst, sym, arith, Option, None, ℤ}
 use Rattle.optra_network.specs.declared.TrackId.{TrackId}
-use Rattle.optra_rests.specs.declared.states.State.{State}
+use Rattle.optra_walk.specs.declared.state.State.{State}
 use Rattle.optra_rests.specs.Rests.{IsBestRest}
 use Rattle.optra_rests.specs.Ways.{IsOn, IsWay}
 use Rattle.optra_rests.proofs.FillLemmas.{late_way}

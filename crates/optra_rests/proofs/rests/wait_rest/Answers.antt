@@ -2,9 +2,10 @@
 use Rattle.std.proofs.Common.{arith, refl}
 use Rattle.std.proofs.lemmas.Int.{ints}
 use Rattle.optra_walk.specs.declared.Action.TheVariants.{Wait}
-use Rattle.optra_rests.specs.Rests.{wait_price}
+use Rattle.optra_walk.specs.Shares.{wait_price}
 use Rattle.optra_rests.specs.Tables.{rest_at}
-use Rattle.optra_rests.specs.Ways.{leg_by, IsLegBy}
+use Rattle.optra_walk.specs.Moves.{leg_by}
+use Rattle.optra_rests.specs.Ways.{IsLegBy}
 use Rattle.optra_rests.proofs.MoveLemmas.{after_wait, wait_few, wait_later, wait_best, named_size, named_best}
 use Rattle.optra_rests.proofs.AskLemmas.{leg_usable, track_asked}
 use Rattle.optra_rests.proofs.rests.wait_rest.Goals as goal

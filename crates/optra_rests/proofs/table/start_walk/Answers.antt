@@ -2,8 +2,9 @@
 use Rattle.std.proofs.Common.{◌≡◌, ◌∙◌, Some, None, Option, subst, sym, ap, ℤ, to_z, of_z}
 use Rattle.std.specs.Prelude.{◌+ℤ◌}
 use Rattle.std.specs.Int.{w128}
-use Rattle.optra_rests.specs.Rests.{IsBestRest, AnyLeg, start_state, start_value}
-use Rattle.optra_rests.specs.Shares.{IsStartValue}
+use Rattle.optra_walk.specs.Moves.{start_state}
+use Rattle.optra_walk.specs.Shares.{start_value, IsAdded}
+use Rattle.optra_rests.specs.Rests.{IsBestRest, AnyLeg}
 use Rattle.optra_rests.specs.Sizes.{IsWholeRest}
 use Rattle.optra_rests.specs.Starts.{IsBestStart, IsAt}
 use Rattle.optra_rests.specs.Tables.{rest_at}
@@ -44,7 +45,7 @@ returns g c =
     (start_rest w c.args.net.now c.args.bid.now c.args.table.now c.args.minute c.requires.filled c.requires.window) in
     let size = rest_whole c.args.minute c.in_ok-rest.rest best.size in
     let v = c.start_value.ensures.value in
-    let range = subst IsStartValue v c.start_value.ensures.range in
+    let range = subst IsAdded v c.start_value.ensures.range in
     let t = whole_same c.start_value.result c.in_ok-rest.rest c.whole.result c.start_value.ensures.range size c.whole.ensures in
     let n : to_z w128 (of_z w128 c.whole.result) ≡ start_value c.args.bid.now c.args.minute +ℤ c.in_ok-rest.rest = t ∙ ap (λ (z : ℤ). z +ℤ c.in_ok-rest.rest) v in
     start_best w c.args.net.now c.args.bid.now c.args.minute c.in_ok-rest.rest (to_z w128 (of_z w128 c.whole.result)) c.requires.filled.setting.proper (sym c.may_start.ensures ∙ c.if-not-may_start.false)

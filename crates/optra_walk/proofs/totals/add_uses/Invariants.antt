@@ -1,0 +1,8 @@
+use Rattle.optra_walk.specs.Families.{total_of}
+use Rattle.optra_walk.specs.Raises.{IsRaised}
+use Rattle.optra_walk.proofs.totals.add_uses.Given as goal
+
+abbrev pub invariant-loop-k : goal.invariant-loop-k
+invariant-loop-k g l =
+    IsRaised g.F.Row.Ord.cmp (g.F.RowFamily.rows_used l.rows l.net l.kind l.leg) ((g.F.RowFamily.rows_of l.rows l.net).uses l.kind l.leg)
+    (total_of g.F.Row.Ord.cmp l.fn.sums) (total_of g.F.Row.Ord.cmp l.sums) l.k
