@@ -143,33 +143,41 @@ module _ {R : Type 0} (net : Net) (rows : Rows R) (prices : PriceList R) where
       let b = sum_of-map (λ (e : Entry). leg_price rows prices e.0 e.1) (λ (leg : Leg). (bid.path.kind, leg)) legs in
       omega (arith, ints)
 
+module _ {R : Type 0} (net : Net) (rows : Rows R) (bids : List Bid) (node : List Decision) (prices : PriceList R) (walks : List (Option (List Leg)))
+    (once : DecidesOnce node) (choice : IsChoice net bids walks) (of : IsOfNode walks node) (fit : FitRows rows (entries_of bids walks)) where
+  -- no bid is stuck at a node of such a choice
+  pub alive : IsDead net rows bids node → ⊥
+  alive (number, bid, at, stuck) = not_stuck net rows bids walks node number bid at choice once of fit stuck
+
+  -- a walk of the choice is allowed
+  pub walk_allowed : (number : ℕ) (bid : Bid) (legs : List Leg) → slice_get bids number ≡ Some bid → slice_get walks number ≡ Some (Some legs) → IsAllowed net rows bids node number bid legs
+  walk_allowed number bid legs at w =
+      let walk : IsWalk net bid.path legs = zip_at (λ (b : Bid) (o : Option (List Leg)). IfSome o (IsWalk net b.path)) bids walks number bid (Some legs) choice at w in
+      allowed_at net rows bids walks node number bid legs at w walk once of fit
+
+  -- what the choice gains by a bid is within the bid's term
+  pub gain_within : (number : ℕ) (bid : Bid) (walk : Option (List Leg)) (term : ℤ) → slice_get bids number ≡ Some bid → slice_get walks number ≡ Some walk
+      → IsTerm net rows bids node prices number bid term → (b : Bool) → has_yes node number ≡ b → gain_of net rows prices bid walk ≤ℤ term
+  gain_within number bid walk term at w (inr stuck) b e = absurd (alive (number, bid, at, stuck.0))
+  gain_within number bid None term at w (inl greatest) false e = greatest.most (pos 0) (inl (e, refl))
+  gain_within number bid None term at w (inl greatest) true e =
+      let a = yes_allowed net rows bids walks node number bid at e choice once of fit in
+      absurd (no (sym w ∙ a.1))
+    where
+      no : {legs : List Leg} → Some None ≡ Some (Some legs) → ⊥
+      no e = cc
+  gain_within number bid (Some legs) term at w (inl greatest) b e = greatest.most (reduced_value net rows prices bid legs) (inr (legs, walk_allowed number bid legs at w, refl))
+
 module _ {R : Type 0} (net : Net) (rows : Rows R) (bids : List Bid) (node : List Decision) (prices : PriceList R) (terms : List ℤ) (value : ℤ) (walks : List (Option (List Leg))) where
   pub weak_duality : ArePrices rows prices → DecidesOnce node → IsDual net rows bids node prices terms value
       → IsChoice net bids walks → IsOfNode walks node → FitRows rows (entries_of bids walks) → (pos 1000 *ℤ revenue_of net bids walks) ≤ℤ value
   weak_duality are once dual choice of fit = by dual.total
     where
-      alive : IsDead net rows bids node → ⊥
-      alive (number, bid, at, stuck) = not_stuck net rows bids walks node number bid at choice once of fit stuck
-
-      within : (number : ℕ) (bid : Bid) (walk : Option (List Leg)) (term : ℤ) → slice_get bids number ≡ Some bid → slice_get walks number ≡ Some walk → slice_get terms number ≡ Some term
-          → IsTerm net rows bids node prices number bid term → (b : Bool) → has_yes node number ≡ b → gain_of net rows prices bid walk ≤ℤ term
-      within number bid walk term at w t (inr stuck) b e = absurd (alive (number, bid, at, stuck.0))
-      within number bid None term at w t (inl greatest) false e = greatest.most (pos 0) (inl (e, refl))
-      within number bid None term at w t (inl greatest) true e =
-          let a = yes_allowed net rows bids walks node number bid at e choice once of fit in
-          absurd (no (sym w ∙ a.1))
-        where
-          no : {legs : List Leg} → Some None ≡ Some (Some legs) → ⊥
-          no e = cc
-      within number bid (Some legs) term at w t (inl greatest) b e =
-          let walk : IsWalk net bid.path legs = zip_at (λ (b : Bid) (o : Option (List Leg)). IfSome o (IsWalk net b.path)) bids walks number bid (Some legs) choice at w in
-          greatest.most (reduced_value net rows prices bid legs) (inr (legs, allowed_at net rows bids walks node number bid legs at w walk once of fit, refl))
-
       by : ((IsDead net rows bids node → ⊥) × (value ≡ capacity_price rows prices +ℤ sum_of (λ t. t) terms)) ⊎ (IsDead net rows bids node × (value ≡ pos 0))
           → (pos 1000 *ℤ revenue_of net bids walks) ≤ℤ value
       by (inl (lives, e)) =
           let g = gains_within net rows prices bids walks terms (zip_length (λ (b : Bid) (o : Option (List Leg)). IfSome o (IsWalk net b.path)) bids walks choice) dual.count
-          (λ number bid walk term at w t. within number bid walk term at w t (dual.each number bid term at t) (has_yes node number) refl) in
+          (λ number bid walk term at w t. gain_within net rows bids node prices walks once choice of fit number bid walk term at w (dual.each number bid term at t) (has_yes node number) refl) in
           let c = capacity_above rows prices (entries_of bids walks) are fit in
           omega (arith, ints)
-      by (inr (dead, e)) = absurd (alive dead)
+      by (inr (dead, e)) = absurd (alive net rows bids node prices walks once choice of fit dead)

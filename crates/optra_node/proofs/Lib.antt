@@ -2,6 +2,7 @@ pub mod SumLemmas
 pub mod LoadLemmas
 pub mod DualLemmas
 pub mod TreeLemmas
+pub mod EvidenceLemmas
 pub mod PlaceLemmas
 pub mod SpanLemmas
 pub mod ChildLemmas
@@ -11,5 +12,4 @@ pub mod UniqueLemmas
 pub mod RowLemmas
 pub mod LeastLemmas
 pub mod NodeLemmas
-pub mod RaiseLemmas
-pub mod SummaryLemmas
+pub mod OwnLemmas

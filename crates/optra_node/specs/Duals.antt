@@ -1,5 +1,5 @@
 -- The dual value of a node at prices, in thousandths of a cent.
-use Rattle.std.specs.Prelude.{◌≡◌, ℕ, Bool, true, false, cond, List, length, fold, All, ◌⊎◌, Some, slice_get}
+use Rattle.std.specs.Prelude.{◌≡◌, ℕ, Bool, true, false, cond, List, length, All, ◌⊎◌, Some, slice_get}
 use Rattle.std.specs.Prelude.{ℤ, pos, ◌+ℤ◌, ◌-ℤ◌, ◌*ℤ◌, ◌≤ℤ◌}
 use Rattle.std.specs.Int.{int_div_euclid}
 use Rattle.optra_network.specs.Net.{Net}
@@ -7,13 +7,10 @@ use Rattle.optra_network.specs.declared.TypeId.{TypeId}
 use Rattle.optra_bid.specs.declared.bids.Bid.{Bid}
 use Rattle.optra_walk.specs.declared.Leg.{Leg}
 use Rattle.optra_walk.specs.Families.{Rows}
+pub use Rattle.optra_walk.specs.Shares.{sum_of}
 use Rattle.optra_walk.specs.Values.{value_of}
 use Rattle.optra_node.specs.declared.Decision.{Decision}
 use Rattle.optra_node.specs.Nodes.{has_yes, IsAllowed}
-
--- the sum of a signed number of each element
-abbrev pub sum_of : {X : Type 0} → (X → ℤ) → List X → ℤ
-sum_of f xs = fold (λ s x. s +ℤ f x) (pos 0) xs
 
 -- prices, of the rows that are listed; each other row has price 0
 abbrev pub PriceList : Type 0 → Type 0

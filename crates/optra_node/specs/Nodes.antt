@@ -1,5 +1,5 @@
 -- Nodes, which decide legs of bids, and the walks that a node allows.
-use Rattle.std.specs.Prelude.{◌≡◌, ℕ, ◌+◌, ◌≤◌, ◌<◌, length, Bool, true, false, not, ◌&&◌, nat_eq, cond, List, [], All, Contains, sum_by, Option, Some, None, slice_get, unwrap_or}
+use Rattle.std.specs.Prelude.{◌≡◌, ℕ, ◌+◌, ◌≤◌, ◌<◌, Bool, true, false, not, ◌&&◌, nat_eq, cond, List, [], All, Contains, sum_by, Option, Some, None, slice_get, unwrap_or}
 use Rattle.std.specs.declared.cmp.Ordering.{Ordering}
 use Rattle.std.specs.Ordering.{is_gt}
 use Rattle.std.specs.List.{AllPairs, list_any}
@@ -12,6 +12,16 @@ use Rattle.optra_walk.specs.Legs.{dwell_of}
 use Rattle.optra_walk.specs.Walks.{IsWalk}
 use Rattle.optra_walk.specs.Families.{Rows}
 use Rattle.optra_node.specs.declared.Decision.{Decision}
+
+-- a node, with the bids that it decides for, their network and the family of the rows that their legs use
+pub record InstanceNode (F : Type 0) : Type 0 where
+  pub family : F
+  pub net : Net
+  pub bids : List Bid
+  pub node : List Decision
+
+abbrev pub instance_node : {F : Type 0} → F → Net → List Bid → List Decision → InstanceNode F
+instance_node family net bids node = record { family = family; net = net; bids = bids; node = node }
 
 -- the two decide different pairs of a bid and a leg
 abbrev pub DecideApart : Decision → Decision → Type 0

@@ -1,7 +1,6 @@
 //! Which legs a node blocks, and which rows its yes legs overfill.
 //!
-//! Both go over the rows that a leg touches, and over the decisions for each of them. [`crate::Summary`] answers the same
-//! from totals.
+//! Both go over the rows that a leg touches, and over the decisions for each of them.
 ghost use Rattle.std.specs.Prelude.{◌≡◌, ℕ, ◌+◌, ◌<◌, ◌↔◌, IsTrue, true, length, All};
 ghost use Rattle.optra_walk.specs.Families.{IsUsable};
 ghost use Rattle.optra_node.specs.Nodes.{IsFormedLeg, IsFormedDecision, kind_at, yes_uses, yes_load, others_load, IsOverfull, IsBlocked, IsLeastOrNone};

@@ -3,6 +3,7 @@
 //! A crate above calls one, as in `bound_holds(inst, rows);`, and has the law for its instance and its family.
 //! They speak of the definitions of this crate alone: no graph, no search and no reader of certificates.
 ghost use Rattle.std.specs.Prelude.{◌≡◌};
+ghost use Rattle.optra_node.specs.Evidence.{WithHolds, WithoutHolds};
 ghost use Rattle.optra_node.specs.Laws.{WeakDuality, TreeCover, BoundHolds, TestsTellAllowed, OneDual, OneBound, DualFalls, BasesBound, BoundNotNegative, PricesByUsedRows};
 
 use optra_walk::{Instance, RowFamily};
@@ -30,6 +31,19 @@ pub fn bound_holds<F: RowFamily>(inst: Instance<'_>, rows: &F)
     ensures { BoundHolds inst.entry.net.now (F.rows_of rows.now inst.entry.net.now)
         (F.KeepsRule rows.now inst.entry.net.now) inst.entry.bids.now }
 {
+    let _ = rows;
+}
+
+/// What the leaves of a tree say of one bid, at any proper prices at each leaf: no choice that keeps the rule and serves the bid
+/// earns more than the greatest that a leaf says of it served, and there is none where no leaf says anything; and none that
+/// leaves it out earns more than the greatest that a leaf says of it left out.
+pub fn evidence_holds<F: RowFamily>(inst: Instance<'_>, rows: &F)
+    ensures with { WithHolds inst.entry.net.now (F.rows_of rows.now inst.entry.net.now)
+        (F.KeepsRule rows.now inst.entry.net.now) inst.entry.bids.now }
+    ensures without { WithoutHolds inst.entry.net.now (F.rows_of rows.now inst.entry.net.now)
+        (F.KeepsRule rows.now inst.entry.net.now) inst.entry.bids.now }
+{
+    let _ = inst;
     let _ = rows;
 }
 

@@ -13,18 +13,17 @@ mod blocking;
 mod laws;
 mod loads;
 mod nodes;
+mod own_decisions;
 mod spans;
-mod summaries;
-mod totals;
 
 pub use laws::{
-    bound_holds, dual_laws, prices_by_used_rows, tests_tell_allowed, tree_cover, weak_duality,
+    bound_holds, dual_laws, evidence_holds, prices_by_used_rows, tests_tell_allowed, tree_cover,
+    weak_duality,
 };
-pub use loads::{kind_at, may_use};
+pub use loads::{kind_at, may_use, yes_load};
 pub use nodes::is_formed_leg;
+pub use own_decisions::OwnDecisions;
 pub use spans::{is_undecided, let_by, start_ok};
-pub use summaries::Summary;
-pub use totals::{add_decision, add_leg, is_blocked_beside, total};
 
 /// Whether a bid's walk has a leg: a yes leg is in the walk, a no leg is not.
 #[derive(Clone, Copy, Debug, PartialEq, Eq)]

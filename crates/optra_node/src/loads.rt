@@ -38,8 +38,8 @@ fn uses_at<F: RowFamily>(inst: Instance<'_>, rows: &F, bid: u32, leg: Leg, row: 
     rows.leg_use(inst.net, kind, leg, row)
 }
 
-/// How much of the row the yes legs of all bids use.
-pub(crate) fn yes_load<F: RowFamily>(
+/// How much of the row the yes legs use.
+pub fn yes_load<F: RowFamily>(
     inst: Instance<'_>,
     rows: &F,
     decisions: &[Decision],

@@ -2,7 +2,6 @@
 ghost use Rattle.std.specs.Prelude.{◌≡◌, ◌<◌, ◌↔◌, ◌++◌, ◌∷◌, [], IsTrue, IfOk, length, ℕ};
 ghost use Rattle.optra_node.specs.Nodes.{IsNode, IsFormedLeg, IsFormedDecision, IsUndecided, kind_at, IsOverfull, IsBlocked, IsLeastOrNone};
 ghost use Rattle.optra_network.specs.Net.{Net};
-ghost use Rattle.optra_walk.specs.Legs.{dwell_of};
 ghost use Rattle.optra_node.specs.Spans.{IsLegOk, IsStartOk};
 
 use crate::blocking::{is_blocked, least_overfull};
@@ -10,7 +9,7 @@ use crate::loads::kind_at;
 use crate::spans::{is_undecided, let_by, start_ok};
 use crate::{Decision, Node};
 use optra_network::{Minute, Network, NoMemory};
-use optra_walk::{Action, Instance, Leg, RowFamily};
+use optra_walk::{Instance, Leg, RowFamily};
 use std::alloc::Global;
 
 /// Whether the leg is one that may be decided: its track is one of the network, it departs by minute 2,879, and its dwell
@@ -18,17 +17,7 @@ use std::alloc::Global;
 pub fn is_formed_leg(net: &Network, leg: Leg) -> bool
     ensures { IsTrue result ↔ IsFormedLeg net.now leg }
 {
-    leg.track.0 < net.track_count() && leg.depart <= 2879 && dwell(leg.action) <= 240
-}
-
-/// The minutes that the train stands at the head of the track.
-fn dwell(action: Action) -> u16
-    ensures { result ≡ dwell_of action }
-{
-    match action {
-        Action::Halt(dwell) | Action::Wait(dwell) => dwell,
-        Action::Pass | Action::Finish => 0,
-    }
+    leg.track.0 < net.track_count() && leg.depart <= 2879 && leg.action.dwell() <= 240
 }
 
 impl Node {

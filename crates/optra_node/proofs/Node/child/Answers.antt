@@ -1,4 +1,4 @@
-use Rattle.std.proofs.Common.{rules, ◌≡◌, [], ◌∷◌, ◌++◌}
+use Rattle.std.proofs.Common.{rules}
 use Rattle.optra_node.proofs.NodeLemmas.{child_is_node}
 use Rattle.optra_node.proofs.Node.child.Goals as goal
 

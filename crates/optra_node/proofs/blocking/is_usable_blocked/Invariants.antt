@@ -1,4 +1,4 @@
-use Rattle.std.proofs.Common.{◌≡◌, ℕ, ◌+◌, ◌<◌, ◌≤◌, IfSome, slice_get}
+use Rattle.std.proofs.Common.{ℕ, ◌+◌, ◌<◌, ◌≤◌, IfSome, slice_get}
 use Rattle.optra_node.specs.Nodes.{kind_at, others_load}
 use Rattle.optra_node.proofs.blocking.is_usable_blocked.Given as goal
 

@@ -1,4 +1,4 @@
-use Rattle.std.proofs.Common.{◌≡◌, ℕ, ◌<◌, ◌≤◌, IfSome, slice_get}
+use Rattle.std.proofs.Common.{ℕ, ◌<◌, ◌≤◌, IfSome, slice_get}
 use Rattle.optra_node.specs.Nodes.{yes_load}
 use Rattle.optra_node.proofs.blocking.least_used.Given as goal
 

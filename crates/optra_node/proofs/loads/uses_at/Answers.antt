@@ -1,4 +1,4 @@
-use Rattle.std.proofs.Common.{◌≡◌, ◌≤◌, arith}
+use Rattle.std.proofs.Common.{arith}
 use Rattle.optra_walk.specs.Families.{IsUsable}
 use Rattle.optra_node.proofs.RowLemmas.{uses_few}
 use Rattle.optra_node.proofs.loads.uses_at.Goals as goal

@@ -1,7 +1,7 @@
-use Rattle.std.proofs.Common.{◌≡◌, ◌∙◌, ap}
+use Rattle.std.proofs.Common.{◌∙◌, ap}
 use Rattle.optra_node.specs.Nodes.{kind_at}
-use Rattle.optra_node.proofs.SummaryLemmas.{let_by_own}
-use Rattle.optra_node.proofs.summaries.Summary.let_by.Goals as goal
+use Rattle.optra_node.proofs.OwnLemmas.{let_by_own}
+use Rattle.optra_node.proofs.own_decisions.OwnDecisions.let_by.Goals as goal
 
 pub returns : goal.returns
 returns g c =

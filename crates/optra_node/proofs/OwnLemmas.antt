@@ -1,22 +1,21 @@
--- A bid's own decisions, and the loads without them.
-use Rattle.std.proofs.Common.{◌≡◌, ◌≢◌, ℕ, ◌+◌, ◌-◌, ◌<◌, ◌≤◌, ◌↔◌, Bool, true, false, not, cond, List, [], ◌∷◌, ◌++◌, length, get_or, set, take, replicate, filter, Some, slice_get, sum_by, refl, sym, ap, ◌∙◌, subst, arith}
-use Rattle.std.specs.Prelude.{All, IsTrue, ◌&&◌, nat_eq}
-use Rattle.std.specs.declared.cmp.Ordering.{Ordering}
-use Rattle.std.specs.BTreeMap.{BTreeMap}
-use Rattle.std.proofs.lemmas.Bool.Decides.{nat_tests}
+-- A bid's own decisions, their places, and the loads without them.
+use Rattle.std.proofs.Common.{◌≡◌, ◌≢◌, ℕ, ◌+◌, ◌<◌, ◌≤◌, ◌↔◌, Bool, true, false, not, cond, List, [], ◌∷◌, ◌++◌, map, length, get_or, set, take, replicate, filter, Option, Some, slice_get, refl, sym, ap, ◌∙◌, subst, arith, inl, inr}
+use Rattle.std.specs.Prelude.{All, IsTrue, ◌&&◌, ◌||◌, nat_eq}
+use Rattle.std.specs.List.{list_any}
+use Rattle.std.proofs.lemmas.Bool.Decides.{nat_tests, eqb_tells}
 use Rattle.std.proofs.lemmas.List.Elements.{All-nil, All-cons, All-head, All-tail, All-filter, filter_more}
-use Rattle.std.proofs.lemmas.List.{append-nil, length-set, length-replicate, get_or-replicate, get_or-set_same, get_or-set_other}
+use Rattle.std.proofs.lemmas.List.{append-nil, length-set, length-replicate, get_or-replicate, get_or-set_same, get_or-set_other, map_push}
 use Rattle.std.proofs.lemmas.List.Sums.{sum_by-cons}
 use Rattle.std.proofs.lemmas.Option.{slice_get-get_or, slice_get_within, get_or_from_slice_get}
 use Rattle.optra_network.specs.Net.{Net}
 use Rattle.optra_network.specs.declared.TypeId.{TypeId}
 use Rattle.optra_bid.specs.declared.bids.Bid.{Bid}
 use Rattle.optra_walk.specs.declared.Leg.{Leg}
-use Rattle.optra_walk.specs.Families.{Rows, total_of}
+use Rattle.optra_walk.specs.Families.{Rows}
 use Rattle.optra_node.specs.declared.Decision.{Decision}
-use Rattle.optra_node.specs.Nodes.{uses_at, yes_load, others_load, IsFormedDecision, IsBlocked}
+use Rattle.optra_node.specs.Nodes.{uses_at, yes_load, others_load, has_yes, IsFormedDecision}
 use Rattle.optra_node.specs.Spans.{Lets, IsLetBy, IsStartOk}
-use Rattle.optra_node.specs.Summaries.{is_for, decisions_for, AreLoads, AreByBid, load_beside, IsBlockedBeside}
+use Rattle.optra_node.specs.OwnDecisions.{is_for, decisions_for, AreByBid, AreAt, ArePlacesByBid}
 
 is_for_same : (bid : ℕ) (d : Decision) → d.bid ≡ bid → is_for bid d ≡ true
 is_for_same bid d e = grind (arith, nat_tests)
@@ -148,22 +147,41 @@ module _ (bid : ℕ) (own node : List Decision) (is : own ≡ decisions_for node
   pub own_formed : (net : Net) (bids : ℕ) → All (IsFormedDecision net bids) node → All (IsFormedDecision net bids) own
   own_formed net bids h = subst (All (IsFormedDecision net bids)) (sym is) (All-filter (is_for bid) (IsFormedDecision net bids) node h)
 
-  module _ {R : Type 0} (cmp : R → R → Ordering) (rows : Rows R) (bids : List Bid) (totals : BTreeMap R ℕ) (loads : AreLoads cmp rows bids node totals) where
-    -- what the totals have beside the bid's own decisions is the load of the others
-    split : (row : R) → total_of cmp totals row ≡ others_load rows bids node bid row + yes_load rows bids own row
-    split row = loads row ∙ load_split rows bids bid row node ∙ ap (λ o. others_load rows bids node bid row + yes_load rows bids o row) (sym is)
+-- the place of the next decision goes to the list of its bid
+pub places_more : (bids : ℕ) (node : List Decision) (n : ℕ) (z : Decision) (lists : List (List ℕ)) (list : List ℕ) → n < length node → (get_or node n z).bid < bids → ArePlacesByBid bids node (take n node) lists
+    → list ≡ get_or lists (get_or node n z).bid [] ++ n ∷ [] → ArePlacesByBid bids node (take (n + 1) node) (set lists (get_or node n z).bid list)
+places_more bids node n z lists list l within is made = record {
+  count = length-set lists d.bid list ∙ is.count;
+  each = λ bid m. elim (eqb_tells d.bid bid) as (λ _. AreAt node (get_or (set lists d.bid list) bid []) (decisions_for (take (n + 1) node) bid)) [
+    | inl (test, same) ↦
+        let count = is.count in
+        let written : get_or (set lists d.bid list) bid [] ≡ get_or lists bid [] ++ n ∷ [] =
+        ap (λ (k : ℕ). get_or (set lists d.bid list) k []) (sym same) ∙ get_or-set_same lists d.bid list [] (omega (arith, within, count)) ∙ made ∙ ap (λ (k : ℕ). get_or lists k [] ++ n ∷ []) same
+        in
+        ap (map (slice_get node)) written ∙ map_push (slice_get node) (get_or lists bid []) n ∙ ap (λ (xs : List (Option Decision)). xs ++ slice_get node n ∷ []) (is.each bid m)
+        ∙ ap (λ (o : Option Decision). map Some (decisions_for (take n node) bid) ++ o ∷ []) (slice_get-get_or node n z l) ∙ sym (map_push Some (decisions_for (take n node) bid) d) ∙ ap (map Some) (sym (more bid true test))
+    | inr (test, other) ↦
+        ap (map (slice_get node)) (get_or-set_other lists d.bid bid list [] (λ e. other (sym e))) ∙ is.each bid m ∙ ap (map Some) (sym (more bid false test ∙ append-nil (decisions_for (take n node) bid)))
+  ];
+}
+  where
+    d : Decision
+    d = get_or node n z
 
-    pub own_within : (row : R) → yes_load rows bids own row ≤ total_of cmp totals row
-    own_within row = let s = split row in omega arith
+    more : (bid : ℕ) (b : Bool) → nat_eq d.bid bid ≡ b → decisions_for (take (n + 1) node) bid ≡ decisions_for (take n node) bid ++ cond b (d ∷ []) []
+    more bid b e = filter_more (is_for bid) node n z l ∙ ap (λ (c : Bool). decisions_for (take n node) bid ++ cond c (d ∷ []) []) e
 
-    beside : (row : R) → load_beside cmp rows bids totals own row ≡ others_load rows bids node bid row
-    beside row = let s = split row in omega arith
+-- a yes among a bid's own decisions is a yes leg of the bid
+pub own_yes : (number : ℕ) (node : List Decision) → list_any (λ (d : Decision). d.yes) (decisions_for node number) ≡ has_yes node number
+own_yes number [] = refl
+own_yes number (d ∷ node) = by d.yes (nat_eq d.bid number) refl (own_yes number node)
+  where
+    own : List Decision
+    own = decisions_for node number
 
-    pub blocked_beside : (r : Bool) (kind : TypeId) (leg : Leg) → (IsTrue r ↔ IsBlockedBeside rows (load_beside cmp rows bids totals own) kind leg) → IsTrue r ↔ IsBlocked rows bids node bid kind leg
-    blocked_beside r kind leg h = (λ t. to (h.0 t), λ b. h.1 (back b))
-      where
-        to : IsBlockedBeside rows (load_beside cmp rows bids totals own) kind leg → IsBlocked rows bids node bid kind leg
-        to (row, b) = let e = beside row in let a = b.above in (row, record { is_row = b.is_row; used = b.used; above = omega arith })
-
-        back : IsBlocked rows bids node bid kind leg → IsBlockedBeside rows (load_beside cmp rows bids totals own) kind leg
-        back (row, b) = let e = beside row in let a = b.above in (row, record { is_row = b.is_row; used = b.used; above = omega arith })
+    by : (is_yes is_own : Bool) → d.yes ≡ is_yes → list_any (λ (e : Decision). e.yes) own ≡ has_yes node number
+        → list_any (λ (e : Decision). e.yes) (cond is_own (d ∷ own) own) ≡ ((is_yes && is_own) || has_yes node number)
+    by true true y rest = grind (arith, y, rest)
+    by true false y rest = rest
+    by false true y rest = grind (arith, y, rest)
+    by false false y rest = rest
