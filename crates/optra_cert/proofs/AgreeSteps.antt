@@ -20,10 +20,11 @@ use Rattle.optra_cert.specs.RowTexts.{RowTexts, AreApart, AreTexts, read_row}
 use Rattle.optra_cert.specs.Faults.{is_below, is_one_of, last_of, leaf_words, number_at, row_of_price}
 use Rattle.optra_cert.specs.Forms.{field_at}
 use Rattle.optra_cert.specs.Outcomes.{◌>>=◌, row_or_fault}
-use Rattle.optra_cert.specs.Steps.{State, TreeSoFar, WalksSoFar, amount_told, bid_told, body_step, bound_step, count_added, count_told, filled, is_above, is_whole, item_step, leaf_added, leg_added, leg_told, price_added, price_told, revenue_step, split_added, started, step, step_at, tree_step}
+use Rattle.optra_cert.specs.RecordFields.{amount_told, bid_told, count_told, leg_told, price_told}
+use Rattle.optra_cert.specs.Steps.{State, TreeSoFar, WalksSoFar, body_step, bound_step, count_added, filled, is_above, is_whole, item_step, leaf_added, leg_added, price_added, revenue_step, split_added, started, step, step_at, tree_step}
 use Rattle.optra_cert.specs.declared.CertCode.TheVariants as code
-use Rattle.optra_cert.specs.declared.reading.Place.{Place}
-use Rattle.optra_cert.specs.declared.reading.Place.TheVariants as place
+use Rattle.optra_cert.specs.declared.read_parts.Place.{Place}
+use Rattle.optra_cert.specs.declared.read_parts.Place.TheVariants as place
 use Rattle.optra_cert.specs.declared.row_text.RowRead.{RowRead}
 use Rattle.optra_cert.specs.declared.row_text.RowRead.TheVariants as read
 use Rattle.optra_cert.proofs.FaultSteps.{Agrees, AgreesAt, LegsInOrder, PricesInOrder, in_order, leg_number, price_row}

@@ -25,11 +25,12 @@ use Rattle.optra_cert.specs.RowTexts.{RowTexts, AreApart, AreTexts, row_fields}
 use Rattle.optra_cert.specs.Certs.{Cert, IsAmount, IsListed, IsWritable, IsWritableItem}
 use Rattle.optra_cert.specs.CertTexts.{cert_records, item_records, leg_record, leg_records, price_record}
 use Rattle.optra_cert.specs.Outcomes.{◌>>=◌, row_or_fault}
-use Rattle.optra_cert.specs.Steps.{State, TreeSoFar, WalksSoFar, body_step, bound_step, count_added, fault, filled, in_row, is_above, is_whole, item_step, leaf_added, leg_added, leg_told, price_added, price_told, read_rows, revenue_step, split_added, started, step, step_at, tree_step}
+use Rattle.optra_cert.specs.RecordFields.{leg_told, price_told}
+use Rattle.optra_cert.specs.Steps.{State, TreeSoFar, WalksSoFar, body_step, bound_step, count_added, fault, filled, in_row, is_above, is_whole, item_step, leaf_added, leg_added, price_added, read_rows, revenue_step, split_added, started, step, step_at, tree_step}
 use Rattle.optra_cert.specs.declared.CertCode.{CertCode}
 use Rattle.optra_cert.specs.declared.CertCode.TheVariants as code
-use Rattle.optra_cert.specs.declared.reading.Place.{Place}
-use Rattle.optra_cert.specs.declared.reading.Place.TheVariants as place
+use Rattle.optra_cert.specs.declared.read_parts.Place.{Place}
+use Rattle.optra_cert.specs.declared.read_parts.Place.TheVariants as place
 use Rattle.optra_cert.specs.declared.row_text.RowRead.{RowRead}
 use Rattle.optra_cert.proofs.LegTexts.{leg_back, leg_fields}
 use Rattle.optra_cert.proofs.RowLemmas.{row_back}

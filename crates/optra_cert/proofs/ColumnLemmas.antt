@@ -1,5 +1,5 @@
 -- A field that tells a value is its text, and the text of a value that fits tells it.
-use Rattle.std.proofs.Common.{◌≡◌, ◌<◌, ◌≤◌, ◌^◌, ◌&&◌, ℕ, Bool, true, false, List, [], ◌∷◌, length, get_or, Option, Some, None, refl, sym, ◌∙◌, subst, arith, bytes_eq, nat_le}
+use Rattle.std.proofs.Common.{◌≡◌, ◌≢◌, ◌<◌, ◌≤◌, ◌^◌, ◌&&◌, ℕ, Bool, true, false, List, [], ◌∷◌, length, get_or, Option, Some, None, refl, sym, ◌∙◌, subst, arith, bytes_eq, nat_le}
 use Rattle.std.specs.Prelude.{cond, All, Result, Ok, Err, slice_get, unwrap_or}
 use Rattle.std.specs.List.{AllZip, position_or_len}
 use Rattle.std.specs.Fmt.{decimal}
@@ -64,6 +64,21 @@ shown_number low high field n few e =
     let h = in_range_some low high (plain_number_of field) n e in
     let most = h.1.1 in
     (h.1, plain_number_text field n h.0 (omega (arith, few, most)))
+
+false_right : (b : Bool) → (b && false) ≡ false
+false_right true = refl
+false_right false = refl
+
+-- another number of fields than of columns has no form
+pub other_form : (columns : List Column) (fields : Record) → length fields ≢ length columns → has_form columns fields ≡ false
+other_form [] [] h = absurd (h refl)
+other_form [] (field ∷ fields) h = refl
+other_form (column ∷ columns) [] h = refl
+other_form (a_word words ∷ columns) (field ∷ fields) h = rw (other_form columns fields (λ e. h (omega (arith, e)))) (false_right _)
+other_form (a_station ∷ columns) (field ∷ fields) h = other_form columns fields (λ e. h (omega (arith, e)))
+other_form (a_track ∷ columns) (field ∷ fields) h = other_form columns fields (λ e. h (omega (arith, e)))
+other_form (a_type ∷ columns) (field ∷ fields) h = other_form columns fields (λ e. h (omega (arith, e)))
+other_form (a_number low high ∷ columns) (field ∷ fields) h = other_form columns fields (λ e. h (omega (arith, e)))
 
 module _ (net : Net) (built : IsBuilt net) where
   -- the text of a value that fits tells it

@@ -10,21 +10,22 @@ use Rattle.std.proofs.lemmas.List.Elements.{All-contains, All-from_recursion, Al
 use Rattle.std.proofs.lemmas.Slice.Eq.{bytes_eq-Decides}
 use Rattle.optra_network.specs.Names.{AreNames, is_name, is_plain, place_of}
 use Rattle.optra_network.specs.Net.{IsBuilt, Net}
+use Rattle.optra_walk.specs.Words.{action_words, start_words}
 use Rattle.optra_records.specs.Cuts.{cut, cut_field}
 use Rattle.optra_records.specs.Numbers.{is_plain_number, plain_number_of, value_of}
 use Rattle.optra_records.specs.Reading.{Field, Record}
 use Rattle.optra_cert.specs.Columns.{Column, IsShortColumn, IsShortWord, a_number, a_station, a_track, a_type, a_word, has_form, in_range, record_values, told_in, values_of}
-use Rattle.optra_cert.specs.Forms.{action_words, but_last, field_at, from_words, last_alone, leg_columns, most_dwell, version_of}
+use Rattle.optra_cert.specs.Forms.{but_last, field_at, last_alone, version_of}
 use Rattle.optra_cert.specs.ListLemmas.{found_in}
 use Rattle.optra_cert.specs.Outcomes.{◌>>=◌, row_or_fault}
 use Rattle.optra_cert.specs.RowTexts.{AreTexts, RowKind, RowTexts, kind_named, read_by, read_row, row_of_values}
-use Rattle.optra_cert.specs.Steps.{State, TreeSoFar, amount_told, bid_told, body_step, bound_step, in_row, item_step, leg_told, number_told, price_told, read_behind, read_records, read_rows, revenue_step, started, step, step_at, tree_step}
+use Rattle.optra_cert.specs.RecordFields.{amount_told, bid_told, leg_by_fields, leg_told, number_told, price_told}
+use Rattle.optra_cert.specs.Steps.{State, TreeSoFar, body_step, bound_step, in_row, item_step, read_behind, read_records, read_rows, revenue_step, started, step, step_at, tree_step}
 use Rattle.optra_cert.specs.declared.CertCode.{CertCode}
 use Rattle.optra_cert.specs.declared.CertCode.TheVariants as code
-use Rattle.optra_cert.specs.declared.reading.Place.{Place}
-use Rattle.optra_cert.specs.declared.reading.Place.TheVariants as place
-use Rattle.optra_cert.proofs.LegLemmas.{other_form}
-use Rattle.optra_cert.proofs.LongRows.{long_row}
+use Rattle.optra_cert.specs.declared.read_parts.Place.{Place}
+use Rattle.optra_cert.specs.declared.read_parts.Place.TheVariants as place
+use Rattle.optra_cert.proofs.LegLemmas.{other_leg}
 use Rattle.optra_cert.proofs.LongRows.{long_row}
 
 -- ---- a field
@@ -134,24 +135,31 @@ module _ (net : Net) (built : IsBuilt net) where
   unfolding bid_told
   bid_cut bids fields = rw (number_told_cut 1 bids fields) refl
 
-  dwell_cut : (field : Field) → most_dwell (cut_field field) ≡ most_dwell field
-  dwell_cut field = rw (is_word_cut (codes "halt") (omega arith) field, is_word_cut (codes "wait") (omega arith) field) refl
+  starts_short : All IsShortWord start_words
+  starts_short = All-from_recursion IsShortWord start_words (lit≤ tt, (lit≤ tt, tt))
 
-  leg_columns_cut : (bids : ℕ) (fields : Record) → leg_columns bids (map cut_field fields) ≡ leg_columns bids fields
-  leg_columns_cut bids fields = rw (field_cut fields 4, dwell_cut (field_at fields 4)) refl
+  actions_short : All IsShortWord action_words
+  actions_short = All-from_recursion IsShortWord action_words (lit≤ tt, (lit≤ tt, (lit≤ tt, (lit≤ tt, tt))))
 
   leg_cut : (bids : ℕ) (fields : Record) → leg_told net bids (map cut_field fields) ≡ leg_told net bids fields
-  unfolding leg_told
-  leg_cut bids fields = rw (leg_columns_cut bids fields, record_cut (leg_columns bids fields) fields short) refl
-    where
-      froms : All IsShortWord from_words
-      froms = All-from_recursion IsShortWord from_words (lit≤ tt, (lit≤ tt, tt))
-
-      actions : All IsShortWord action_words
-      actions = All-from_recursion IsShortWord action_words (lit≤ tt, (lit≤ tt, (lit≤ tt, (lit≤ tt, tt))))
-
-      short : All IsShortColumn (leg_columns bids fields)
-      short = All-from_recursion IsShortColumn (leg_columns bids fields) (tt, (tt, (tt, (froms, (actions, (tt, tt))))))
+  unfolding leg_told leg_by_fields
+  leg_cut bids [] = refl
+  leg_cut bids (b ∷ []) = refl
+  leg_cut bids (b ∷ t ∷ []) = refl
+  leg_cut bids (b ∷ t ∷ d ∷ []) = refl
+  leg_cut bids (b ∷ t ∷ d ∷ s ∷ []) = refl
+  leg_cut bids (b ∷ t ∷ d ∷ s ∷ a ∷ []) = refl
+  leg_cut bids (b ∷ t ∷ d ∷ s ∷ a ∷ w ∷ []) =
+      rw (
+        place_cut start_words starts_short s,
+        place_cut action_words actions_short a,
+        number_cut b,
+        place_cut net.track_names (short_names net.track_names built.names.names_of_tracks) t,
+        number_cut d,
+        number_cut w,
+      )
+      refl
+  leg_cut bids (b ∷ t ∷ d ∷ s ∷ a ∷ w ∷ x ∷ rest) = refl
 
   -- ---- rows, prices and steps
 
@@ -239,8 +247,7 @@ module _ (net : Net) (built : IsBuilt net) where
         bid_long = ap (λ (r : Result ℕ CertCode). r >>= λ n. Ok (n - 1)) (many_numbers 1 bids a long)
 
         leg_long : leg_told net bids a ≡ Err code.Record
-        unfolding leg_told
-        leg_long = rw (other_form (leg_columns bids a) a (λ e. absurd (omega (arith, e, long)))) refl
+        leg_long = other_leg net bids a (λ e. absurd (omega (arith, e, long)))
 
         row_long : row_or_fault (read_row texts net version a) ≡ Err code.Record
         row_long = ap row_or_fault (long_row texts are net version a (omega (arith, long)))

@@ -14,6 +14,7 @@ use Rattle.optra_records.specs.Reading.{Record}
 use Rattle.optra_cert.specs.declared.CertCode.{CertCode}
 use Rattle.optra_cert.specs.declared.CertCode.TheVariants as code
 use Rattle.optra_cert.specs.Faults.{fault_at, is_whole}
+use Rattle.optra_cert.specs.RecordFields.{amount_told, leg_by_fields, leg_told, price_told}
 use Rattle.optra_cert.specs.RowTexts.{read_row}
 use Rattle.optra_cert.specs.Headways.{headway_texts}
 use Rattle.optra_cert.specs.Certs.{Cert}
@@ -61,15 +62,15 @@ abbrev fault : ℕ → Record → Option CertCode
 fault before row = fault_at (λ a b. Less) headway_texts net 2 1 (take before rows) row
 
 good : fault 6 (codes "price" ∷ codes "window" ∷ codes "ab" ∷ codes "2" ∷ codes "70" ∷ []) ≡ None
-unfolding fault_at plain_number_of read_row digits
+unfolding fault_at plain_number_of read_row digits price_told amount_told
 good = refl
 
 bad_kind : fault 6 (codes "price" ∷ codes "cross" ∷ codes "ab" ∷ codes "2" ∷ codes "70" ∷ []) ≡ Some code.Record
-unfolding fault_at plain_number_of read_row digits
+unfolding fault_at plain_number_of read_row digits price_told amount_told
 bad_kind = refl
 
 bad_name : fault 6 (codes "price" ∷ codes "window" ∷ codes "ba" ∷ codes "2999" ∷ codes "70" ∷ []) ≡ Some code.Name
-unfolding fault_at plain_number_of read_row digits
+unfolding fault_at plain_number_of read_row digits price_told amount_told
 bad_name = refl
 
 bad_number : fault 5 (codes "priced" ∷ codes "007" ∷ []) ≡ Some code.Number
@@ -78,12 +79,12 @@ bad_number = refl
 
 -- pass and finish have no dwell
 bad_dwell : fault 4 (codes "split" ∷ codes "2" ∷ codes "ab" ∷ codes "3" ∷ codes "halt" ∷ codes "finish" ∷ codes "1" ∷ []) ≡ Some code.Number
-unfolding fault_at plain_number_of read_row digits
+unfolding fault_at plain_number_of read_row digits leg_told leg_by_fields
 bad_dwell = refl
 
 -- a leg of a lower bid
 bad_order : fault 4 (codes "leg" ∷ codes "1" ∷ codes "ab" ∷ codes "3" ∷ codes "halt" ∷ codes "finish" ∷ codes "0" ∷ []) ≡ Some code.Order
-unfolding fault_at plain_number_of read_row digits
+unfolding fault_at plain_number_of read_row digits leg_told leg_by_fields
 bad_order = refl
 
 -- no leg stands behind an item of the tree, and nothing behind a whole tree

@@ -12,22 +12,21 @@ use Rattle.optra_node.specs.Duals.{PriceList}
 use Rattle.optra_records.specs.Numbers.{plain_number_of}
 use Rattle.optra_records.specs.Reading.{Field, Record}
 use Rattle.optra_records.proofs.PlainNumbers.{plain_number_back}
-use Rattle.optra_cert.specs.Columns.{record_values}
 use Rattle.optra_cert.specs.RowTexts.{RowTexts, AreApart, AreTexts, read_row}
 use Rattle.optra_cert.specs.Faults.{fault_at, fault_behind, fault_of, is_below, is_in_order, is_one_of, is_whole, last_of, leaf_words, number_at, or_then, prices_due, row_of_price, tree_words, words_behind}
-use Rattle.optra_cert.specs.Forms.{any_number, but_last, field_at, last_alone, leg_columns}
+use Rattle.optra_cert.specs.Forms.{but_last, field_at, last_alone}
 use Rattle.optra_cert.specs.Outcomes.{◌>>=◌, row_or_fault}
-use Rattle.optra_cert.specs.Steps.{State, TreeSoFar, WalksSoFar, amount_told, bid_told, body_step, bound_step, count_added, count_told, is_above, item_step, leaf_added, leg_added, leg_of, leg_told, price_added, price_told, revenue_step, split_added, step, step_at, tree_step}
-use Rattle.optra_cert.specs.Steps.{number_told}
+use Rattle.optra_cert.specs.RecordFields.{amount_told, bid_told, count_told, leg_told, price_told}
+use Rattle.optra_cert.specs.Steps.{State, TreeSoFar, WalksSoFar, body_step, bound_step, count_added, is_above, item_step, leaf_added, leg_added, price_added, revenue_step, split_added, step, step_at, tree_step}
 use Rattle.optra_cert.specs.Steps as steps
 use Rattle.optra_cert.proofs.TreeSteps.{with_price}
 use Rattle.optra_cert.proofs.WalkSteps.{with_leg}
 use Rattle.optra_cert.specs.declared.CertCode.{CertCode}
 use Rattle.optra_cert.specs.declared.CertCode.TheVariants as code
-use Rattle.optra_cert.specs.declared.reading.Place.{Place}
-use Rattle.optra_cert.specs.declared.reading.Place.TheVariants as place
+use Rattle.optra_cert.specs.declared.read_parts.Place.{Place}
+use Rattle.optra_cert.specs.declared.read_parts.Place.TheVariants as place
 use Rattle.optra_cert.specs.declared.row_text.RowRead.TheVariants as read
-use Rattle.optra_cert.proofs.FaultWords.{fault_before, fault_then, has_word, number_fault, or_none, row_fault_is, same_zero}
+use Rattle.optra_cert.proofs.FaultWords.{fault_before, fault_then, has_word, or_none, row_fault_is, same_zero}
 use Rattle.optra_cert.proofs.LegTexts.{leg_is}
 use Rattle.optra_cert.proofs.StateSteps.{same_word}
 use Rattle.optra_cert.proofs.TellLemmas.{bind_ok, row_read}
@@ -40,14 +39,6 @@ second_is (field ∷ fields) = refl
 amount_fault : (fields : Record) → fault_of (amount_told fields) ≡ fault_of (count_told fields)
 unfolding amount_told
 amount_fault fields = fault_before (count_told fields) (λ n. Ok (pos n)) (λ n. refl)
-
-bid_fault : (bids : ℕ) (fields : Record) → fault_of (bid_told bids fields) ≡ fault_of (number_told 1 bids fields)
-unfolding bid_told
-bid_fault bids fields = fault_before (number_told 1 bids fields) (λ n. Ok (n - 1)) (λ n. refl)
-
-leg_fault : (net : Net) (bids : ℕ) (fields : Record) → fault_of (leg_told net bids fields) ≡ fault_of (record_values net (leg_columns bids fields) fields)
-unfolding leg_told
-leg_fault net bids fields = fault_before (record_values net (leg_columns bids fields) fields) (λ values. Ok (leg_of values)) (λ values. refl)
 
 module _ {R : Type 0} (cmp : R → R → Ordering) (texts : RowTexts R) (apart : AreApart texts.kinds) (are : AreTexts texts) (net : Net) (built : IsBuilt net) (bids : ℕ) (few : bids < 10 ^ 18) (version : ℕ) where
   abbrev pub in_order : Record → Record → Bool
@@ -84,15 +75,9 @@ module _ {R : Type 0} (cmp : R → R → Ordering) (texts : RowTexts R) (apart :
       → or_then (own_fault (field_at fields 0) (drop 1 fields)) (order_fault (in_order last fields)) ≡ told
   by_word last fields word told same order e = (λ i. or_then (own_fault (same i) (drop 1 fields)) (order_fault (order i))) ∙ or_none (own_fault word (drop 1 fields)) ∙ e
 
-  number_alone : (fields : Record) → fault_of (record_values net any_number fields) ≡ fault_of (count_told fields)
-  number_alone fields = number_fault net 0 (10 ^ 18 - 1) fields
-
-  amount_alone : (fields : Record) → fault_of (record_values net any_number fields) ≡ fault_of (amount_told fields)
-  amount_alone fields = number_alone fields ∙ sym (amount_fault fields)
-
   -- an amount, where its word alone may stand there
   amount_judged : (last fields : Record) (word : Field) (f : ℤ → Result (State R) CertCode) → ((amount : ℤ) → fault_of (f amount) ≡ None)
-      → own_fault word (drop 1 fields) ≡ fault_of (record_values net any_number (drop 1 fields)) → list_any (bytes_eq word) (codes "leg" ∷ []) ≡ false → list_any (bytes_eq word) (codes "price" ∷ []) ≡ false
+      → own_fault word (drop 1 fields) ≡ fault_of (count_told (drop 1 fields)) → list_any (bytes_eq word) (codes "leg" ∷ []) ≡ false → list_any (bytes_eq word) (codes "price" ∷ []) ≡ false
       → judged false (word ∷ []) last fields ≡ fault_of (cond (bytes_eq (field_at fields 0) word) (amount_told (drop 1 fields) >>= f) (Err code.Record))
   amount_judged last fields word f none own no_leg no_price = by (bytes_eq (field_at fields 0) word) refl
     where
@@ -102,7 +87,7 @@ module _ {R : Type 0} (cmp : R → R → Ordering) (texts : RowTexts R) (apart :
       by true e =
           let same = same_word (field_at fields 0) word e in
           by_word last fields word (fault_of (amount_told (drop 1 fields) >>= f)) same (other_order last fields word same no_leg no_price)
-          (own ∙ amount_alone (drop 1 fields) ∙ sym (fault_before (amount_told (drop 1 fields)) f none))
+          (own ∙ sym (amount_fault (drop 1 fields)) ∙ sym (fault_before (amount_told (drop 1 fields)) f none))
       by false e = refl
 
   revenue_judged : (s : State R) (last fields : Record) → judged false (codes "revenue" ∷ []) last fields ≡ fault_of (revenue_step s (field_at fields 0) (drop 1 fields))
@@ -120,14 +105,14 @@ module _ {R : Type 0} (cmp : R → R → Ordering) (texts : RowTexts R) (apart :
       row_fault_is (read_row texts net version fields) ∙ sym (fault_before (row_or_fault (read_row texts net version fields)) (λ row. Ok (leaf_added tree (Forced row))) (λ row. refl))
 
   split_fault : (tree : TreeSoFar R) (fields : Record) → own_fault (codes "split") fields ≡ fault_of (leg_told net bids fields >>= λ told. Ok (split_added tree told.0 told.1))
-  split_fault tree fields = sym (leg_fault net bids fields) ∙ sym (fault_before (leg_told net bids fields) (λ told. Ok (split_added tree told.0 told.1)) (λ told. refl))
+  split_fault tree fields = sym (fault_before (leg_told net bids fields) (λ told. Ok (split_added tree told.0 told.1)) (λ told. refl))
 
   nowalk_fault : (tree : TreeSoFar R) (fields : Record) → own_fault (codes "nowalk") fields ≡ fault_of (bid_told bids fields >>= λ bid. Ok (leaf_added tree (NoWalk bid)))
   nowalk_fault tree fields =
-      number_fault net 1 bids fields ∙ sym (bid_fault bids fields) ∙ sym (fault_before (bid_told bids fields) (λ bid. Ok (leaf_added tree (NoWalk bid))) (λ bid. refl))
+      sym (fault_before (bid_told bids fields) (λ bid. Ok (leaf_added tree (NoWalk bid))) (λ bid. refl))
 
   priced_fault : (tree : TreeSoFar R) (fields : Record) → own_fault (codes "priced") fields ≡ fault_of (count_told fields >>= λ count. Ok (count_added tree count))
-  priced_fault tree fields = number_alone fields ∙ sym (fault_before (count_told fields) (λ count. Ok (count_added tree count)) (λ count. refl))
+  priced_fault tree fields = sym (fault_before (count_told fields) (λ count. Ok (count_added tree count)) (λ count. refl))
 
   item_judged : (tree : TreeSoFar R) (last fields : Record) → judged false tree_words last fields ≡ fault_of (item_step cmp texts net bids version tree (field_at fields 0) (drop 1 fields))
   unfolding item_step
@@ -160,13 +145,6 @@ module _ {R : Type 0} (cmp : R → R → Ordering) (texts : RowTexts R) (apart :
 
   -- ---- prices
 
-  price_told_fault : (fields : Record) → own_fault (codes "price") fields ≡ fault_of (price_told texts net version fields)
-  unfolding price_told
-  price_told_fault fields =
-      ap (λ (o : Option CertCode). or_then o (fault_of (record_values net any_number (last_alone fields)))) (row_fault_is (read_row texts net version (but_last fields)))
-      ∙ fault_then (row_or_fault (read_row texts net version (but_last fields))) (λ row. amount_told (last_alone fields) >>= λ amount. Ok (row, amount)) (fault_of (record_values net any_number (last_alone fields)))
-      (λ row told. fault_before (amount_told (last_alone fields)) (λ amount. Ok (row, amount)) (λ amount. refl) ∙ sym (amount_alone (last_alone fields)))
-
   price_added_fault : (tree : TreeSoFar R) (entry : R × ℤ) → fault_of (price_added cmp tree entry) ≡ order_fault (is_above cmp tree.prices entry.0)
   unfolding price_added
   price_added_fault tree entry = by (is_above cmp tree.prices entry.0)
@@ -198,7 +176,6 @@ module _ {R : Type 0} (cmp : R → R → Ordering) (texts : RowTexts R) (apart :
       by true e =
           let same = same_word (field_at fields 0) (codes "price") e in
           ap (λ (w : Field). or_then (own_fault w (drop 1 fields)) (order_fault (in_order last fields))) same
-          ∙ ap (λ (o : Option CertCode). or_then o (order_fault (in_order last fields))) (price_told_fault (drop 1 fields))
           ∙ fault_then (price_told texts net version (drop 1 fields)) (price_added cmp tree) (order_fault (in_order last fields))
           (λ entry told. price_added_fault tree entry ∙ ap order_fault (sym (order fields entry.0 same (price_row (drop 1 fields) entry told))))
       by false e = refl
@@ -255,7 +232,6 @@ module _ {R : Type 0} (cmp : R → R → Ordering) (texts : RowTexts R) (apart :
       → or_then (own_fault (field_at fields 0) (drop 1 fields)) (order_fault (in_order last fields)) ≡ fault_of (leg_told net bids (drop 1 fields) >>= legs_go_on s)
   leg_judged s last fields order same =
       ap (λ (w : Field). or_then (own_fault w (drop 1 fields)) (order_fault (in_order last fields))) same
-      ∙ ap (λ (o : Option CertCode). or_then o (order_fault (in_order last fields))) (sym (leg_fault net bids (drop 1 fields)))
       ∙ fault_then (leg_told net bids (drop 1 fields)) (legs_go_on s) (order_fault (in_order last fields))
       (λ told e. fault_before (leg_added s.walks told.0 told.1) (λ walks. Ok (record s { walks = walks })) (λ walks. refl) ∙ leg_added_fault s.walks told.0 told.1
       ∙ ap order_fault (sym (order fields told.0 same (leg_number fields told e))))

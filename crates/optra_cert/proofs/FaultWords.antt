@@ -6,14 +6,10 @@ use Rattle.std.proofs.lemmas.Bool.{ne_eqb, eq-eqb, eqb-true, eqb-false}
 use Rattle.std.proofs.lemmas.List.{get_or_push, length_push}
 use Rattle.std.proofs.lemmas.List.Sums.{fold_push, sum_by_push}
 use Rattle.std.proofs.lemmas.Option.{unwrap_or-slice_get}
-use Rattle.optra_network.specs.Net.{Net}
-use Rattle.optra_records.specs.Numbers.{plain_number_of}
 use Rattle.optra_records.specs.Reading.{Field, Record}
-use Rattle.optra_cert.specs.Columns.{a_number, in_range, record_values, told_before}
 use Rattle.optra_cert.specs.Faults.{fault_of, is_one_of, last_of, number_at, or_then, prices_due, row_fault}
 use Rattle.optra_cert.specs.Forms.{field_at}
 use Rattle.optra_cert.specs.Outcomes.{◌>>=◌, row_or_fault}
-use Rattle.optra_cert.specs.Steps.{number_told, or_fault}
 use Rattle.optra_cert.specs.declared.CertCode.{CertCode}
 use Rattle.optra_cert.specs.declared.CertCode.TheVariants as code
 use Rattle.optra_cert.specs.declared.row_text.RowRead.{RowRead}
@@ -57,16 +53,6 @@ row_fault_is (read.Row row) = refl
 row_fault_is read.Kind = refl
 row_fault_is read.Name = refl
 row_fault_is read.Number = refl
-
--- a number alone
-pub number_fault : (net : Net) (low high : ℕ) (fields : Record) → fault_of (record_values net (a_number low high ∷ []) fields) ≡ fault_of (number_told low high fields)
-number_fault net low high [] = refl
-number_fault net low high (field ∷ []) = by (in_range low high (plain_number_of field))
-  where
-    by : (o : Option ℕ) → fault_of (told_before (a_number low high) o (Ok [])) ≡ fault_of (or_fault code.Number o)
-    by None = refl
-    by (Some n) = refl
-number_fault net low high (field ∷ next ∷ rest) = refl
 
 -- ---- where the tree is whole
 

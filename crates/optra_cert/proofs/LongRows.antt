@@ -10,7 +10,7 @@ use Rattle.optra_cert.specs.Outcomes.{row_or_fault}
 use Rattle.optra_cert.specs.RowTexts.{AreTexts, RowKind, RowTexts, kind_named, read_by, read_row}
 use Rattle.optra_cert.specs.declared.CertCode.TheVariants as code
 use Rattle.optra_cert.specs.declared.row_text.RowRead.TheVariants as read
-use Rattle.optra_cert.proofs.LegLemmas.{other_form}
+use Rattle.optra_cert.proofs.ColumnLemmas.{other_form}
 
 module _ {R : Type 0} (texts : RowTexts R) (are : AreTexts texts) (net : Net) (version : ℕ) where
   long_named : (word : Field) (fields : Record) → 32 ≤ length fields → (o : Option RowKind) → kind_named texts.kinds version word ≡ o → read_by texts net o fields ≡ read.Kind

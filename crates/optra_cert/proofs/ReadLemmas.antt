@@ -26,8 +26,8 @@ use Rattle.optra_cert.specs.Forms.{version_of}
 use Rattle.optra_cert.specs.Steps.{State, cert_of, end_step, fault, in_row, is_whole, no_tree, read_behind, read_records, read_rows, read_text, started, step}
 use Rattle.optra_cert.specs.declared.CertCode.{CertCode}
 use Rattle.optra_cert.specs.declared.CertCode.TheVariants as code
-use Rattle.optra_cert.specs.declared.reading.Place.{Place}
-use Rattle.optra_cert.specs.declared.reading.Place.TheVariants as place
+use Rattle.optra_cert.specs.declared.read_parts.Place.{Place}
+use Rattle.optra_cert.specs.declared.read_parts.Place.TheVariants as place
 use Rattle.optra_cert.proofs.ColumnLemmas.{in_range_some}
 use Rattle.optra_cert.proofs.StateSteps.{IsSoFar, same_word, step_next}
 use Rattle.optra_cert.proofs.TellLemmas.{bind_ok}

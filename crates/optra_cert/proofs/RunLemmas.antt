@@ -19,14 +19,15 @@ use Rattle.optra_cert.specs.Certs.{Cert}
 use Rattle.optra_cert.specs.Forms.{field_at}
 use Rattle.optra_cert.specs.Outcomes.{◌>>=◌, StopsAt}
 use Rattle.optra_cert.specs.RowTexts.{RowTexts}
-use Rattle.optra_cert.specs.Steps.{State, WalksSoFar, amount_told, body_step, bound_step, cert_of, end_step, fault, in_row, is_whole, leg_added, leg_told, read_rows, revenue_step, started, step, step_at, tree_step}
+use Rattle.optra_cert.specs.RecordFields.{amount_told, leg_told}
+use Rattle.optra_cert.specs.Steps.{State, WalksSoFar, body_step, bound_step, cert_of, end_step, fault, in_row, is_whole, leg_added, read_rows, revenue_step, started, step, step_at, tree_step}
 use Rattle.optra_cert.specs.declared.CertCode.{CertCode}
 use Rattle.optra_cert.specs.declared.CertCode.TheVariants as code
 use Rattle.optra_cert.specs.declared.CertError.{CertError}
 use Rattle.optra_cert.specs.declared.CertError.TheVariants as errors
 use Rattle.optra_cert.specs.declared.CertFault.{CertFault}
-use Rattle.optra_cert.specs.declared.reading.Place.{Place}
-use Rattle.optra_cert.specs.declared.reading.Place.TheVariants as place
+use Rattle.optra_cert.specs.declared.read_parts.Place.{Place}
+use Rattle.optra_cert.specs.declared.read_parts.Place.TheVariants as place
 
 -- ---- the bids of the walks stay as many
 

@@ -16,11 +16,12 @@ use Rattle.optra_cert.specs.Certs.{IsAmount}
 use Rattle.optra_cert.specs.CertTexts.{head_records, item_records, leg_record, leg_records}
 use Rattle.optra_cert.specs.Forms.{field_at}
 use Rattle.optra_cert.specs.Outcomes.{◌>>=◌, row_or_fault}
-use Rattle.optra_cert.specs.Steps.{State, TreeSoFar, WalksSoFar, amount_told, bid_told, body_step, bound_step, count_added, count_told, is_whole, item_step, leaf_added, leg_added, leg_told, no_tree, no_walks, price_added, price_told, revenue_step, split_added, step, step_at, tree_step}
+use Rattle.optra_cert.specs.RecordFields.{amount_told, bid_told, count_told, leg_told, price_told}
+use Rattle.optra_cert.specs.Steps.{State, TreeSoFar, WalksSoFar, body_step, bound_step, count_added, is_whole, item_step, leaf_added, leg_added, no_tree, no_walks, price_added, revenue_step, split_added, step, step_at, tree_step}
 use Rattle.optra_cert.specs.declared.CertCode.{CertCode}
 use Rattle.optra_cert.specs.declared.CertCode.TheVariants as code
-use Rattle.optra_cert.specs.declared.reading.Place.{Place}
-use Rattle.optra_cert.specs.declared.reading.Place.TheVariants as place
+use Rattle.optra_cert.specs.declared.read_parts.Place.{Place}
+use Rattle.optra_cert.specs.declared.read_parts.Place.TheVariants as place
 use Rattle.optra_cert.proofs.LegTexts.{leg_is}
 use Rattle.optra_cert.proofs.RowLemmas.{row_told}
 use Rattle.optra_cert.proofs.TellLemmas.{amount_is, bid_is, bind_ok, count_is, price_is, row_read}

@@ -12,7 +12,7 @@ use Rattle.optra_cert.specs.RowTexts.{RowTexts, AreApart, AreTexts, read_row, ro
 use Rattle.optra_cert.specs.Certs.{IsAmount, IsListed}
 use Rattle.optra_cert.specs.Forms.{but_last, last_alone}
 use Rattle.optra_cert.specs.Outcomes.{◌>>=◌, row_or_fault}
-use Rattle.optra_cert.specs.Steps.{or_fault, number_told, count_told, amount_told, bid_told, price_told}
+use Rattle.optra_cert.specs.RecordFields.{or_fault, number_told, count_told, amount_told, bid_told, price_told}
 use Rattle.optra_cert.specs.declared.CertCode.TheVariants as codes
 use Rattle.optra_cert.specs.declared.row_text.RowRead.{RowRead}
 use Rattle.optra_cert.specs.declared.row_text.RowRead.TheVariants as read

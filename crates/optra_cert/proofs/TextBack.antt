@@ -20,6 +20,7 @@ use Rattle.optra_walk.specs.declared.Action.{Action}
 use Rattle.optra_walk.specs.declared.Action.TheVariants.{Pass, Halt, Wait, Finish}
 use Rattle.optra_walk.specs.declared.Leg.{Leg}
 use Rattle.optra_walk.specs.Legs.{dwell_of}
+use Rattle.optra_walk.specs.Words.{action_word, start_word}
 use Rattle.optra_node.specs.declared.Item.{Item}
 use Rattle.optra_node.specs.declared.Item.TheVariants.{Split, NoWalk, Forced, Priced}
 use Rattle.optra_node.specs.Certificates.{IsFormedItem, IsFormedWalk}
@@ -33,7 +34,7 @@ use Rattle.optra_records.proofs.ReadBack.{records_back}
 use Rattle.optra_cert.specs.Columns.{Column, a_station, a_track, a_type, a_number, a_word, FitsIn, IsSoundColumn, IsTextColumn, shown, shown_in}
 use Rattle.optra_cert.specs.RowTexts.{RowKind, RowTexts, AreApart, AreTexts, IsRowOf, row_fields}
 use Rattle.optra_cert.specs.Certs.{Cert, IsAmount, IsListed, IsWritable, IsWritableItem}
-use Rattle.optra_cert.specs.CertTexts.{action_word, cert_records, cert_text, from_word, head_records, item_records, leg_record, leg_records, price_record}
+use Rattle.optra_cert.specs.CertTexts.{cert_records, cert_text, head_records, item_records, leg_record, leg_records, price_record}
 use Rattle.optra_cert.specs.CertLaws.{IsTextOf, TextHasNoFault, TextTellsCert}
 use Rattle.optra_cert.specs.Forms.{version_of}
 use Rattle.optra_cert.specs.Steps.{fault, read_behind, read_records, read_text}
@@ -61,9 +62,9 @@ name_text : (names : List (List ℕ)) (n : ℕ) → AreNames names → n < lengt
 name_text names n are within =
     rw (unwrap_or-slice_get names n []) (name_utf8 (get_or names n []) (All-get_or (λ name. IsTrue (is_name name)) names n [] within are.each))
 
-from_text : (b : Bool) → is_utf8 (from_word b) ≡ true
-from_text true = word_text (codes "halt") refl
-from_text false = word_text (codes "pass") refl
+start_text : (b : Bool) → is_utf8 (start_word b) ≡ true
+start_text true = word_text (codes "halt") refl
+start_text false = word_text (codes "pass") refl
 
 action_text : (a : Action) → is_utf8 (action_word a) ≡ true
 action_text Pass = word_text (codes "pass") refl
@@ -115,7 +116,7 @@ module _ (net : Net) (built : IsBuilt net) where
         number_text (bid + 1) few,
         name_text net.track_names leg.track.0 built.names.names_of_tracks (omega (arith, same, track)),
         number_text leg.depart (omega (arith, depart)),
-        from_text leg.from_halt,
+        start_text leg.from_halt,
         action_text leg.action,
         number_text (dwell_of leg.action) (omega (arith, dwell)),
       )

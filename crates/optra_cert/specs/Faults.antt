@@ -8,8 +8,8 @@ use Rattle.optra_network.specs.Net.{Net}
 use Rattle.optra_records.specs.Canonical.{is_canonical}
 use Rattle.optra_records.specs.Numbers.{plain_number_of}
 use Rattle.optra_records.specs.Reading.{Field, Record}
-use Rattle.optra_cert.specs.Columns.{record_values}
-use Rattle.optra_cert.specs.Forms.{any_number, bid_columns, but_last, field_at, last_alone, leg_columns, version_of}
+use Rattle.optra_cert.specs.Forms.{but_last, field_at, version_of}
+use Rattle.optra_cert.specs.RecordFields.{bid_told, count_told, leg_told, price_told}
 use Rattle.optra_cert.specs.RowTexts.{RowTexts, read_row}
 use Rattle.optra_cert.specs.declared.CertCode.{CertCode}
 use Rattle.optra_cert.specs.declared.CertCode.TheVariants as code
@@ -71,12 +71,10 @@ module _ {R : Type 0} (cmp : R → R → Ordering) (texts : RowTexts R) (net : N
   -- the fault of the fields behind a word that may stand there
   abbrev pub fault_behind : Field → Record → Option CertCode
   fault_behind word fields =
-      if bytes_eq word (codes "leg") || bytes_eq word (codes "split") then fault_of (record_values net (leg_columns bids fields) fields) else (
-      if bytes_eq word (codes "nowalk") then fault_of (record_values net (bid_columns bids) fields) else (
+      if bytes_eq word (codes "leg") || bytes_eq word (codes "split") then fault_of (leg_told net bids fields) else (
+      if bytes_eq word (codes "nowalk") then fault_of (bid_told bids fields) else (
       if bytes_eq word (codes "forced") then row_fault (read_row texts net version fields) else (
-      if bytes_eq word (codes "price") then
-      or_then (row_fault (read_row texts net version (but_last fields))) (fault_of (record_values net any_number (last_alone fields)))
-      else fault_of (record_values net any_number fields))))
+      if bytes_eq word (codes "price") then fault_of (price_told texts net version fields) else fault_of (count_told fields))))
 
   -- the row of a price record
   abbrev pub row_of_price : Record → RowRead R

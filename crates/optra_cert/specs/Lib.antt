@@ -16,8 +16,8 @@ pub mod CertTexts
 pub mod Writables
 pub mod Outcomes
 pub mod Forms
+pub mod RecordFields
 pub mod Steps
-pub mod LegFields
 pub mod Frames
 pub mod Faults
 pub mod CertLaws

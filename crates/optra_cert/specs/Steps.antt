@@ -1,82 +1,28 @@
 -- How a certificate is read, record by record: what was read so far, and what each record makes of it.
-use Rattle.std.specs.Prelude.{ℕ, ◌+◌, ◌-◌, ◌^◌, ◌&&◌, ◌==◌, Bool, true, false, List, [], ◌∷◌, ◌++◌, length, drop, nat_le, Option, None, Some, Result, Ok, Err, unwrap_or, slice_get, slice_set, replicate, bytes_eq, codes, if◌then◌else◌}
+use Rattle.std.specs.Prelude.{ℕ, ◌+◌, ◌-◌, ◌&&◌, ◌==◌, Bool, true, false, List, [], ◌∷◌, ◌++◌, length, drop, nat_le, Option, None, Some, Result, Ok, Err, slice_get, slice_set, replicate, bytes_eq, codes, if◌then◌else◌}
 use Rattle.std.specs.Prelude.{ℤ, pos}
 use Rattle.std.specs.Option.{option_map_or}
 use Rattle.std.specs.declared.cmp.Ordering.{Ordering}
 use Rattle.std.specs.Ordering.{is_lt}
 use Rattle.csv.specs.Reading.{default_config, records}
 use Rattle.optra_network.specs.Net.{Net}
-use Rattle.optra_walk.specs.declared.Action.{Action}
-use Rattle.optra_walk.specs.declared.Action.TheVariants.{Pass, Halt, Wait, Finish}
 use Rattle.optra_walk.specs.declared.Leg.{Leg}
 use Rattle.optra_node.specs.declared.Item.{Item}
 use Rattle.optra_node.specs.declared.Item.TheVariants.{Split, NoWalk, Forced, Priced}
 use Rattle.optra_node.specs.Duals.{PriceList}
 use Rattle.optra_node.specs.Nodes.{legs_at}
 use Rattle.optra_records.specs.Canonical.{is_canonical}
-use Rattle.optra_records.specs.Numbers.{plain_number_of}
 use Rattle.optra_records.specs.Reading.{Field, Record}
 use Rattle.optra_cert.specs.Certs.{Cert}
-use Rattle.optra_cert.specs.Columns.{in_range, record_values}
-use Rattle.optra_cert.specs.Forms.{but_last, field_at, last_alone, leg_columns, version_of}
+use Rattle.optra_cert.specs.Forms.{field_at, version_of}
 use Rattle.optra_cert.specs.Outcomes.{◌>>=◌, row_or_fault}
+use Rattle.optra_cert.specs.RecordFields.{amount_told, bid_told, count_told, leg_told, price_told}
 use Rattle.optra_cert.specs.RowTexts.{RowTexts, read_row}
 use Rattle.optra_cert.specs.declared.CertCode.{CertCode}
 use Rattle.optra_cert.specs.declared.CertCode.TheVariants as code
 use Rattle.optra_cert.specs.declared.CertFault.{CertFault}
-use Rattle.optra_cert.specs.declared.reading.Place.{Place}
-use Rattle.optra_cert.specs.declared.reading.Place.TheVariants as place
-
--- ---- what the fields of a record tell
-
--- the value at a place
-abbrev pub value_at : List ℕ → ℕ → ℕ
-value_at values i = unwrap_or (slice_get values i) 0
-
--- the action of a word's place and of a dwell
-abbrev pub action_of : ℕ → ℕ → Action
-action_of word dwell = if word == 0 then Pass else (if word == 1 then Halt dwell else (if word == 2 then Wait dwell else Finish))
-
--- the position of the bid, and the leg
-abbrev pub leg_of : List ℕ → ℕ × Leg
-leg_of values = (
-  value_at values 0 - 1,
-  record {
-    track = record { 0 = value_at values 1 };
-    depart = value_at values 2;
-    from_halt = value_at values 3 == 0;
-    action = action_of (value_at values 4) (value_at values 5);
-  },
-)
-
--- a value that is there, or a fault
-abbrev pub or_fault : {A : Type 0} → CertCode → Option A → Result A CertCode
-or_fault c (Some x) = Ok x
-or_fault c None = Err c
-
--- the number from one to another that is told alone
-abbrev pub number_told : ℕ → ℕ → Record → Result ℕ CertCode
-number_told low high [] = Err code.Record
-number_told low high (field ∷ []) = or_fault code.Number (in_range low high (plain_number_of field))
-number_told low high (field ∷ next ∷ rest) = Err code.Record
-
-abbrev pub count_told : Record → Result ℕ CertCode
-count_told fields = number_told 0 (10 ^ 18 - 1) fields
-
-unfoldable pub amount_told : Record → Result ℤ CertCode
-amount_told fields = count_told fields >>= λ n. Ok (pos n)
-
--- the position of a bid, which is told by its number from 1
-unfoldable pub bid_told : ℕ → Record → Result ℕ CertCode
-bid_told bids fields = number_told 1 bids fields >>= λ n. Ok (n - 1)
-
-unfoldable pub leg_told : Net → ℕ → Record → Result (ℕ × Leg) CertCode
-leg_told net bids fields = record_values net (leg_columns bids fields) fields >>= λ values. Ok (leg_of values)
-
--- a row and its price
-unfoldable pub price_told : {R : Type 0} → RowTexts R → Net → ℕ → Record → Result (R × ℤ) CertCode
-price_told texts net version fields =
-    row_or_fault (read_row texts net version (but_last fields)) >>= λ row. amount_told (last_alone fields) >>= λ amount. Ok (row, amount)
+use Rattle.optra_cert.specs.declared.read_parts.Place.{Place}
+use Rattle.optra_cert.specs.declared.read_parts.Place.TheVariants as place
 
 -- ---- what was read so far
 

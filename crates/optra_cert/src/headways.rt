@@ -1,9 +1,9 @@
-//! The texts of headway rows.
+//! How the rows of headways are told in fields.
 ghost use Rattle.std.specs.Prelude.{◌≡◌, Some};
 ghost use Rattle.optra_cert.specs.RowTexts.{read_by};
 ghost use Rattle.optra_cert.specs.Headways.{headway_texts, window_kind, pair_kind};
 
-use crate::columns::{minute_in, push_minute, push_text, track_in, type_in};
+use crate::row_fields::{minute_in, push_minute, push_text, track_in, type_in};
 use crate::{Cell, RowRead, RowText};
 use optra_network::{Network, NoMemory};
 use optra_rows::{HRow, HeadwayRows};

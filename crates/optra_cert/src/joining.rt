@@ -1,4 +1,4 @@
-//! The texts of the rows of two families together.
+//! How the rows of two families together are told in fields.
 ghost use Rattle.std.specs.Prelude.{◌≡◌};
 ghost use Rattle.optra_cert.specs.Boths.{lesser};
 

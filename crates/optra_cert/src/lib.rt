@@ -1,37 +1,39 @@
-//! The text of certificates: how rows are told in fields, and a certificate's text. A valid certificate can be written.
+//! The text of certificates: how the rows of a family are told in fields, the writer of a certificate's text, and its reader
+//! with the first fault. A valid certificate can be written.
 #![tactic(auto)]
 
 use optra_network::Cents;
 use optra_node::Item;
-use optra_walk::Choice;
+use optra_walk::{Choice, Walk};
 use std::alloc::{AllocError, AllocFailed};
 use std::marker::Model;
 use thiserror::Error;
 
 mod cell;
-pub mod columns;
-mod fields;
+mod certificate_reader;
+mod certificate_writer;
 mod frame;
 mod headways;
 mod joining;
 mod laws;
+mod leg_fields;
+mod read_parts;
 mod read_tree;
 mod read_walks;
-mod reading;
-mod record_reader;
+mod record_fields;
 mod refusals;
+pub mod row_fields;
+mod row_records;
 mod row_text;
-mod rows_told;
-mod writing;
 
 pub use cell::Cell;
+pub use certificate_reader::read_certificate;
+pub use certificate_writer::write_certificate;
 pub use laws::{
     both_rows_are_few, first_fault_is_one, headway_kinds_are_apart, text_has_no_fault,
     text_tells_cert, valid_is_writable,
 };
-pub use record_reader::read_certificate;
 pub use row_text::{RowRead, RowText};
-pub use writing::write_certificate;
 
 /// A choice of walks and a tree, with what the choice is worth and a bound on what any choice can be worth. A valid one
 /// shows that both numbers are true.
@@ -53,6 +55,25 @@ impl<R> Model for Certificate<R> {
     ghost Value = { Cert R };
 
     ghost view = { λ a. record { revenue = a.revenue; bound = a.bound; choice = a.choice; tree = a.tree.items } };
+}
+
+impl<R> Certificate<R> {
+    ghost use Rattle.std.specs.Prelude.{◌≡◌};
+
+    /// The entries of the choice, one for each bid.
+    pub fn entries(&self) -> &[Option<Walk>]
+        ensures { result.now ≡ self.now.choice }
+    {
+        let choice = &self.choice;
+        &choice.walks
+    }
+
+    /// The items of the tree in preorder.
+    pub fn items(&self) -> &[Item<R>]
+        ensures { result.now ≡ self.now.tree }
+    {
+        &self.tree
+    }
 }
 
 /// What can be wrong with bytes that are no certificate's text, in the order of the tests.

@@ -1,6 +1,6 @@
 //! Why a record isn't taken.
 ghost use Rattle.optra_cert.specs.Outcomes.{Gives};
-ghost use Rattle.optra_cert.specs.Steps.{or_fault};
+ghost use Rattle.optra_cert.specs.RecordFields.{or_fault};
 
 use crate::CertCode;
 use std::alloc::{AllocError, AllocFailed};

@@ -22,14 +22,14 @@ use Rattle.optra_node.specs.declared.Decision.{Decision}
 use Rattle.optra_node.specs.Nodes.{IsBlocked, is_yes_for, kind_at, others_load, uses_at, yes_uses}
 use Rattle.optra_node.specs.Duals.{PriceList, ArePrices}
 use Rattle.optra_node.specs.Spans.{Lets}
-use Rattle.optra_checker.specs.BestWalks.{IsCeiling, weights_within, IsBestWalk, last_best, AreBestWalks, AreBestOf, AreTurned, AreAllBest}
+use Rattle.optra_checker.specs.BestOnWay.{IsCeiling, weights_within, IsBestWalk, last_best, AreBestOnWay, AreBestOf, AreTurned, AreAllBest}
 use Rattle.optra_open.specs.Loaded.{AreLastRows, IsMissing, KeepsOff}
 use Rattle.optra_checker.specs.Frees.{free_weights, Attains, IsFree, IsStillFree}
 use Rattle.optra_open.specs.NodeWeights.{leaf_weights}
 use Rattle.optra_open.specs.Tests.{may_start_at, lets_leg, all_let, has_room, may_have_leg}
 use Rattle.optra_rests.specs.Weights.{Weights, IsOpenWalk, IsBestWorth, IsWorthSize, worth_of}
 use Rattle.optra_checker.specs.declared.best_walk.BestWalk.{BestWalk}
-use Rattle.optra_checker.specs.declared.best_walks.BestWalks.{BestWalks}
+use Rattle.optra_checker.specs.declared.best_on_way.BestOnWay.{BestOnWay}
 use Rattle.optra_checker.proofs.LeastPriceLemmas.{sum_least, price_least}
 use Rattle.optra_checker.proofs.LeafLemmas.{kind_is}
 use Rattle.optra_open.proofs.LeafPriceLemmas.{none_left}
@@ -216,46 +216,46 @@ module _ {R : Type 0} (net : Net) (rows : Rows R) (used : TypeId → Leg → Lis
         }
 
     -- at a node with further decisions they are best walks, too
-    pub lifted : (node : List Decision) (k : ℕ) (walks : BestWalks) → AreBestWalks net rows used bids (take k node) number bid walks → AreBestWalks net rows used bids node number bid walks
+    pub lifted : (node : List Decision) (k : ℕ) (walks : BestOnWay) → AreBestOnWay net rows used bids (take k node) number bid walks → AreBestOnWay net rows used bids node number bid walks
     lifted node k walks are =
         let w = are.within in
         let n = length-take k node in
-        let held_in : walks.held ≤ k = omega (arith, w, n) in
+        let held_in : walks.allowed_depth ≤ k = omega (arith, w, n) in
         record {
           each = λ j d l. lifted_one node k (get_or walks.kept.items j d) (are.each j d l);
           within = omega (arith, w, n);
-          held = weaker (last_best walks) are.held held_in;
+          allowed_depth = weaker (last_best walks) are.allowed_depth held_in;
         }
       where
-        weaker : (o : Option BestWalk) → IfSome o (λ best. 0 < length best.legs.items → IsStillFree (weights_within net rows used bids (take k node) number walks.held) best.legs.items) → walks.held ≤ k
-            → IfSome o (λ best. 0 < length best.legs.items → IsStillFree (weights_within net rows used bids node number walks.held) best.legs.items)
+        weaker : (o : Option BestWalk) → IfSome o (λ best. 0 < length best.legs.items → IsStillFree (weights_within net rows used bids (take k node) number walks.allowed_depth) best.legs.items) → walks.allowed_depth ≤ k
+            → IfSome o (λ best. 0 < length best.legs.items → IsStillFree (weights_within net rows used bids node number walks.allowed_depth) best.legs.items)
         weaker None h l = tt
-        weaker (Some best) h l = λ some. from_within node walks.held k l (λ w. IsStillFree w best.legs.items) (h some)
+        weaker (Some best) h l = λ some. from_within node walks.allowed_depth k l (λ w. IsStillFree w best.legs.items) (h some)
 
     -- the walks of the first decisions, where none of later nodes are left
-    left_same : (node : List Decision) (k : ℕ) (walks after : BestWalks) → k ≤ length node → after.kept.items ≡ walks.kept.items → after.held ≡ min walks.held k → All (λ best. best.depth ≤ k) walks.kept.items
-        → AreBestWalks net rows used bids node number bid walks → AreBestWalks net rows used bids (take k node) number bid after
-    left_same node k walks after l kept held within are = record {
+    left_same : (node : List Decision) (k : ℕ) (walks after : BestOnWay) → k ≤ length node → after.kept.items ≡ walks.kept.items → after.allowed_depth ≡ min walks.allowed_depth k → All (λ best. best.depth ≤ k) walks.kept.items
+        → AreBestOnWay net rows used bids node number bid walks → AreBestOnWay net rows used bids (take k node) number bid after
+    left_same node k walks after l kept allowed_depth within are = record {
       each = subst (All (IsBestWalk net rows used bids (take k node) number bid)) (sym kept) (λ j d m. left_one node k (get_or walks.kept.items j d) l (within j d m) (are.each j d m));
-      within = omega (arith, held, length-take-le k node l);
-      held = subst (λ list. IfSome (slice_get list (length list - 1)) Held) (sym kept) (stays (last_best walks) are.held);
+      within = omega (arith, allowed_depth, length-take-le k node l);
+      allowed_depth = subst (λ list. IfSome (slice_get list (length list - 1)) Held) (sym kept) (stays (last_best walks) are.allowed_depth);
     }
       where
         Held : BestWalk → Type 0
-        Held best = 0 < length best.legs.items → IsStillFree (weights_within net rows used bids (take k node) number after.held) best.legs.items
+        Held best = 0 < length best.legs.items → IsStillFree (weights_within net rows used bids (take k node) number after.allowed_depth) best.legs.items
 
-        stays : (o : Option BestWalk) → IfSome o (λ best. 0 < length best.legs.items → IsStillFree (weights_within net rows used bids node number walks.held) best.legs.items) → IfSome o Held
+        stays : (o : Option BestWalk) → IfSome o (λ best. 0 < length best.legs.items → IsStillFree (weights_within net rows used bids node number walks.allowed_depth) best.legs.items) → IfSome o Held
         stays None h = tt
         stays (Some best) h = λ some.
-            same_within node after.held k (omega (arith, held)) (λ w. IsStillFree w best.legs.items) (still_within node after.held walks.held best.legs.items (omega (arith, held)) (h some))
+            same_within node after.allowed_depth k (omega (arith, allowed_depth)) (λ w. IsStillFree w best.legs.items) (still_within node after.allowed_depth walks.allowed_depth best.legs.items (omega (arith, allowed_depth)) (h some))
 
     -- and where some are
-    left_some : (node : List Decision) (k n : ℕ) (walks after : BestWalks) → k ≤ length node → after.kept.items ≡ take n walks.kept.items → after.held ≡ 0 → All (λ best. best.depth ≤ k) (take n walks.kept.items)
-        → AreBestWalks net rows used bids node number bid walks → AreBestWalks net rows used bids (take k node) number bid after
-    left_some node k n walks after l kept held within are = record {
+    left_some : (node : List Decision) (k n : ℕ) (walks after : BestOnWay) → k ≤ length node → after.kept.items ≡ take n walks.kept.items → after.allowed_depth ≡ 0 → All (λ best. best.depth ≤ k) (take n walks.kept.items)
+        → AreBestOnWay net rows used bids node number bid walks → AreBestOnWay net rows used bids (take k node) number bid after
+    left_some node k n walks after l kept allowed_depth within are = record {
       each = subst (All (IsBestWalk net rows used bids (take k node) number bid)) (sym kept) each;
-      within = omega (arith, held);
-      held = by (last_best after) refl;
+      within = omega (arith, allowed_depth);
+      allowed_depth = by (last_best after) refl;
     }
       where
         first : All (IsBestWalk net rows used bids node number bid) (take n walks.kept.items)
@@ -264,20 +264,20 @@ module _ {R : Type 0} (net : Net) (rows : Rows R) (used : TypeId → Leg → Lis
         each : All (IsBestWalk net rows used bids (take k node) number bid) (take n walks.kept.items)
         each j d m = left_one node k (get_or (take n walks.kept.items) j d) l (within j d m) (first j d m)
 
-        by : (o : Option BestWalk) → last_best after ≡ o → IfSome o (λ best. 0 < length best.legs.items → IsStillFree (weights_within net rows used bids (take k node) number after.held) best.legs.items)
+        by : (o : Option BestWalk) → last_best after ≡ o → IfSome o (λ best. 0 < length best.legs.items → IsStillFree (weights_within net rows used bids (take k node) number after.allowed_depth) best.legs.items)
         by None e = tt
         by (Some best) e = λ some.
             let m = slice_get_within after.kept.items (length after.kept.items - 1) best e in
             let at : get_or after.kept.items (length after.kept.items - 1) best ≡ best = get_or_from_slice_get after.kept.items (length after.kept.items - 1) best best e in
             let is : IsBestWalk net rows used bids (take k node) number bid best =
             subst (IsBestWalk net rows used bids (take k node) number bid) at (subst (All (IsBestWalk net rows used bids (take k node) number bid)) (sym kept) each (length after.kept.items - 1) best m) in
-            still_within (take k node) after.held best.depth best.legs.items (omega (arith, held)) (is.still some)
+            still_within (take k node) after.allowed_depth best.depth best.legs.items (omega (arith, allowed_depth)) (is.still some)
 
     -- turned back to a node on the way
-    pub turned_one : (node : List Decision) (k : ℕ) (walks after : BestWalks) → k ≤ length node → AreTurned k walks after → AreBestWalks net rows used bids node number bid walks → AreBestWalks net rows used bids (take k node) number bid after
-    turned_one node k walks after l t are = by t.held
+    pub turned_one : (node : List Decision) (k : ℕ) (walks after : BestOnWay) → k ≤ length node → AreTurned k walks after → AreBestOnWay net rows used bids node number bid walks → AreBestOnWay net rows used bids (take k node) number bid after
+    turned_one node k walks after l t are = by t.allowed_depth
       where
-        by : (after.held ≡ 0) ⊎ ((after.kept.items ≡ walks.kept.items) × (after.held ≡ min walks.held k)) → AreBestWalks net rows used bids (take k node) number bid after
+        by : (after.allowed_depth ≡ 0) ⊎ ((after.kept.items ≡ walks.kept.items) × (after.allowed_depth ≡ min walks.allowed_depth k)) → AreBestOnWay net rows used bids (take k node) number bid after
         by (inl none) = left_some node k (length after.kept.items) walks after l t.first none (subst (All (λ (best : BestWalk). best.depth ≤ k)) t.first t.within) are
         by (inr same) = left_same node k walks after l same.0 same.1 (subst (All (λ (best : BestWalk). best.depth ≤ k)) same.0 t.within) are
 
@@ -291,15 +291,15 @@ module _ {R : Type 0} (net : Net) (rows : Rows R) (used : TypeId → Leg → Lis
         ap (slice_get (xs ++ x ∷ [])) place ∙ at_end xs x
 
     -- or one more
-    pub brought_more : (node : List Decision) (walks after : BestWalks) (best : BestWalk) → after.kept.items ≡ walks.kept.items ++ best ∷ [] → after.held ≡ length node
+    pub brought_more : (node : List Decision) (walks after : BestOnWay) (best : BestWalk) → after.kept.items ≡ walks.kept.items ++ best ∷ [] → after.allowed_depth ≡ length node
         → best.depth ≡ length node → IsBestWorth (within_weights node) net bid best.worth → IfSome best.worth IsWorthSize → (0 < length best.legs.items → Attains net bid best.worth best.legs.items)
         → (0 < length best.legs.items → IsStillFree (within_weights node) best.legs.items)
-        → AreBestWalks net rows used bids node number bid walks → AreBestWalks net rows used bids node number bid after
-    brought_more node walks after best kept held depth is size walk still are = record {
+        → AreBestOnWay net rows used bids node number bid walks → AreBestOnWay net rows used bids node number bid after
+    brought_more node walks after best kept allowed_depth depth is size walk still are = record {
       each = subst (All (IsBestWalk net rows used bids node number bid)) (sym kept) (All-push (IsBestWalk net rows used bids node number bid) walks.kept.items best are.each here);
-      within = omega (arith, held);
-      held = subst (λ o. IfSome o (λ b. 0 < length b.legs.items → IsStillFree (weights_within net rows used bids node number after.held) b.legs.items)) (sym last)
-          (λ some. subst (λ ds. IsStillFree (within_weights ds) best.legs.items) (sym (take_all after.held node (omega (arith, held)))) (still some));
+      within = omega (arith, allowed_depth);
+      allowed_depth = subst (λ o. IfSome o (λ b. 0 < length b.legs.items → IsStillFree (weights_within net rows used bids node number after.allowed_depth) b.legs.items)) (sym last)
+          (λ some. subst (λ ds. IsStillFree (within_weights ds) best.legs.items) (sym (take_all after.allowed_depth node (omega (arith, allowed_depth)))) (still some));
     }
       where
         all : take best.depth node ≡ node
@@ -320,12 +320,12 @@ module _ {R : Type 0} (net : Net) (rows : Rows R) (used : TypeId → Leg → Lis
     -- the best of all walks is the best at the root
     pub free_walks : (cmp : R → R → Ordering) → (at : slice_get bids number ≡ Some bid) → IsProper net
         → ((leg : Leg) → IsUsable net (kind_at bids number) leg → ListsRows cmp rows.is_row (rows.uses (kind_at bids number) leg) (used (kind_at bids number) leg))
-        → (walks : BestWalks) (free : BestWalk) → walks.kept.items ≡ free ∷ [] → walks.held ≡ 0 → IsFree cmp net rows bid free → AreBestWalks net rows used bids [] number bid walks
-    free_walks cmp at proper lists walks free kept held is = record {
+        → (walks : BestOnWay) (free : BestWalk) → walks.kept.items ≡ free ∷ [] → walks.allowed_depth ≡ 0 → IsFree cmp net rows bid free → AreBestOnWay net rows used bids [] number bid walks
+    free_walks cmp at proper lists walks free kept allowed_depth is = record {
       each = subst (All (IsBestWalk net rows used bids [] number bid)) (sym kept) (All-push (IsBestWalk net rows used bids [] number bid) [] free (λ j d l. absurd (omega (arith, l))) here);
-      within = omega (arith, held);
-      held = subst (λ list. IfSome (slice_get list (length list - 1)) (λ b. 0 < length b.legs.items → IsStillFree (weights_within net rows used bids [] number walks.held) b.legs.items)) (sym kept)
-          (λ some. subst (λ ds. IsStillFree (within_weights ds) free.legs.items) (sym (take_all walks.held [] (omega arith))) (still some));
+      within = omega (arith, allowed_depth);
+      allowed_depth = subst (λ list. IfSome (slice_get list (length list - 1)) (λ b. 0 < length b.legs.items → IsStillFree (weights_within net rows used bids [] number walks.allowed_depth) b.legs.items)) (sym kept)
+          (λ some. subst (λ ds. IsStillFree (within_weights ds) free.legs.items) (sym (take_all walks.allowed_depth [] (omega arith))) (still some));
     }
       where
         kind : kind_at bids number ≡ bid.path.kind
@@ -365,12 +365,12 @@ module _ {R : Type 0} (net : Net) (rows : Rows R) (used : TypeId → Leg → Lis
 
 -- of all bids
 module _ {R : Type 0} (net : Net) (rows : Rows R) (used : TypeId → Leg → List R) (bids : List Bid) where
-  of_lifted : (node : List Decision) (k number : ℕ) (walks : BestWalks) (o : Option Bid) → IsSomeAnd o (λ b. AreBestWalks net rows used bids (take k node) number b walks) → IsSomeAnd o (λ b. AreBestWalks net rows used bids node number b walks)
+  of_lifted : (node : List Decision) (k number : ℕ) (walks : BestOnWay) (o : Option Bid) → IsSomeAnd o (λ b. AreBestOnWay net rows used bids (take k node) number b walks) → IsSomeAnd o (λ b. AreBestOnWay net rows used bids node number b walks)
   of_lifted node k number walks None h = h
   of_lifted node k number walks (Some b) h = lifted net rows used bids number b node k walks h
 
   -- the same first decisions have the same best walks
-  pub all_turned : (node next : List Decision) (k : ℕ) (walks : List BestWalks) → take k next ≡ take k node → AreAllBest net rows used bids (take k node) walks → AreAllBest net rows used bids next walks
+  pub all_turned : (node next : List Decision) (k : ℕ) (walks : List BestOnWay) → take k next ≡ take k node → AreAllBest net rows used bids (take k node) walks → AreAllBest net rows used bids next walks
   all_turned node next k walks same are = record {
     count = are.count;
     each = λ number d l.
@@ -378,25 +378,25 @@ module _ {R : Type 0} (net : Net) (rows : Rows R) (used : TypeId → Leg → Lis
   }
 
   -- with those of one bid anew
-  pub all_set : (node : List Decision) (walks : List BestWalks) (number : ℕ) (best : BestWalks) → AreAllBest net rows used bids node walks → AreBestOf net rows used bids node number best → AreAllBest net rows used bids node (set walks number best)
+  pub all_set : (node : List Decision) (walks : List BestOnWay) (number : ℕ) (best : BestOnWay) → AreAllBest net rows used bids node walks → AreBestOf net rows used bids node number best → AreAllBest net rows used bids node (set walks number best)
   all_set node walks number best are is = record {
     count = length-set walks number best ∙ are.count;
     each = λ n d l. let e = length-set walks number best in by n d (omega (arith, l, e)) (cases_eq n number);
   }
     where
-      by : (n : ℕ) (d : BestWalks) → n < length walks → (n ≡ number) ⊎ (n ≢ number) → AreBestOf net rows used bids node n (get_or (set walks number best) n d)
+      by : (n : ℕ) (d : BestOnWay) → n < length walks → (n ≡ number) ⊎ (n ≢ number) → AreBestOf net rows used bids node n (get_or (set walks number best) n d)
       by n d l (inl same) = subst (λ m. AreBestOf net rows used bids node m (get_or (set walks number best) m d)) (sym same)
           (subst (AreBestOf net rows used bids node number) (sym (get_or-set_same walks number best d (omega (arith, l, same)))) is)
       by n d l (inr other) = subst (AreBestOf net rows used bids node n) (sym (get_or-set_other walks number n best d other)) (are.each n d l)
 
   -- of the first bids those of fewer decisions, and of the others those of the node
-  pub record AreLeft (node : List Decision) (depth i : ℕ) (walks : List BestWalks) : Type 0 where
+  pub record AreLeft (node : List Decision) (depth i : ℕ) (walks : List BestOnWay) : Type 0 where
     pub count : length walks ≡ length bids
-    pub before : (number : ℕ) (d : BestWalks) → number < i → number < length walks → AreBestOf net rows used bids (take depth node) number (get_or walks number d)
-    pub behind : (number : ℕ) (d : BestWalks) → i ≤ number → number < length walks → AreBestOf net rows used bids node number (get_or walks number d)
+    pub before : (number : ℕ) (d : BestOnWay) → number < i → number < length walks → AreBestOf net rows used bids (take depth node) number (get_or walks number d)
+    pub behind : (number : ℕ) (d : BestOnWay) → i ≤ number → number < length walks → AreBestOf net rows used bids node number (get_or walks number d)
 
   -- with those of one bid more
-  pub left_set : (node : List Decision) (depth i : ℕ) (walks : List BestWalks) (best : BestWalks) → AreLeft node depth i walks → AreBestOf net rows used bids (take depth node) i best → AreLeft node depth (i + 1) (set walks i best)
+  pub left_set : (node : List Decision) (depth i : ℕ) (walks : List BestOnWay) (best : BestOnWay) → AreLeft node depth i walks → AreBestOf net rows used bids (take depth node) i best → AreLeft node depth (i + 1) (set walks i best)
   left_set node depth i walks best are is = record {
     count = length-set walks i best ∙ are.count;
     before = λ n d b l. let e = length-set walks i best in by n d b (omega (arith, l, e)) (cases_lt n i);
@@ -405,7 +405,7 @@ module _ {R : Type 0} (net : Net) (rows : Rows R) (used : TypeId → Leg → Lis
         subst (AreBestOf net rows used bids node n) (sym (get_or-set_other walks i n best d (λ same. omega (arith, b, same)))) (are.behind n d (omega (arith, b)) (omega (arith, l, e)));
   }
     where
-      by : (n : ℕ) (d : BestWalks) → n < i + 1 → n < length walks → (n < i) ⊎ (i ≤ n) → AreBestOf net rows used bids (take depth node) n (get_or (set walks i best) n d)
+      by : (n : ℕ) (d : BestOnWay) → n < i + 1 → n < length walks → (n < i) ⊎ (i ≤ n) → AreBestOf net rows used bids (take depth node) n (get_or (set walks i best) n d)
       by n d b l (inl first) = subst (AreBestOf net rows used bids (take depth node) n) (sym (get_or-set_other walks i n best d (λ same. omega (arith, first, same)))) (are.before n d first l)
       by n d b l (inr last) =
           let same : n ≡ i = omega (arith, b, last) in
@@ -440,27 +440,27 @@ best_usable net rows used bids node number best proper is = by (slice_get bids n
     ]
 
 -- the last of the best walks
-pub last_is : {R : Type 0} (net : Net) (rows : Rows R) (used : TypeId → Leg → List R) (bids : List Bid) (node : List Decision) (number : ℕ) (walks : BestWalks) (best : BestWalk) → last_best walks ≡ Some best
+pub last_is : {R : Type 0} (net : Net) (rows : Rows R) (used : TypeId → Leg → List R) (bids : List Bid) (node : List Decision) (number : ℕ) (walks : BestOnWay) (best : BestWalk) → last_best walks ≡ Some best
     → AreBestOf net rows used bids node number walks → IsSomeAnd (slice_get bids number) (λ b. IsBestWalk net rows used bids node number b best)
-last_is net rows used bids node number walks best at are = some_and (λ b. AreBestWalks net rows used bids node number b walks) (λ b. IsBestWalk net rows used bids node number b best) (slice_get bids number) (λ b e h. one b h) are
+last_is net rows used bids node number walks best at are = some_and (λ b. AreBestOnWay net rows used bids node number b walks) (λ b. IsBestWalk net rows used bids node number b best) (slice_get bids number) (λ b e h. one b h) are
   where
-    one : (b : Bid) → AreBestWalks net rows used bids node number b walks → IsBestWalk net rows used bids node number b best
+    one : (b : Bid) → AreBestOnWay net rows used bids node number b walks → IsBestWalk net rows used bids node number b best
     one b h =
         let l = slice_get_within walks.kept.items (length walks.kept.items - 1) best at in
         subst (IsBestWalk net rows used bids node number b) (get_or_from_slice_get walks.kept.items (length walks.kept.items - 1) best best at) (h.each (length walks.kept.items - 1) best l)
 
 -- a node, by its last decision
-pub last_decision : (node : List Decision) (held : ℕ) (d : Decision) → held + 1 ≡ length node → slice_get node (length node - 1) ≡ Some d → node ≡ take held node ++ d ∷ []
-last_decision node held d one at =
-    let place : length node - 1 ≡ held = omega (arith, one) in
-    let l : held < length node = omega (arith, one) in
-    let there : get_or node held d ≡ d = get_or_from_slice_get node held d d (ap (slice_get node) (sym place) ∙ at) in
-    sym (take_all (held + 1) node (omega (arith, one))) ∙ take_more node held d l ∙ ap (λ x. take held node ++ x ∷ []) there
+pub last_decision : (node : List Decision) (allowed_depth : ℕ) (d : Decision) → allowed_depth + 1 ≡ length node → slice_get node (length node - 1) ≡ Some d → node ≡ take allowed_depth node ++ d ∷ []
+last_decision node allowed_depth d one at =
+    let place : length node - 1 ≡ allowed_depth = omega (arith, one) in
+    let l : allowed_depth < length node = omega (arith, one) in
+    let there : get_or node allowed_depth d ≡ d = get_or_from_slice_get node allowed_depth d d (ap (slice_get node) (sym place) ∙ at) in
+    sym (take_all (allowed_depth + 1) node (omega (arith, one))) ∙ take_more node allowed_depth d l ∙ ap (λ x. take allowed_depth node ++ x ∷ []) there
 
 -- what holds of the last decision, where there is one
-pub last_has : (P : Decision → Type 0) (node : List Decision) (held : ℕ) → held + 1 ≡ length node → IfSome (slice_get node (length node - 1)) P
-    → (d : Decision) × (node ≡ take held node ++ d ∷ []) × P d
-last_has P node held one h = by (slice_get node (length node - 1)) refl h
+pub last_has : (P : Decision → Type 0) (node : List Decision) (allowed_depth : ℕ) → allowed_depth + 1 ≡ length node → IfSome (slice_get node (length node - 1)) P
+    → (d : Decision) × (node ≡ take allowed_depth node ++ d ∷ []) × P d
+last_has P node allowed_depth one h = by (slice_get node (length node - 1)) refl h
   where
     none : (xs : List Decision) → 0 < length xs → slice_get xs (length xs - 1) ≡ None → ⊥
     none [] l e = omega (arith, l)
@@ -468,9 +468,9 @@ last_has P node held one h = by (slice_get node (length node - 1)) refl h
         let there = slice_get-get_or (x ∷ xs) (length (x ∷ xs) - 1) x (omega arith) in
         cc
 
-    by : (o : Option Decision) → slice_get node (length node - 1) ≡ o → IfSome o P → (d : Decision) × (node ≡ take held node ++ d ∷ []) × P d
+    by : (o : Option Decision) → slice_get node (length node - 1) ≡ o → IfSome o P → (d : Decision) × (node ≡ take allowed_depth node ++ d ∷ []) × P d
     by None e h = absurd (none node (omega (arith, one)) e)
-    by (Some d) e h = (d, last_decision node held d one e, h)
+    by (Some d) e h = (d, last_decision node allowed_depth d one e, h)
 
 -- where nothing is allowed there are no legs
 pub none_walk : {R : Type 0} (net : Net) (rows : Rows R) (used : TypeId → Leg → List R) (bids : List Bid) (node : List Decision) (number : ℕ) (best : BestWalk) → best.worth ≡ None → 0 < length best.legs.items
@@ -486,21 +486,21 @@ if_both P Q None p q = tt
 if_both P Q (Some x) p q = (p, q)
 
 -- legs that all decisions but the last allow, and on which the last one does not bear
-pub still_beside : {R : Type 0} (cmp : R → R → Ordering) (net : Net) (rows : Rows R) (used : TypeId → Leg → List R) (bids : List Bid) (node : List Decision) (number held : ℕ) (legs : List Leg) (listed : List R)
+pub still_beside : {R : Type 0} (cmp : R → R → Ordering) (net : Net) (rows : Rows R) (used : TypeId → Leg → List R) (bids : List Bid) (node : List Decision) (number allowed_depth : ℕ) (legs : List Leg) (listed : List R)
     → ((leg : Leg) → IsUsable net (kind_at bids number) leg → ListsRows cmp rows.is_row (rows.uses (kind_at bids number) leg) (used (kind_at bids number) leg))
-    → held + 1 ≡ length node → IfSome (slice_get node (length node - 1)) (λ last. last.bid ≡ number → ⊥) → AreLastRows cmp rows bids node listed
-    → All (IsUsable net (kind_at bids number)) legs → All (KeepsOff cmp rows (kind_at bids number) listed) legs → IsStillFree (weights_within net rows used bids node number held) legs
+    → allowed_depth + 1 ≡ length node → IfSome (slice_get node (length node - 1)) (λ last. last.bid ≡ number → ⊥) → AreLastRows cmp rows bids node listed
+    → All (IsUsable net (kind_at bids number)) legs → All (KeepsOff cmp rows (kind_at bids number) listed) legs → IsStillFree (weights_within net rows used bids node number allowed_depth) legs
     → IsStillFree (leaf_weights net rows used bids node number [] (kind_at bids number)) legs
-still_beside {R} cmp net rows used bids node number held legs listed lists one other spared usable keeps still =
-    let last = last_has (λ d. (d.bid ≡ number → ⊥) × ((row : R) → IsMissing cmp listed row → yes_uses rows bids row d ≡ 0)) node held one
+still_beside {R} cmp net rows used bids node number allowed_depth legs listed lists one other spared usable keeps still =
+    let last = last_has (λ d. (d.bid ≡ number → ⊥) × ((row : R) → IsMissing cmp listed row → yes_uses rows bids row d ≡ 0)) node allowed_depth one
     (if_both (λ d. d.bid ≡ number → ⊥) (λ d. (row : R) → IsMissing cmp listed row → yes_uses rows bids row d ≡ 0) (slice_get node (length node - 1)) other spared) in
-    let more = still_more cmp net rows used bids number (kind_at bids number) (take held node) last.0 listed lists last.2.0 last.2.1 legs usable keeps still in
+    let more = still_more cmp net rows used bids number (kind_at bids number) (take allowed_depth node) last.0 listed lists last.2.0 last.2.1 legs usable keeps still in
     subst (λ ds. IsStillFree (leaf_weights net rows used bids ds number [] (kind_at bids number)) legs) (sym last.1) more
 
 -- all decisions allow the legs
-pub still_all : {R : Type 0} (net : Net) (rows : Rows R) (used : TypeId → Leg → List R) (bids : List Bid) (node : List Decision) (number held : ℕ) (legs : List Leg) → length node ≤ held
-    → IsStillFree (weights_within net rows used bids node number held) legs → IsStillFree (leaf_weights net rows used bids node number [] (kind_at bids number)) legs
-still_all net rows used bids node number held legs all still = subst (λ ds. IsStillFree (leaf_weights net rows used bids ds number [] (kind_at bids number)) legs) (take_all held node all) still
+pub still_all : {R : Type 0} (net : Net) (rows : Rows R) (used : TypeId → Leg → List R) (bids : List Bid) (node : List Decision) (number allowed_depth : ℕ) (legs : List Leg) → length node ≤ allowed_depth
+    → IsStillFree (weights_within net rows used bids node number allowed_depth) legs → IsStillFree (leaf_weights net rows used bids node number [] (kind_at bids number)) legs
+still_all net rows used bids node number allowed_depth legs all still = subst (λ ds. IsStillFree (leaf_weights net rows used bids ds number [] (kind_at bids number)) legs) (take_all allowed_depth node all) still
 
 -- a walk of the bid at a position of the same instance
 pub attains_at : (net : Net) (bids : List Bid) (net' : Net) (bids' : List Bid) (number : ℕ) (worth : Option ℤ) (legs : List Leg) (r : Bid) → net' ≡ net → bids' ≡ bids → Attains net' (get_or bids' number r) worth legs
@@ -518,25 +518,25 @@ attains_there net bids net' bids' number worth legs r proper same_net same l is 
 -- the best of all walks of the bid at a position
 pub free_at : {R : Type 0} (cmp : R → R → Ordering) (net : Net) (rows : Rows R) (used : TypeId → Leg → List R) (bids : List Bid) (number : ℕ) (bid : Bid) → number < length bids → bid ≡ get_or bids number bid → IsProper net
     → ((leg : Leg) → IsUsable net (kind_at bids number) leg → ListsRows cmp rows.is_row (rows.uses (kind_at bids number) leg) (used (kind_at bids number) leg))
-    → (walks : BestWalks) (free : BestWalk) → walks.kept.items ≡ free ∷ [] → walks.held ≡ 0 → IsFree cmp net rows bid free → AreBestOf net rows used bids [] number walks
-free_at cmp net rows used bids number bid l at proper lists walks free kept held is =
+    → (walks : BestOnWay) (free : BestWalk) → walks.kept.items ≡ free ∷ [] → walks.allowed_depth ≡ 0 → IsFree cmp net rows bid free → AreBestOf net rows used bids [] number walks
+free_at cmp net rows used bids number bid l at proper lists walks free kept allowed_depth is =
     let there : slice_get bids number ≡ Some bid = slice_get-get_or bids number bid l ∙ ap Some (sym at) in
-    subst (λ o. IsSomeAnd o (λ b. AreBestWalks net rows used bids [] number b walks)) (sym there) (free_walks net rows used bids number bid cmp there proper lists walks free kept held is)
+    subst (λ o. IsSomeAnd o (λ b. AreBestOnWay net rows used bids [] number b walks)) (sym there) (free_walks net rows used bids number bid cmp there proper lists walks free kept allowed_depth is)
 
 -- the same of the bid at a position
-module _ {R : Type 0} (net : Net) (rows : Rows R) (used : TypeId → Leg → List R) (bids : List Bid) (number : ℕ) (node : List Decision) (walks after : BestWalks) (are : AreBestOf net rows used bids node number walks) where
+module _ {R : Type 0} (net : Net) (rows : Rows R) (used : TypeId → Leg → List R) (bids : List Bid) (number : ℕ) (node : List Decision) (walks after : BestOnWay) (are : AreBestOf net rows used bids node number walks) where
   pub turned_of : (k : ℕ) → k ≤ length node → AreTurned k walks after → AreBestOf net rows used bids (take k node) number after
   turned_of k l t =
-      some_and (λ b. AreBestWalks net rows used bids node number b walks) (λ b. AreBestWalks net rows used bids (take k node) number b after) (slice_get bids number)
+      some_and (λ b. AreBestOnWay net rows used bids node number b walks) (λ b. AreBestOnWay net rows used bids (take k node) number b after) (slice_get bids number)
       (λ b at h. turned_one net rows used bids number b node k walks after l t h) are
 
-  pub brought_more_of : (best : BestWalk) → after.kept.items ≡ walks.kept.items ++ best ∷ [] → after.held ≡ length node → best.depth ≡ length node
+  pub brought_more_of : (best : BestWalk) → after.kept.items ≡ walks.kept.items ++ best ∷ [] → after.allowed_depth ≡ length node → best.depth ≡ length node
       → ((b : Bid) → slice_get bids number ≡ Some b → IsBestWorth (leaf_weights net rows used bids node number [] (kind_at bids number)) net b best.worth) → IfSome best.worth IsWorthSize
       → (0 < length best.legs.items → (b : Bid) → slice_get bids number ≡ Some b → Attains net b best.worth best.legs.items)
       → (0 < length best.legs.items → IsStillFree (leaf_weights net rows used bids node number [] (kind_at bids number)) best.legs.items) → AreBestOf net rows used bids node number after
-  brought_more_of best kept held depth is size walk still =
-      some_and (λ b. AreBestWalks net rows used bids node number b walks) (λ b. AreBestWalks net rows used bids node number b after) (slice_get bids number)
-      (λ b at h. brought_more net rows used bids number b node walks after best kept held depth (is b at) size (λ some. walk some b at) still h) are
+  brought_more_of best kept allowed_depth depth is size walk still =
+      some_and (λ b. AreBestOnWay net rows used bids node number b walks) (λ b. AreBestOnWay net rows used bids node number b after) (slice_get bids number)
+      (λ b at h. brought_more net rows used bids number b node walks after best kept allowed_depth depth (is b at) size (λ some. walk some b at) still h) are
 
 -- legs that all decisions allow make the last one the best
 pub stands_best : {R : Type 0} (net : Net) (rows : Rows R) (used : TypeId → Leg → List R) (bids : List Bid) (node : List Decision) (number : ℕ) (best : BestWalk)

@@ -6,14 +6,26 @@ use Rattle.std.proofs.lemmas.Option.{slice_get-get_or, slice_get_within, get_or_
 use Rattle.std.proofs.lemmas.Bool.{cases_lt}
 use Rattle.std.proofs.lemmas.List.{append-nil, take_more}
 use Rattle.std.proofs.lemmas.List.Elements.{All-head, All-tail}
-use Rattle.std.proofs.lemmas.List.Sums.{sum_by_more_le, sum_by-append, sum_by-cons, sum_by_push}
+use Rattle.std.proofs.lemmas.List.Sums.{get_or-le-sum_by, sum_by_more_le, sum_by-append, sum_by-cons, sum_by_push}
 use Rattle.optra_network.specs.Net.{Net}
 use Rattle.optra_network.specs.declared.TypeId.{TypeId}
 use Rattle.optra_bid.specs.declared.bids.Bid.{Bid}
 use Rattle.optra_walk.specs.declared.Leg.{Leg}
-use Rattle.optra_walk.specs.Families.{Rows, Entry, IsUsable, ListsRows, entries_of, load_of, FitRows}
+use Rattle.optra_walk.specs.Families.{Rows, Entry, HasRoom, IsUsable, ListsRows, entries_of, load_of, FitRows}
 use Rattle.optra_node.proofs.SumLemmas.{sum_by-map}
 use Rattle.optra_checker.specs.Fits.{AreWithin}
+
+-- a leg uses little of each row
+pub uses_small : {R : Type 0} (cmp : R → R → Ordering) (is_row : R → Bool) (uses : R → ℕ) (used : List R) → ListsRows cmp is_row uses used → (q : R) → uses q ≤ 8192
+uses_small cmp is_row uses used lists q = elim (cases_lt 0 (uses q)) as (λ _. uses q ≤ 8192) [
+  | inl pos ↦
+      let c = (lists.used q).0 pos in
+      let part = get_or-le-sum_by uses used c.0 q c.1 in
+      let here = ap uses c.2 in
+      let total = lists.total in
+      omega (arith, part, here, total)
+  | inr none ↦ omega (arith, none)
+]
 
 module _ {R : Type 0} (rows : Rows R) where
   -- what is below totals within the capacities is within them
@@ -45,52 +57,25 @@ module _ {R : Type 0} (rows : Rows R) where
       from : AreWithin rows after → (q : R) → 0 < uses q → after q ≤ rows.capacity q
       from w q used = let a = added q in (w q (omega arith)).1
 
-  abbrev Fits : (R → ℕ) → (R → ℕ) → List R → ℕ → Type 0
-  Fits before uses used k = (j : ℕ) (row : R) → j < k → slice_get used j ≡ Some row → before row + uses row ≤ rows.capacity row
+  -- a leg has room exactly where with it the totals are within the capacities
+  pub room_within : (kind : TypeId) (leg : Leg) (before after : R → ℕ) → ((q : R) → 0 < rows.uses kind leg q → rows.is_row q ≡ true) → AreWithin rows before
+      → ((q : R) → after q ≡ before q + rows.uses kind leg q) → HasRoom rows before kind leg ↔ AreWithin rows after
+  room_within kind leg before after are_rows within added =
+      let both = leg_within before after (rows.uses kind leg) are_rows within added in (
+        (λ room. both.0 (λ q used. let a = added q in let r = room q used in omega (arith, a, r))),
+        (λ w q used. let a = added q in let m = both.1 w q used in omega (arith, a, m)),
+      )
 
-  -- one row more
-  pub fits_more : (before uses : R → ℕ) (used : List R) (k : ℕ) (row : R) (fit still : Bool) (sum : ℕ) → slice_get used k ≡ Some row → sum ≡ before row + uses row
-      → (IsTrue fit ↔ Fits before uses used k) → (IsTrue still ↔ (IsTrue fit × (sum ≤ rows.capacity row))) → IsTrue still ↔ Fits before uses used (k + 1)
-  fits_more before uses used k row fit still sum at is h both = (to, from)
-    where
-      to : IsTrue still → Fits before uses used (k + 1)
-      to t j other l e = elim (cases_lt j k) as (λ _. before other + uses other ≤ rows.capacity other) [
-        | inl early ↦ h.0 (both.0 t).0 j other early e
-        | inr past ↦
-            let last : j ≡ k = omega (arith, l, past) in
-            let same : row ≡ other = some_same row other (sym at ∙ ap (slice_get used) (sym last) ∙ e) in
-            let fits = (both.0 t).1 in
-            subst (λ r. before r + uses r ≤ rows.capacity r) same (omega (arith, is, fits))
-      ]
-        where
-          some_same : (a b : R) → Some a ≡ Some b → a ≡ b
-          some_same a b e = cc
-
-      from : Fits before uses used (k + 1) → IsTrue still
-      from all = let here = all k row (omega arith) at in both.1 (h.1 (λ j other l e. all j other (omega (arith, l)) e), omega (arith, is, here))
-
-  -- all rows of a leg
-  pub fits_all : (cmp : R → R → Ordering) (before after uses : R → ℕ) (used : List R) (k : ℕ) (fit : Bool) → ListsRows cmp rows.is_row uses used → length used ≤ k → AreWithin rows before
-      → ((q : R) → after q ≡ before q + uses q) → (IsTrue fit ↔ Fits before uses used k) → IsTrue fit ↔ AreWithin rows after
-  fits_all cmp before after uses used k fit lists past within added h = ((λ t. both.0 (to t)), (λ w. from (both.1 w)))
-    where
-      both : ((q : R) → 0 < uses q → after q ≤ rows.capacity q) ↔ AreWithin rows after
-      both = leg_within before after uses lists.are_rows within added
-
-      to : IsTrue fit → (q : R) → 0 < uses q → after q ≤ rows.capacity q
-      to t q pos =
-          let c = (lists.used q).0 pos in
-          let l = c.1 in
-          let fits = h.0 t c.0 q (omega (arith, past, l)) (slice_get-get_or used c.0 q c.1 ∙ ap Some c.2) in
-          let a = added q in
-          omega (arith, fits, a)
-
-      from : ((q : R) → 0 < uses q → after q ≤ rows.capacity q) → IsTrue fit
-      from all = h.1 (λ j row l e.
-          let used_here = (lists.used row).1 (j, slice_get_within used j row e, get_or_from_slice_get used j row row e) in
-          let fits = all row used_here in
-          let a = added row in
-          omega (arith, fits, a))
+  -- totals within the capacities are small
+  pub within_small : ((q : R) → rows.is_row q ≡ true → rows.capacity q ≤ 65535) → (total : R → ℕ) → AreWithin rows total → (q : R) → total q ≤ 65535
+  within_small caps total within q = elim (cases_lt 0 (total q)) as (λ _. total q ≤ 65535) [
+    | inl pos ↦
+        let w = within q pos in
+        let most = w.1 in
+        let cap = caps q w.0 in
+        omega (arith, most, cap)
+    | inr none ↦ omega (arith, none)
+  ]
 
   pub load_map : (kind : TypeId) (q : R) (legs : List Leg) → load_of rows q (map (λ leg. (kind, leg)) legs) ≡ sum_by (λ leg. rows.uses kind leg q) legs
   load_map kind q legs = sum_by-map (λ (e : Entry). rows.uses e.0 e.1 q) (λ (leg : Leg). (kind, leg)) legs

@@ -7,8 +7,7 @@ use Rattle.optra_bid.specs.declared.bids.Bid.{Bid}
 use Rattle.optra_walk.specs.declared.Leg.{Leg}
 use Rattle.optra_walk.specs.Families.{Rows}
 use Rattle.optra_node.specs.declared.Decision.{Decision}
-use Rattle.optra_node.specs.Nodes.{kind_at}
-use Rattle.optra_node.specs.Summaries.{Summed}
+use Rattle.optra_node.specs.Nodes.{InstanceNode, kind_at}
 use Rattle.optra_node.specs.Duals.{sum_of, PriceList, leg_price, IsGreatest, IsOffer, IsStuck, IsTerm}
 use Rattle.optra_open.specs.Tests.{may_start_at, may_have_leg}
 use Rattle.optra_rests.specs.Weights.{Weights}

@@ -1,8 +1,8 @@
--- What a check says; the nodes still to come, and what an open node keeps; tests as yes or no; and the best walk of a bid
--- by a table over the minutes.
+-- What a check says and the law of it; whether totals fit; the greatest bound of a tree; and the best walks of bids.
 pub mod Verdicts
+pub mod VerdictLaws
 pub mod Fits
 pub mod Leaves
 pub mod Bounds
 pub mod Frees
-pub mod BestWalks
+pub mod BestOnWay

@@ -1,12 +1,23 @@
 //! The best walk of a bid at a node: what it is worth, and its legs.
-ghost use Rattle.std.specs.Prelude.{◌≡◌, ◌↔◌, [], IsTrue, Some, pos, ◌*ℤ◌};
+//!
+//! Further decisions leave fewer walks allowed. So what the best walk is worth at a node bounds the
+//! walks at every node below, and where such a walk is still allowed there, it is the best.
+ghost use Rattle.std.specs.Prelude.{◌≡◌, ◌↔◌, ◌<◌, [], length, slice_get, All, IsSomeAnd, IsTrue, Some, is_some, not, pos, ◌*ℤ◌};
+ghost use Rattle.optra_bid.specs.declared.bids.Bid.{Bid as Asked};
+ghost use Rattle.optra_node.specs.Duals.{ArePrices};
+ghost use Rattle.optra_node.specs.Certificates.{AreAscending};
 ghost use Rattle.optra_walk.specs.Values.{IsValue, value_of};
 ghost use Rattle.optra_walk.specs.Walks.{IsWalk};
+ghost use Rattle.optra_checker.specs.BestOnWay.{AreFreeAt, IsBestAt, IsBestWalk};
 ghost use Rattle.optra_checker.specs.Frees.{Attains};
+ghost use Rattle.optra_open.specs.Loaded.{KeepsOff};
 
+use crate::free_legs::are_free_legs;
 use optra_bid::Bid;
 use optra_network::{Cents, Network};
-use optra_walk::{Leg, follows, value};
+use optra_open::{OpenNode, all_keep_off};
+use optra_rests::kind_of;
+use optra_walk::{Leg, RowFamily, follows, value};
 use std::alloc::Global;
 
 /// What the best walk of a bid is worth at a node on the way to the one that is open, and the legs
@@ -47,6 +58,13 @@ fn is_number(best: Option<i128>, number: i128) -> bool
     }
 }
 
+/// Whether there is no number.
+fn is_missing(best: Option<i128>) -> bool
+    ensures { result ≡ not (is_some best) }
+{
+    best.is_none()
+}
+
 impl BestWalk {
     /// The legs that are at hand.
     pub(crate) fn legs(&self) -> &[Leg]
@@ -56,6 +74,9 @@ impl BestWalk {
     }
 
     /// Whether the legs that are at hand are a walk of the bid that is worth as much.
+    ///
+    /// That they are no such walk where the answer is no is left open, here and below: legs that are
+    /// not used cost time alone.
     pub(crate) fn attains(&self, net: &Network, bid: &Bid) -> bool
         ensures { IsTrue result → Attains net.now bid.now self.now.worth self.now.legs.items }
     {
@@ -64,6 +85,65 @@ impl BestWalk {
             return false;
         }
         is_number(self.worth, worth(net, bid, legs))
+    }
+
+    /// As [`BestWalk::attains`], and no leg alone uses a row above its capacity.
+    pub(crate) fn attains_at_root<F: RowFamily>(&self, net: &Network, rows: &F, bid: &Bid) -> bool
+        ensures walk { IsTrue result → Attains net.now bid.now self.now.worth self.now.legs.items }
+        ensures fits { IsTrue result → All (KeepsOff F.Row.cmp (F.rows_of rows.now net.now)
+            bid.now.path.kind []) self.now.legs.items }
+    {
+        if !self.attains(net, bid) {
+            return false;
+        }
+        net.laws();
+        all_keep_off(net, rows, &[], kind_of(bid), self.legs())
+    }
+
+    /// As [`BestWalk::attains`], of the bid at a position, and the node allows the legs.
+    pub(crate) fn attains_at<F: RowFamily>(&self, node: &OpenNode<'_, F>, bid: u32) -> bool
+        requires { bid < length node.now.bids }
+        ensures walk { IsTrue result → (b : Asked) → slice_get node.now.bids bid ≡ Some b
+            → Attains node.now.net b self.now.worth self.now.legs.items }
+        ensures free { IsTrue result → AreFreeAt F.rows_of F.rows_used node.now bid []
+            self.now.legs.items }
+    {
+        let inst = node.inst();
+        if !self.attains(inst.net, &inst.bids[bid as usize]) {
+            return false;
+        }
+        node.laws();
+        let prices: [(F::Row, i64); 0] = [];
+        are_free_legs(node, &prices, bid, self.legs())
+    }
+
+    /// Whether it is seen at once that nothing is better at the open node, below the one that this is
+    /// the best walk of: that one has none, or the open node allows the legs of it, at no price.
+    ///
+    /// What may be better where it isn't seen is left open: then the walk is searched anew, which
+    /// costs time alone.
+    pub(crate) fn stays_best<F: RowFamily>(
+        &self,
+        node: &OpenNode<'_, F>,
+        prices: &[(F::Row, i64)],
+        bid: u32,
+    ) -> bool
+        requires bid { bid < length node.now.bids }
+        requires best { IsSomeAnd (slice_get node.now.bids bid) (λ b. IsBestWalk node.now.net
+            (F.rows_of node.now.family node.now.net) (F.rows_used node.now.family node.now.net)
+            node.now.bids node.now.node bid b self.now) }
+        requires ascending { AreAscending F.Row.cmp prices.now }
+        requires proper { ArePrices (F.rows_of node.now.family node.now.net) prices.now }
+        ensures best { IsTrue result → IsBestAt F.rows_of F.rows_used node.now bid prices.now
+            self.now.worth }
+        ensures free { IsTrue result → 0 < length self.now.legs.items → AreFreeAt F.rows_of
+            F.rows_used node.now bid prices.now self.now.legs.items }
+    {
+        if is_missing(self.worth) {
+            return true;
+        }
+        node.laws();
+        are_free_legs(node, prices, bid, self.legs())
     }
 
     /// The same with no legs at hand.

@@ -3,12 +3,12 @@ ghost use Rattle.std.specs.Prelude.{◌≡◌, ◌↔◌, [], IsTrue, IfOk, OnOk
 ghost use Rattle.optra_bid.specs.Instances.{IsInstance};
 ghost use Rattle.optra_node.specs.Trees.{places};
 ghost use Rattle.optra_node.specs.Certificates.{IsFormedItem, HasPrices, IsGreatestBound};
-ghost use Rattle.optra_checker.specs.BestWalks.{AreAllBest, AreAllBestAt};
+ghost use Rattle.optra_checker.specs.BestOnWay.{AreAllBest, AreAllBestAt};
 ghost use Rattle.optra_checker.specs.Bounds.{IsItemBound, IsGreatestOf, IsSoundTree};
 ghost use Rattle.optra_open.specs.Opens.{IsRoom};
 
-use crate::all_best::{bring_all, leave_all};
-use crate::best_walks::BestWalks;
+use crate::all_best::{advance_all, turn_back_all};
+use crate::best_on_way::BestOnWay;
 use crate::frees::find_frees;
 use crate::terms::leaf_bound;
 use optra_network::{Cents, NoMemory};
@@ -26,13 +26,13 @@ fn entries<R>(prices: &Prices<R>) -> &[(R, i64)]
 }
 
 /// The bound of a leaf with prices, in whole cents; none of any other item. The bids' best walks are
-/// brought to a leaf with prices, and to a split, below which they serve. `NoMemory` is its only
+/// advanced to a leaf with prices, and to a split, below which they serve. `NoMemory` is its only
 /// refusal.
 fn item_bound<F: RowFamily>(
     alloc: Global,
     node: &OpenNode<'_, F>,
     item: &Item<F::Row>,
-    walks: &mut [BestWalks],
+    walks: &mut [BestOnWay],
     table: &mut RestTable,
 ) -> Result<Option<i128>, NoMemory>
     requires instance { IsInstance node.now.net node.now.bids }
@@ -49,7 +49,7 @@ fn item_bound<F: RowFamily>(
             Ok(Some(cents))
         }
         Item::Split { .. } => {
-            bring_all(alloc, node, walks, table)?;
+            advance_all(alloc, node, walks, table)?;
             Ok(None)
         }
         Item::NoWalk { .. } | Item::Forced { .. } => Ok(None),
@@ -62,7 +62,7 @@ fn bound_of<F: RowFamily>(
     alloc: Global,
     node: &OpenNode<'_, F>,
     item: &Item<F::Row>,
-    walks: &mut [BestWalks],
+    walks: &mut [BestOnWay],
     depth: usize,
     table: &mut RestTable,
 ) -> Result<Option<i128>, NoMemory>
@@ -78,18 +78,18 @@ fn bound_of<F: RowFamily>(
         node.now.bids node.now.node item.now) }
 {
     let cents = item_bound(alloc, node, item, walks, table)?;
-    leave_all(node, walks, depth);
+    turn_back_all(node, walks, depth);
     Ok(cents)
 }
 
 /// As [`greatest_bound`], from the root on, which the room has.
 fn greatest_from<F: RowFamily>(
     alloc: Global,
-    room: &mut NodeRoom<F::Row>,
+    room: &mut NodeRoom<F>,
     inst: Instance<'_>,
     rows: &F,
     tree: &[Item<F::Row>],
-    walks: &mut [BestWalks],
+    walks: &mut [BestOnWay],
     table: &mut RestTable,
 ) -> Result<Option<i128>, NoMemory>
     requires room { IsRoom F.Row.cmp inst.net.now (F.rows_of rows.now inst.net.now) inst.bids.now
@@ -120,7 +120,7 @@ fn greatest_by<F: RowFamily>(
     inst: Instance<'_>,
     rows: &F,
     tree: &[Item<F::Row>],
-    walks: &mut [BestWalks],
+    walks: &mut [BestOnWay],
     table: &mut RestTable,
 ) -> Result<Option<i128>, NoMemory>
     requires tree { IsSoundTree F.Row.cmp inst.net.now (F.rows_of rows.now inst.net.now)

@@ -6,31 +6,15 @@ ghost use Rattle.optra_checker.specs.Verdicts.{ChoiceHolds, TreeHolds, IsFirstRe
 use crate::bounding::bound_holds;
 use crate::fitting::rule_holds;
 use crate::leaves::leaves_hold;
+use crate::listed_walks::{revenue, walks_hold};
 use crate::pricing::prices_hold;
 use crate::splitting::splits_hold;
-use crate::walks::{revenue, walks_hold};
 use crate::{Reason, Verdict};
 use optra_cert::Certificate;
 use optra_network::NoMemory;
-use optra_node::Item;
 use optra_rests::RestTable;
-use optra_walk::{Instance, RowFamily, Walk};
+use optra_walk::{Instance, RowFamily};
 use std::alloc::Global;
-
-/// The entries of a certificate's choice.
-fn entries<R>(cert: &Certificate<R>) -> &[Option<Walk>]
-    ensures { result.now ≡ cert.now.choice }
-{
-    let choice = &cert.choice;
-    &choice.walks
-}
-
-/// The items of a certificate's tree.
-fn items<R>(cert: &Certificate<R>) -> &[Item<R>]
-    ensures { result.now ≡ cert.now.tree }
-{
-    &cert.tree
-}
 
 /// The first of K1 to K3 that comes.
 fn choice_fault<F: RowFamily>(
@@ -46,7 +30,7 @@ fn choice_fault<F: RowFamily>(
         (IsFirstReason inst.entry.net.now (F.rows_of rows.now inst.entry.net.now)
         (F.KeepsRule rows.now inst.entry.net.now) inst.entry.bids.now cert.now)) }
 {
-    let walks = entries(cert);
+    let walks = cert.entries();
     if !walks_hold(inst.net, inst.bids, walks) {
         return Ok(Some(Reason::Walk));
     }
@@ -76,7 +60,7 @@ fn tree_fault<F: RowFamily>(
         (IsFirstReason inst.entry.net.now (F.rows_of rows.now inst.entry.net.now)
         (F.KeepsRule rows.now inst.entry.net.now) inst.entry.bids.now cert.now)) }
 {
-    let tree = items(cert);
+    let tree = cert.items();
     if !splits_hold(alloc, inst, rows, tree)? {
         return Ok(Some(Reason::Decision));
     }

@@ -1,17 +1,15 @@
 //! The best walks of bids where nothing is decided, nothing is used and nothing has a price.
 //!
 //! Such a walk that a node still allows, at no price, is the best that the node allows.
-ghost use Rattle.std.specs.Prelude.{[], All, IfOk, IsTrue};
+ghost use Rattle.std.specs.Prelude.{[], IfOk};
 ghost use Rattle.optra_bid.specs.Specs.{IsPathOn};
-ghost use Rattle.optra_checker.specs.BestWalks.{AreAllBest};
-ghost use Rattle.optra_checker.specs.Frees.{Attains, IsFree};
-ghost use Rattle.optra_open.specs.Loaded.{KeepsOff};
+ghost use Rattle.optra_checker.specs.BestOnWay.{AreAllBest};
+ghost use Rattle.optra_checker.specs.Frees.{IsFree};
 
+use crate::best_on_way::BestOnWay;
 use crate::best_walk::BestWalk;
-use crate::best_walks::BestWalks;
 use optra_bid::Bid;
 use optra_network::{Minute, Network, NoMemory, TypeId};
-use optra_open::all_keep_off;
 use optra_rests::{EveryLeg, RestTable, Weighing, kind_of, search, trace};
 use optra_walk::{Instance, Leg, RowFamily};
 use std::alloc::Global;
@@ -32,6 +30,8 @@ impl<'a> Weighing for FreeWeights<'a> {
         Some(0)
     }
 
+    /// It always is. An answer of no would be let through too, and cost time alone: the price of
+    /// each leg would be asked for.
     fn is_free(&self) -> bool {
         true
     }
@@ -39,20 +39,6 @@ impl<'a> Weighing for FreeWeights<'a> {
     fn may_start(&self, _minute: Minute) -> bool {
         true
     }
-}
-
-/// Whether the legs at hand are a walk of the bid that is worth as much, of which no leg alone uses
-/// a row above its capacity.
-fn are_free<F: RowFamily>(net: &Network, rows: &F, bid: &Bid, free: &BestWalk) -> bool
-    ensures walk { IsTrue result → Attains net.now bid.now free.now.worth free.now.legs.items }
-    ensures fits { IsTrue result → All (KeepsOff F.Row.cmp (F.rows_of rows.now net.now)
-        bid.now.path.kind []) free.now.legs.items }
-{
-    if !free.attains(net, bid) {
-        return false;
-    }
-    net.laws();
-    all_keep_off(net, rows, &[], kind_of(bid), free.legs())
 }
 
 /// The best of all walks of a bid. `NoMemory` is its only refusal.
@@ -79,7 +65,7 @@ fn find_free<F: RowFamily>(
         worth,
         legs,
     };
-    if are_free(net, rows, bid, &free) {
+    if free.attains_at_root(net, rows, bid) {
         return Ok(free);
     }
     Ok(free.without_legs(alloc))
@@ -91,7 +77,7 @@ pub(crate) fn find_frees<F: RowFamily>(
     inst: Instance<'_>,
     rows: &F,
     table: &mut RestTable,
-) -> Result<Vec<BestWalks>, NoMemory>
+) -> Result<Vec<BestOnWay>, NoMemory>
     ensures { IfOk result (λ walks. AreAllBest inst.entry.net.now (F.rows_of rows.now
         inst.entry.net.now) (F.rows_used rows.now inst.entry.net.now) inst.entry.bids.now []
         walks.items) }
@@ -99,7 +85,7 @@ pub(crate) fn find_frees<F: RowFamily>(
     let mut all = Vec::new(alloc);
     'bids: for bid in inst.bids {
         let free = find_free(alloc, inst.net, rows, bid, table)?;
-        let walks = BestWalks::at_root(alloc, free)?;
+        let walks = BestOnWay::at_root(alloc, free)?;
         all.push(walks)?;
     }
     Ok(all)

@@ -2,7 +2,7 @@
 ghost use Rattle.std.specs.Prelude.{◌<◌, length, IfOk, IfSome};
 ghost use Rattle.optra_node.specs.Duals.{ArePrices};
 ghost use Rattle.optra_node.specs.Certificates.{AreAscending};
-ghost use Rattle.optra_checker.specs.BestWalks.{IsBestAt};
+ghost use Rattle.optra_checker.specs.BestOnWay.{IsBestAt};
 ghost use Rattle.optra_open.specs.Loaded.{AreRising, AreLoaded};
 ghost use Rattle.optra_rests.specs.Weights.{IsWorthSize};
 

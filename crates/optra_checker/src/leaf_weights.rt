@@ -39,6 +39,8 @@ impl<'a, 'b, F: RowFamily> Weighing for LeafWeights<'a, 'b, F> {
         }
     }
 
+    /// That legs which cost alike are told to is left open: an answer of no costs time alone, since
+    /// each of them is then weighed by itself.
     fn alike(&self, first: Leg, second: Leg) -> bool {
         self.node.are_alike(self.bid, first, second)
     }

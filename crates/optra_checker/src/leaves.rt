@@ -52,7 +52,7 @@ fn ends_dead<F: RowFamily>(
 /// As [`leaves_hold`], from the root on, which the room has.
 fn leaves_hold_from<F: RowFamily>(
     alloc: Global,
-    room: &mut NodeRoom<F::Row>,
+    room: &mut NodeRoom<F>,
     inst: Instance<'_>,
     rows: &F,
     tree: &[Item<F::Row>],

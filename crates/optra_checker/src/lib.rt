@@ -9,7 +9,7 @@
 //! A bid's greatest offer at a leaf is seldom searched. Once a check, [`frees`] finds the best of all
 //! walks of each bid, where nothing is decided, used or priced, and keeps the legs of one. Where a
 //! split no longer allows them, the best walk that it allows is found, which serves the nodes below
-//! ([`best_walks`]). At a leaf that still allows the walk, at no price, nothing is better. Only where
+//! ([`best_on_way`]). At a leaf that still allows the walk, at no price, nothing is better. Only where
 //! the leaf doesn't, [`optra_rests`] searches the bid's walks by a table over minutes, stations and
 //! stops done, in room that stays from search to search. The node that is open while the tree is gone
 //! through, and what it allows and costs, is told by [`optra_open`].
@@ -18,22 +18,24 @@
 use optra_network::Cents;
 
 mod all_best;
+mod best_on_way;
 mod best_walk;
-mod best_walks;
 mod bounding;
 mod checking;
 mod fitting;
+mod free_legs;
 mod frees;
+mod laws;
 mod leaf_search;
 mod leaf_weights;
 mod leaves;
+mod listed_walks;
 mod pricing;
 mod splitting;
-mod staying;
 mod terms;
-mod walks;
 
 pub use checking::check;
+pub use laws::verdict_is_one;
 
 /// What a check says of a certificate.
 #[derive(Clone, Copy, Debug, PartialEq, Eq)]

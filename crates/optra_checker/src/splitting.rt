@@ -23,7 +23,7 @@ fn is_fresh<F: RowFamily>(node: &OpenNode<'_, F>, item: &Item<F::Row>) -> bool
 
 /// As [`splits_hold`], from the root on, which the room has.
 fn splits_hold_from<F: RowFamily>(
-    room: &mut NodeRoom<F::Row>,
+    room: &mut NodeRoom<F>,
     inst: Instance<'_>,
     rows: &F,
     tree: &[Item<F::Row>],

@@ -4,13 +4,13 @@ ghost use Rattle.optra_bid.specs.Instances.{IsInstance};
 ghost use Rattle.optra_bid.specs.declared.bids.Bid.{Bid as Asked};
 ghost use Rattle.optra_node.specs.Duals.{ArePrices, whole_cents};
 ghost use Rattle.optra_node.specs.Certificates.{AreAscending, IsBoundOf};
-ghost use Rattle.optra_checker.specs.BestWalks.{AreAllBestAt, AreBestAt, IsBestAt};
+ghost use Rattle.optra_checker.specs.BestOnWay.{AreAllBestAt, AreBestAt, IsBestAt};
 ghost use Rattle.optra_open.specs.Loaded.{AreLatestAt};
 ghost use Rattle.optra_checker.specs.Leaves.{IsBestOffer, AreTerms, IsSumSize, plus_of, dual_by};
 ghost use Rattle.optra_rests.specs.Sizes.{IsCapacityPrice};
 ghost use Rattle.optra_rests.specs.Weights.{IsWorthSize};
 
-use crate::best_walks::BestWalks;
+use crate::best_on_way::BestOnWay;
 use optra_network::NoMemory;
 use optra_open::OpenNode;
 use optra_rests::RestTable;
@@ -53,14 +53,14 @@ pub(crate) fn offer_of<F: RowFamily>(
 }
 
 /// The greatest offer to a bid at the node and prices, as [`offer_of`], by its best walks at nodes
-/// on the way. They are brought to the node. `NoMemory` is its only refusal.
+/// on the way. They are advanced to the node. `NoMemory` is its only refusal.
 fn offer_at<F: RowFamily>(
     alloc: Global,
     node: &OpenNode<'_, F>,
     latest: &[F::Row],
     prices: &[(F::Row, i64)],
     bid: u32,
-    walks: &mut BestWalks,
+    walks: &mut BestOnWay,
     table: &mut RestTable,
 ) -> Result<Option<i128>, NoMemory>
     requires bid { bid < length node.now.bids }
@@ -74,7 +74,7 @@ fn offer_at<F: RowFamily>(
         node.now.node prices.now bid b best) }
     ensures size { IfOk result (λ best. IfSome best IsWorthSize) }
 {
-    let best = walks.bring_at(alloc, node, latest, prices, bid, table)?;
+    let best = walks.advance_at(alloc, node, latest, prices, bid, table)?;
     Ok(offer_of(node, prices, bid, best))
 }
 
@@ -96,7 +96,7 @@ fn term_sum<F: RowFamily>(
     node: &OpenNode<'_, F>,
     latest: &[F::Row],
     prices: &[(F::Row, i64)],
-    walks: &mut [BestWalks],
+    walks: &mut [BestOnWay],
     table: &mut RestTable,
 ) -> Result<Option<i128>, NoMemory>
     requires instance { IsInstance node.now.net node.now.bids }
@@ -146,12 +146,12 @@ fn whole_cents(value: i128) -> i128
 }
 
 /// The dual value of the node at the prices, in whole cents and rounded down. The bids' best walks
-/// are brought to the node. `NoMemory` is its only refusal.
+/// are advanced to the node. `NoMemory` is its only refusal.
 pub(crate) fn leaf_bound<F: RowFamily>(
     alloc: Global,
     node: &OpenNode<'_, F>,
     prices: &[(F::Row, i64)],
-    walks: &mut [BestWalks],
+    walks: &mut [BestOnWay],
     table: &mut RestTable,
 ) -> Result<i128, NoMemory>
     requires instance { IsInstance node.now.net node.now.bids }

@@ -16,7 +16,7 @@ use Rattle.optra_walk.specs.Families.{Rows}
 use Rattle.optra_node.specs.declared.Decision.{Decision}
 use Rattle.optra_node.specs.Nodes.{IsBlocked, IsUndecided, has_yes, is_yes_for, uses_at, yes_load, others_load}
 use Rattle.optra_node.specs.Spans.{IsLetBy, IsStartOk, Lets}
-use Rattle.optra_node.specs.Summaries.{decisions_for, is_for}
+use Rattle.optra_node.specs.OwnDecisions.{decisions_for, is_for}
 use Rattle.optra_open.specs.Keyed.{AreKeyed, bucket_of, bucket_in, yes_part}
 use Rattle.optra_open.specs.declared.decision_index.DecisionIndex.{DecisionIndex}
 use Rattle.optra_open.specs.Opens.{IsIndexOf}

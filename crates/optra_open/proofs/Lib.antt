@@ -1,4 +1,5 @@
-pub mod LowerLemmas
+pub mod UseLemmas
+pub mod BesideLemmas
 pub mod OwnLemmas
 pub mod OpenLemmas
 pub mod ToComeLemmas

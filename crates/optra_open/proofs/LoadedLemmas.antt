@@ -1,14 +1,19 @@
 -- Rows that a list has, which rises, and rows that it misses; legs that keep off it.
-use Rattle.std.proofs.Common.{◌≡◌, ℕ, ◌+◌, ◌<◌, ◌≤◌, Bool, true, false, List, [], ◌∷◌, length, get_or, Option, None, Some, slice_get, refl, sym, ap, ◌∙◌, subst, arith, inl, inr}
-use Rattle.std.specs.Prelude.{Result, Ok, Err, is_some, unwrap_or}
+use Rattle.std.proofs.Common.{◌≡◌, ℕ, suc, cond, ◌+◌, ◌<◌, ◌≤◌, Bool, true, false, List, [], ◌∷◌, length, get_or, Some, slice_get, refl, sym, ap, ◌∙◌, subst, arith, inl, inr}
+use Rattle.std.specs.BTreeMap.{is_at}
+use Rattle.std.specs.Map.{keys_of, lookup}
+use Rattle.std.specs.Prelude.{Result, Ok, Err, unwrap_or, All, filter, map, nat_lt}
 use Rattle.std.specs.Cmp.{IsTotalOrder}
-use Rattle.std.specs.List.{list_any}
-use Rattle.std.specs.List.Sorted.{IsBinarySearchResult, IsNonDecreasingBy, IsSortedBy, IsStrictlySortedBy}
-use Rattle.std.specs.Ordering.{is_eq, is_lt, eq_by_cmp, ordering_reverse, ordering_index}
+use Rattle.std.specs.List.{AllPairs}
+use Rattle.std.specs.List.Sorted.{IsBinarySearchResult, IsSearchInRange, IsNonDecreasingBy, IsSortedBy, IsStrictlySortedBy}
+use Rattle.std.specs.Ordering.{is_eq, is_lt, ordering_reverse, ordering_index}
 use Rattle.std.specs.declared.cmp.Ordering.{Ordering}
 use Rattle.std.specs.declared.cmp.Ordering.TheVariants.{Less, Equal, Greater}
 use Rattle.std.proofs.lemmas.Bool.{cases_lt}
-use Rattle.std.proofs.lemmas.List.Folds.{Any-from_list_any}
+use Rattle.std.proofs.lemmas.Bool.Decides.{nat_tests}
+use Rattle.std.proofs.lemmas.List.{get_or-map, length-map}
+use Rattle.std.proofs.lemmas.List.Elements.{All-nil, All-cons, All-head, All-tail}
+use Rattle.std.proofs.lemmas.List.Kept.{AllPairs-filter}
 use Rattle.std.proofs.lemmas.List.Sorted.{searchable_from_sorted}
 use Rattle.std.proofs.lemmas.Map.Keys.{Less-from_sorted}
 use Rattle.std.proofs.lemmas.Option.{slice_get-get_or, slice_get_within, get_or_from_slice_get}
@@ -19,8 +24,8 @@ use Rattle.optra_walk.specs.Families.{Rows, ListsRows, Ascends}
 use Rattle.optra_node.specs.declared.Decision.{Decision}
 use Rattle.optra_node.specs.Nodes.{IsBlocked}
 use Rattle.optra_node.proofs.RowLemmas.{ascending_pairs}
-use Rattle.optra_node.proofs.SummaryLemmas.{load_split}
-use Rattle.optra_open.specs.Loaded.{AreRising, ArePast, AreLoaded, IsMissing, KeepsOff, KeepsOffAt}
+use Rattle.optra_node.proofs.OwnLemmas.{load_split}
+use Rattle.optra_open.specs.Loaded.{used_rows, AreRising, ArePast, AreLoaded, IsMissing, KeepsOff, KeepsOffAt}
 
 module _ {R : Type 0} (cmp : R → R → Ordering) (total : IsTotalOrder cmp) (loaded : List R) (up : AreRising cmp loaded) where
   not_both : (a b : R) → cmp a b ≡ Equal → cmp a b ≡ Less → ⊥
@@ -68,31 +73,70 @@ module _ {R : Type 0} (cmp : R → R → Ordering) (total : IsTotalOrder cmp) (l
       let same : j ≡ i = cc in
       (is (searchable row)).0 k d (omega arith) (omega (arith, same, b))
 
+  -- a row that a search finds is there
+  pub search_there : (row : R) (r : Result ℕ ℕ) (i : ℕ) → r ≡ Ok i → IsBinarySearchResult (λ y. cmp y row) loaded r → IsSearchInRange r (length loaded) → IsMissing cmp loaded row → ⊥
+  search_there row (Ok j) i e is within missing = missing j row within (is row)
+  search_there row (Err j) i e is within missing = cc
+
   -- a later row is behind them, too
   pub past_later : (place : ℕ) (row later : R) → cmp row later ≡ Less → ArePast cmp loaded place row → ArePast cmp loaded place later
   past_later place row later less past k d b l = total.trans (get_or loaded k d) row later (past k d b l) less
 
--- the keys of a map
-module _ {R : Type 0} (cmp : R → R → Ordering) (total : IsTotalOrder cmp) (keys : List R) where
-  pub keys_rise : IsStrictlySortedBy cmp keys → AreRising cmp keys
-  keys_rise sorted i j d l m = Less-from_sorted cmp keys i j d sorted l m
+-- the rows of which something is used, from the entries of a map
+module _ {R : Type 0} (cmp : R → R → Ordering) (total : IsTotalOrder cmp) where
+  abbrev is_used : R × ℕ → Bool
+  is_used e = nat_lt 0 e.1
 
-  -- a key that is missing is found by no test
-  pub none_found : (row : R) → IsMissing cmp keys row → list_any (eq_by_cmp cmp row) keys ≡ false
-  none_found row missing = by (list_any (eq_by_cmp cmp row) keys) refl
+  abbrev are_before : R × ℕ → R × ℕ → Type 0
+  are_before a b = cmp a.0 b.0 ≡ Less
+
+  pub used_rise : (entries : List (R × ℕ)) → IsStrictlySortedBy cmp (keys_of entries) → AreRising cmp (used_rows entries)
+  used_rise entries sorted i j d l m =
+      let used = filter is_used entries in
+      let n : j < length used = omega (arith, m, length-map used (λ (e : R × ℕ). e.0)) in
+      subst (λ x. cmp x (get_or (used_rows entries) j d) ≡ Less) (sym (get_or-map (λ (e : R × ℕ). e.0) used i (d, 0) d (omega (arith, l, n))))
+      (subst (λ x. cmp (get_or used i (d, 0)).0 x ≡ Less) (sym (get_or-map (λ (e : R × ℕ). e.0) used j (d, 0) d n)) (kept i j (d, 0) l n))
+    where
+      all : AllPairs are_before entries
+      all i j e l m =
+          let n : j < length (keys_of entries) = omega (arith, m, length-map entries (λ (e : R × ℕ). e.0)) in
+          subst (λ x. cmp x (get_or entries j e).0 ≡ Less) (get_or-map (λ (e : R × ℕ). e.0) entries i e e.0 (omega (arith, l, m)))
+          (subst (λ x. cmp (get_or (keys_of entries) i e.0) x ≡ Less) (get_or-map (λ (e : R × ℕ). e.0) entries j e e.0 m) (Less-from_sorted cmp (keys_of entries) i j e.0 sorted l n))
+
+      kept : AllPairs are_before (filter is_used entries)
+      kept = AllPairs-filter are_before is_used entries all
+
+  -- of a row that isn't listed nothing is used
+  pub used_all : (row : R) (entries : List (R × ℕ)) → IsMissing cmp (used_rows entries) row → unwrap_or (lookup (is_at (cmp row)) entries) 0 ≡ 0
+  used_all row [] missing = refl
+  used_all row (e ∷ es) missing = by (is_at (cmp row) e.0) (nat_lt 0 e.1) refl refl missing (used_all row es)
     where
       equal : (o : Ordering) → is_eq o ≡ true → o ≡ Equal
       equal Equal e = refl
       equal Less e = cc
       equal Greater e = cc
 
-      by : (b : Bool) → list_any (eq_by_cmp cmp row) keys ≡ b → b ≡ false
-      by false e = refl
-      by true e =
-          let any = Any-from_list_any (eq_by_cmp cmp row) keys e in
-          let same = equal (cmp row any.1) any.4 in
-          let back : cmp any.1 row ≡ Equal = total.antisymm any.1 row ∙ ap ordering_reverse same in
-          absurd (missing any.0 any.1 any.2 (subst (λ x. cmp x row ≡ Equal) (sym any.3) back))
+      zero_by : nat_lt 0 e.1 ≡ false → e.1 ≡ 0
+      zero_by none = grind (arith, nat_tests)
+
+      by : (here some : Bool) → is_at (cmp row) e.0 ≡ here → nat_lt 0 e.1 ≡ some → IsMissing cmp (map (λ (e : R × ℕ). e.0) (cond some (e ∷ filter is_used es) (filter is_used es))) row
+          → (IsMissing cmp (used_rows es) row → unwrap_or (lookup (is_at (cmp row)) es) 0 ≡ 0) → unwrap_or (cond here (Some e.1) (lookup (is_at (cmp row)) es)) 0 ≡ 0
+      by true true at some missing rest = absurd (missing 0 e.0 (omega arith) (total.antisymm e.0 row ∙ ap ordering_reverse (equal (cmp row e.0) at)))
+      by true false at none missing rest = zero_by none
+      by false true apart some missing rest = rest (λ k d l. missing (suc k) d (omega (arith, l)))
+      by false false apart none missing rest = rest missing
+
+  -- of each listed row something is used
+  pub used_each : (T : R → ℕ) (entries : List (R × ℕ)) → All (λ e. T e.0 ≡ e.1) entries → All (λ row. 0 < T row) (used_rows entries)
+  used_each T [] are = All-nil (λ (row : R). 0 < T row)
+  used_each T (e ∷ es) are = by (nat_lt 0 e.1) refl (used_each T es (All-tail (λ (e : R × ℕ). T e.0 ≡ e.1) e es are))
+    where
+      some_by : nat_lt 0 e.1 ≡ true → 0 < T e.0
+      some_by some = let same = All-head (λ (e : R × ℕ). T e.0 ≡ e.1) e es are in let n : 0 < e.1 = grind (arith, nat_tests) in omega (arith, same, n)
+
+      by : (some : Bool) → nat_lt 0 e.1 ≡ some → All (λ row. 0 < T row) (used_rows es) → All (λ row. 0 < T row) (map (λ (e : R × ℕ). e.0) (cond some (e ∷ filter is_used es) (filter is_used es)))
+      by true some rest = All-cons (λ (row : R). 0 < T row) e.0 (used_rows es) (some_by some) rest
+      by false none rest = rest
 
 -- a row of a leg, and those that come after it
 pub used_later : {R : Type 0} (cmp : R → R → Ordering) (used : List R) (k j : ℕ) (row later : R) → Ascends cmp used → slice_get used k ≡ Some row → slice_get used j ≡ Some later → k < j → cmp row later ≡ Less
@@ -114,11 +158,6 @@ no_more (row ∷ rows) k none = elim (cases_lt k (length (row ∷ rows))) as (λ
   | inl l ↦ absurd (none (get_or (row ∷ rows) k row) (slice_get-get_or (row ∷ rows) k row l))
   | inr past ↦ past
 ]
-
--- what a key that isn't there has
-pub none_kept : (o : Option ℕ) → is_some o ≡ false → unwrap_or o 0 ≡ 0
-none_kept None e = refl
-none_kept (Some n) e = cc
 
 module _ {R : Type 0} (cmp : R → R → Ordering) (rows : Rows R) (kind : TypeId) (loaded : List R) (leg : Leg) (used : List R) where
   -- one row more
@@ -146,6 +185,12 @@ module _ {R : Type 0} (cmp : R → R → Ordering) (rows : Rows R) (kind : TypeI
           let l = c.1 in
           let e : slice_get used c.0 ≡ Some row = slice_get-get_or used c.0 row c.1 ∙ ap Some c.2 in
           subst (λ o. KeepsOffAt cmp rows kind loaded leg o) e (seen c.0 (omega (arith, past, l)))
+
+  -- a row that the leg uses, which is listed or used above its capacity
+  pub on_row : (k : ℕ) (row : R) → ListsRows cmp rows.is_row (rows.uses kind leg) used → slice_get used k ≡ Some row → KeepsOff cmp rows kind loaded leg → IsMissing cmp loaded row × (rows.uses kind leg row ≤ rows.capacity row)
+  on_row k row lists at keeps =
+      let some = (lists.used row).1 (k, slice_get_within used k row at, get_or_from_slice_get used k row row at) in
+      (keeps.off row some, keeps.fits row some)
 
   -- such a leg is not blocked
   pub off_free : (bids : List Bid) (node : List Decision) (number : ℕ) → AreLoaded cmp rows bids node loaded → KeepsOff cmp rows kind loaded leg → IsBlocked rows bids node number kind leg → ⊥

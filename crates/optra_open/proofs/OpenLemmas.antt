@@ -1,8 +1,8 @@
 -- An open node, with one decision more and one less.
-use Rattle.std.proofs.Common.{◌≡◌, ℕ, zero, suc, ◌+◌, ◌*◌, ◌<◌, ◌≤◌, Bool, true, false, cond, List, [], ◌∷◌, ◌++◌, length, get_or, Option, Some, None, slice_get, refl, sym, ap, ◌∙◌, subst, arith, rules}
+use Rattle.std.proofs.Common.{◌≡◌, ℕ, zero, suc, ◌+◌, ◌*◌, ◌<◌, ◌≤◌, Bool, true, false, cond, List, [], ◌∷◌, ◌++◌, length, get_or, Option, Some, None, slice_get, refl, sym, ap, ◌∙◌, subst, arith}
 use Rattle.std.specs.Prelude.{All, IsSome}
 use Rattle.std.specs.declared.cmp.Ordering.{Ordering}
-use Rattle.std.specs.BTreeMap.{BTreeMap, IsEmpty}
+use Rattle.std.specs.BTreeMap.{BTreeMap}
 use Rattle.std.proofs.lemmas.Bool.{false≢true}
 use Rattle.std.proofs.lemmas.List.{length-append}
 use Rattle.std.proofs.lemmas.List.Elements.{All-head, All-tail}
@@ -16,7 +16,7 @@ use Rattle.optra_walk.specs.declared.Leg.{Leg}
 use Rattle.optra_walk.specs.Families.{Rows, IsUsable, ListsRows, total_of}
 use Rattle.optra_node.specs.declared.Decision.{Decision}
 use Rattle.optra_node.specs.Nodes.{IsNode, IsFormedLeg, IsFormedDecision, IsUndecided, DecideApart, uses_at, yes_uses, yes_load}
-use Rattle.optra_node.specs.Summaries.{AreLoads}
+use Rattle.optra_open.specs.Beside.{AreLoads}
 use Rattle.optra_node.proofs.NodeLemmas.{child_is_node}
 use Rattle.optra_node.proofs.RowLemmas.{uses_few}
 use Rattle.optra_open.specs.declared.decision_index.DecisionIndex.{DecisionIndex}
@@ -82,7 +82,7 @@ module _ {R : Type 0} (cmp : R → R → Ordering) (net : Net) (proper : IsPrope
           uses_few cmp rows.is_row (rows.uses kind leg) (used kind leg)
           (lists kind leg (record { proper = proper; may_use = subst IsSome (sym e) refl; depart = formed.depart; dwell = formed.dwell })) row
 
-  decision_few : (row : R) (d : Decision) → IsFormedDecision net (length bids) d → yes_uses rows bids row d ≤ 8192
+  pub decision_few : (row : R) (d : Decision) → IsFormedDecision net (length bids) d → yes_uses rows bids row d ≤ 8192
   decision_few row d formed = by d.yes (slice_get bids d.bid)
     where
       by : (y : Bool) (o : Option Bid) → cond y (option_map_or (λ b. rows.uses b.path.kind d.leg row) o 0) 0 ≤ 8192
@@ -93,10 +93,6 @@ module _ {R : Type 0} (cmp : R → R → Ordering) (net : Net) (proper : IsPrope
   -- the totals of a node are small
   pub totals_few : (node : List Decision) → All (IsFormedDecision net (length bids)) node → (row : R) → yes_load rows bids node row ≤ 8192 * length node
   totals_few node formed row = load_few rows bids node row (λ k e l. decision_few row (get_or node k e) (formed k e l))
-
--- totals that are kept of no row
-pub total_none : {R : Type 0} (cmp : R → R → Ordering) (totals : BTreeMap R ℕ) (row : R) → IsEmpty totals → total_of cmp totals row ≡ 0
-total_none cmp totals row none = search rules
 
 -- the root has nothing
 pub open_root : {R : Type 0} (cmp : R → R → Ordering) (net : Net) (rows : Rows R) (bids : List Bid) (totals : BTreeMap R ℕ) (index : DecisionIndex) → ((row : R) → total_of cmp totals row ≡ 0)

@@ -1,13 +1,12 @@
 -- A list with one element written, and a bid's own decisions.
 use Rattle.std.proofs.Common.{◌≡◌, ◌≢◌, ℕ, zero, suc, ◌<◌, Bool, true, false, cond, List, [], ◌∷◌, length, get_or, set, Some, slice_get, refl, ap, ◌∙◌, arith}
-use Rattle.std.specs.Prelude.{All, nat_eq, ◌||◌, ◌&&◌}
-use Rattle.std.specs.List.{list_any}
+use Rattle.std.specs.Prelude.{All, nat_eq}
 use Rattle.std.proofs.lemmas.Bool.Decides.{nat_tests}
 use Rattle.std.proofs.lemmas.List.{length-set, get_or-set_same, get_or-set_other}
+use Rattle.std.proofs.lemmas.List.Elements.{All-head, All-tail}
 use Rattle.std.proofs.lemmas.Option.{slice_get-get_or, slice_get_within, get_or_from_slice_get}
 use Rattle.optra_node.specs.declared.Decision.{Decision}
-use Rattle.optra_node.specs.Nodes.{has_yes}
-use Rattle.optra_node.specs.Summaries.{is_for, decisions_for}
+use Rattle.optra_node.specs.OwnDecisions.{is_for, decisions_for}
 
 pub is_for_same : (bid : ℕ) (d : Decision) → d.bid ≡ bid → is_for bid d ≡ true
 is_for_same bid d e = grind (arith, nat_tests)
@@ -23,21 +22,6 @@ read_other xs i j v w ne e =
     let within : j < length (set xs i v) = omega (arith, length-set xs i v) in
     slice_get-get_or (set xs i v) j w within ∙ ap Some (get_or-set_other xs i j v w ne ∙ get_or_from_slice_get xs j w w e)
 
--- a yes among a bid's own decisions is a yes leg of the bid
-pub own_yes : (number : ℕ) (node : List Decision) → list_any (λ (d : Decision). d.yes) (decisions_for node number) ≡ has_yes node number
-own_yes number [] = refl
-own_yes number (d ∷ node) = by d.yes (nat_eq d.bid number) refl (own_yes number node)
-  where
-    own : List Decision
-    own = decisions_for node number
-
-    by : (is_yes is_own : Bool) → d.yes ≡ is_yes → list_any (λ (e : Decision). e.yes) own ≡ has_yes node number
-        → list_any (λ (e : Decision). e.yes) (cond is_own (d ∷ own) own) ≡ ((is_yes && is_own) || has_yes node number)
-    by true true y rest = grind (arith, y, rest)
-    by true false y rest = rest
-    by false true y rest = grind (arith, y, rest)
-    by false false y rest = rest
-
 -- no decision is for a bid that has none of its own
 pub none_own : (number : ℕ) (node : List Decision) → decisions_for node number ≡ [] → All (λ d. d.bid ≡ number → ⊥) node
 none_own number [] e = λ k d l. absurd (omega arith)
@@ -51,3 +35,15 @@ none_own number (d ∷ node) e = by (nat_eq d.bid number) refl e (none_own numbe
         → All (λ d. d.bid ≡ number → ⊥) (d ∷ node)
     by true same e rest = cc
     by false ne e rest = λ k x l. other k x ne (rest e) l
+
+-- and none of its own stands there where no decision is for it
+pub own_none : (number : ℕ) (node : List Decision) → All (λ d. d.bid ≡ number → ⊥) node → decisions_for node number ≡ []
+own_none number [] none = refl
+own_none number (d ∷ node) none = by (nat_eq d.bid number) refl (own_none number node (All-tail (λ (d : Decision). d.bid ≡ number → ⊥) d node none))
+  where
+    same_by : nat_eq d.bid number ≡ true → d.bid ≡ number
+    same_by same = grind (arith, nat_tests)
+
+    by : (b : Bool) → nat_eq d.bid number ≡ b → decisions_for node number ≡ [] → cond b (d ∷ decisions_for node number) (decisions_for node number) ≡ []
+    by true same rest = absurd (All-head (λ (d : Decision). d.bid ≡ number → ⊥) d node none (same_by same))
+    by false apart rest = rest

@@ -1,9 +1,9 @@
 -- The nodes still to come, with one decision more and one less.
-use Rattle.std.proofs.Common.{◌≡◌, ℕ, ◌+◌, ◌<◌, ◌≤◌, true, false, cond, List, [], ◌∷◌, ◌++◌, length, get_or, take, Option, None, Some, slice_get, refl, sym, ap, ◌∙◌, append_assoc, arith, inl, inr}
+use Rattle.std.proofs.Common.{◌≡◌, ℕ, ◌+◌, ◌<◌, ◌≤◌, true, false, cond, List, [], ◌∷◌, ◌++◌, length, get_or, take, Option, None, Some, slice_get, refl, sym, ap, ◌∙◌, subst, append_assoc, arith, inl, inr}
 use Rattle.std.specs.Prelude.{Result, Ok, Err, IfOk, IsSomeAnd}
 use Rattle.std.proofs.lemmas.Bool.{cases_lt, false≢true}
 use Rattle.std.proofs.lemmas.List.{append-nil, get_or-take, length-append, take_at, take-append-le, take-take}
-use Rattle.std.proofs.lemmas.Option.{get_or_from_slice_get, slice_get_within}
+use Rattle.std.proofs.lemmas.Option.{get_or_from_slice_get, slice_get_within, slice_get-get_or}
 use Rattle.optra_node.specs.declared.Decision.{Decision}
 use Rattle.optra_node.specs.Trees.{decide_not}
 use Rattle.optra_open.specs.ToCome.{to_come_behind, to_come, open_with, IsYesAt}
@@ -55,6 +55,20 @@ yes_at node k h = by (slice_get node k) refl h
 
 pub yes_inside : (node : List Decision) (k : ℕ) → IsYesAt node k → k < length node
 yes_inside node k h = let y = yes_at node k h in slice_get_within node k y.0 y.1
+
+-- no decision from a place on is a yes, where none is behind it and the one there is none
+pub none_more : (node : List Decision) (k : ℕ) (z : Decision) → (get_or node k z).yes ≡ false → ((j : ℕ) → k < j → IsYesAt node j → ⊥) → (j : ℕ) → k ≤ j → IsYesAt node j → ⊥
+none_more node k z is_no none j le h = elim (cases_lt k j) as (λ _. ⊥) [
+  | inl later ↦ none j later h
+  | inr past ↦
+      let same : k ≡ j = omega (arith, le, past) in
+      let y = yes_at node j h in
+      false≢true (sym is_no ∙ ap (λ (i : ℕ). (get_or node i z).yes) same ∙ ap (λ (d : Decision). d.yes) (get_or_from_slice_get node j y.0 z y.1) ∙ y.2)
+]
+
+-- a yes decision at a place
+pub yes_there : (node : List Decision) (k : ℕ) (z : Decision) → k < length node → (get_or node k z).yes ≡ true → IsYesAt node k
+yes_there node k z l is_yes = subst (λ (o : Option Decision). IsSomeAnd o (λ d. d.yes ≡ true)) (sym (slice_get-get_or node k z l)) is_yes
 
 -- going back over the last decision
 module _ (old node before : List Decision) (d : Decision) (is : node ≡ before ++ d ∷ []) (first : take (length node) old ≡ node) where

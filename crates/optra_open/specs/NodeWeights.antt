@@ -6,8 +6,7 @@ use Rattle.optra_bid.specs.declared.bids.Bid.{Bid}
 use Rattle.optra_walk.specs.declared.Leg.{Leg}
 use Rattle.optra_walk.specs.Families.{Rows}
 use Rattle.optra_node.specs.declared.Decision.{Decision}
-use Rattle.optra_node.specs.Nodes.{kind_at}
-use Rattle.optra_node.specs.Summaries.{Summed}
+use Rattle.optra_node.specs.Nodes.{InstanceNode, kind_at}
 use Rattle.optra_node.specs.Duals.{PriceList, leg_price}
 use Rattle.optra_open.specs.Tests.{may_start_at, may_have_leg}
 use Rattle.optra_rests.specs.Weights.{Weights}
@@ -23,6 +22,6 @@ leaf_weights net rows used bids node number prices kind = record {
 }
 
 -- the same of a bid at the node that is seen, over the rows of its family
-abbrev pub weights_at : {X R : Type 0} → (X → Net → Rows R) → (X → Net → TypeId → Leg → List R) → Summed X → ℕ → PriceList R → Weights
+abbrev pub weights_at : {X R : Type 0} → (X → Net → Rows R) → (X → Net → TypeId → Leg → List R) → InstanceNode X → ℕ → PriceList R → Weights
 weights_at rows_of rows_used seen number prices =
     leaf_weights seen.net (rows_of seen.family seen.net) (rows_used seen.family seen.net) seen.bids seen.node number prices (kind_at seen.bids number)

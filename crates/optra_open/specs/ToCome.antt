@@ -1,6 +1,6 @@
 -- The nodes that are still to come when the items of a tree are gone through one after the other. A yes decision of the
 -- open node is of a split whose no part is still to come; a no decision leaves nothing behind.
-use Rattle.std.specs.Prelude.{◌≡◌, ◌⊎◌, ℕ, ◌<◌, ◌≤◌, true, List, [], ◌∷◌, ◌++◌, length, take, cond, IsSomeAnd, slice_get}
+use Rattle.std.specs.Prelude.{◌≡◌, ◌⊎◌, ℕ, ◌<◌, true, List, [], ◌∷◌, ◌++◌, length, take, cond, IsSomeAnd, slice_get}
 use Rattle.optra_node.specs.declared.Decision.{Decision}
 use Rattle.optra_node.specs.declared.Item.{Item}
 use Rattle.optra_node.specs.declared.Item.TheVariants.{Split, NoWalk, Forced, Priced}
@@ -32,9 +32,14 @@ IsAt tree i node = i < length tree → open_after root (take i tree) ≡ open_wi
 abbrev pub IsYesAt : List Decision → ℕ → Type 0
 IsYesAt node k = IsSomeAnd (slice_get node k) (λ d. d.yes ≡ true)
 
--- so many first decisions of the node stay after the item: all after a split, and those before a yes decision after a leaf
+-- the place of the last yes decision; 0 where none is one
+pub record IsLastYes (node : List Decision) (k : ℕ) : Type 0 where
+  pub yes : (k ≡ 0) ⊎ IsYesAt node k
+  pub last : (j : ℕ) → k < j → IsYesAt node j → ⊥
+
+-- so many first decisions of the node stay after the item: all after a split, and those before the last yes decision after a leaf
 abbrev pub AreKept : {R : Type 0} → List Decision → Item R → ℕ → Type 0
-AreKept node (Split bid leg) k = k ≤ length node
-AreKept node (NoWalk bid) k = (k ≡ 0) ⊎ IsYesAt node k
-AreKept node (Forced row) k = (k ≡ 0) ⊎ IsYesAt node k
-AreKept node (Priced prices) k = (k ≡ 0) ⊎ IsYesAt node k
+AreKept node (Split bid leg) k = k ≡ length node
+AreKept node (NoWalk bid) k = IsLastYes node k
+AreKept node (Forced row) k = IsLastYes node k
+AreKept node (Priced prices) k = IsLastYes node k

@@ -5,7 +5,7 @@ ghost use Rattle.std.specs.Prelude.{◌≡◌, ℕ, ◌<◌, ◌++◌, ◌∷◌
 ghost use Rattle.optra_node.specs.declared.Decision.{Decision};
 ghost use Rattle.optra_node.specs.Nodes.{IsUndecided};
 ghost use Rattle.optra_node.specs.Spans.{IsLetBy};
-ghost use Rattle.optra_node.specs.Summaries.{decisions_for};
+ghost use Rattle.optra_node.specs.OwnDecisions.{decisions_for};
 ghost use Rattle.optra_open.specs.Keyed.{AreKeyed, bucket_of, bucket_in, yes_part};
 
 use optra_network::{Network, NoMemory, TypeId};

@@ -6,7 +6,7 @@ ghost use Rattle.optra_node.specs.Duals.{ArePrices, price_of, leg_price, capacit
 ghost use Rattle.optra_node.specs.Certificates.{AreAscending};
 ghost use Rattle.optra_rests.specs.Sizes.{IsRowPrice, IsLegPrice, IsCapacityPrice};
 
-use optra_network::{Network, TypeId};
+use optra_network::TypeId;
 use optra_node::prices_by_used_rows;
 use optra_walk::{Instance, Leg, RowFamily};
 
@@ -58,7 +58,7 @@ fn used_price<F: RowFamily>(
 }
 
 /// Whether no row has a price.
-pub fn are_none<R>(prices: &[(R, i64)]) -> bool
+pub fn is_empty<R>(prices: &[(R, i64)]) -> bool
     ensures { IsTrue result ↔ (prices.now ≡ []) }
 {
     prices.is_empty()
@@ -79,7 +79,7 @@ pub(crate) fn leg_price<F: RowFamily>(
     ensures value { result ≡ leg_price (F.rows_of rows.now inst.entry.net.now) prices.now kind leg }
     ensures range { IsLegPrice result }
 {
-    if are_none(prices) {
+    if is_empty(prices) {
         return 0;
     }
     used_price(inst, rows, prices, kind, leg)
@@ -87,18 +87,17 @@ pub(crate) fn leg_price<F: RowFamily>(
 
 /// The price of all capacity: over the listed rows, price times capacity.
 pub(crate) fn capacity_price<F: RowFamily>(
-    net: &Network,
+    inst: Instance<'_>,
     rows: &F,
     prices: &[(F::Row, i64)],
 ) -> i128
-    requires { ArePrices (F.rows_of rows.now net.now) prices.now }
-    ensures value { result ≡ capacity_price (F.rows_of rows.now net.now) prices.now }
+    requires { ArePrices (F.rows_of rows.now inst.net.now) prices.now }
+    ensures value { result ≡ capacity_price (F.rows_of rows.now inst.entry.net.now) prices.now }
     ensures range { IsCapacityPrice result }
 {
-    net.laws();
     let mut total: i128 = 0;
     'entries: for entry in prices {
-        total += times(entry.1, rows.cap(net, entry.0));
+        total += times(entry.1, rows.cap(inst.net, entry.0));
     }
     total
 }

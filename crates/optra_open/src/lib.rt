@@ -6,15 +6,15 @@
 //! It serves the check of certificates alone.
 #![tactic(auto)]
 
+mod blocked_legs;
 mod decision_index;
-mod decision_rows;
+mod decision_uses;
 mod leaf_prices;
 mod loaded;
 mod node_room;
 mod open_node;
-mod taking;
 
-pub use leaf_prices::are_none;
+pub use leaf_prices::is_empty;
 pub use loaded::all_keep_off;
 pub use node_room::{NodeRoom, pass, root_room};
 pub use open_node::OpenNode;

@@ -2,36 +2,41 @@
 //!
 //! A search asks of many legs, and most of them use no row that is loaded. The rows of a leg come
 //! close to one another, so each look-up begins at the place of the last one.
-ghost use Rattle.std.specs.Prelude.{◌≡◌, ◌<◌, ◌≤◌, ◌↔◌, false, length, slice_index_or, All, IfOk, IsTrue};
-ghost use Rattle.std.specs.BTreeMap.{keys};
+ghost use Rattle.std.specs.Prelude.{◌≡◌, ◌<◌, ◌≤◌, ◌↔◌, false, true, length, slice_index_or, All, IfOk, IsTrue};
 ghost use Rattle.optra_walk.specs.Families.{IsUsable, total_of};
-ghost use Rattle.optra_open.specs.Loaded.{AreRising, ArePast, IsMissing, KeepsOff};
+ghost use Rattle.optra_open.specs.Loaded.{used_rows, AreRising, ArePast, IsMissing, KeepsOff};
 
 use optra_network::{Network, NoMemory, TypeId};
-use optra_walk::{Leg, RowFamily};
+use optra_walk::{Leg, RowFamily, Totals};
 use std::alloc::Global;
 use std::cmp::Ordering;
 use std::collections::BTreeMap;
 
-/// The rows that have a total, ascending.
-fn rows_of<R: Copy + Ord>(alloc: Global, totals: &BTreeMap<R, u128>) -> Result<Vec<R>, NoMemory>
-    ensures keys { IfOk result (λ rows. rows.items ≡ keys totals.now) }
+/// The rows that have a total above 0, in the map's order.
+fn rows_of<R: Copy + Ord>(alloc: Global, sums: &BTreeMap<R, u128>) -> Result<Vec<R>, NoMemory>
+    ensures { IfOk result (λ rows. rows.items ≡ used_rows sums.now.entries) }
 {
-    let rows = totals.keys().copied().collect(alloc)?;
+    let rows = sums
+        .iter()
+        .filter(|entry| *entry.1 > 0)
+        .map(|entry| *entry.0)
+        .collect(alloc)?;
     Ok(rows)
 }
 
-/// As [`rows_of`]: no other row has anything.
-pub(crate) fn loaded_rows<R: Copy + Ord>(
+/// The rows of which something is used, ascending. `NoMemory` is its only refusal.
+pub(crate) fn loaded_rows<F: RowFamily>(
     alloc: Global,
-    totals: &BTreeMap<R, u128>,
-) -> Result<Vec<R>, NoMemory>
-    ensures rising { IfOk result (λ loaded. AreRising R.cmp loaded.items) }
-    ensures all { IfOk result (λ loaded. (row : R) → IsMissing R.cmp loaded.items row
-        → total_of R.cmp totals.now row ≡ 0) }
+    totals: &Totals<F>,
+) -> Result<Vec<F::Row>, NoMemory>
+    ensures rising { IfOk result (λ loaded. AreRising F.Row.cmp loaded.items) }
+    ensures all { IfOk result (λ loaded. (row : F.Row) → IsMissing F.Row.cmp loaded.items row
+        → total_of F.Row.cmp totals.now.sums row ≡ 0) }
+    ensures used { IfOk result (λ loaded. All (λ row. 0 < total_of F.Row.cmp totals.now.sums row)
+        loaded.items) }
 {
-    let _ordered = totals.keys();
-    rows_of(alloc, totals)
+    let _ordered = totals.sums.iter();
+    rows_of(alloc, &totals.sums)
 }
 
 /// Whether a row is before another.
@@ -66,6 +71,7 @@ fn seek<R: Copy + Ord>(loaded: &[R], near: usize, row: R) -> Spot
     ensures place { result.place ≤ length loaded.now }
     ensures past { result.is_there ≡ false → ArePast R.cmp loaded.now result.place row }
     ensures missing { result.is_there ≡ false → IsMissing R.cmp loaded.now row }
+    ensures there { result.is_there ≡ true → IsMissing R.cmp loaded.now row → ⊥ }
 {
     if is_ahead(loaded, near, row) {
         return Spot {
@@ -96,7 +102,7 @@ pub(crate) fn keeps_off<F: RowFamily>(
 ) -> bool
     requires usable { IsUsable net.now kind leg }
     requires rising { AreRising F.Row.cmp loaded.now }
-    ensures { IsTrue result → KeepsOff F.Row.cmp (F.rows_of rows.now net.now) kind loaded.now leg }
+    ensures { IsTrue result ↔ KeepsOff F.Row.cmp (F.rows_of rows.now net.now) kind loaded.now leg }
 {
     let mut near = 0;
     for k in 0..8192 {
@@ -112,8 +118,7 @@ pub(crate) fn keeps_off<F: RowFamily>(
     true
 }
 
-/// Whether each leg uses none of the rows, and no other row above its capacity. A yes is always right;
-/// a no claims nothing.
+/// Whether each leg uses none of the rows, and no other row above its capacity.
 pub fn all_keep_off<F: RowFamily>(
     net: &Network,
     rows: &F,
@@ -123,7 +128,7 @@ pub fn all_keep_off<F: RowFamily>(
 ) -> bool
     requires usable { All (IsUsable net.now kind) legs.now }
     requires rising { AreRising F.Row.cmp loaded.now }
-    ensures { IsTrue result → All (KeepsOff F.Row.cmp (F.rows_of rows.now net.now) kind loaded.now)
+    ensures { IsTrue result ↔ All (KeepsOff F.Row.cmp (F.rows_of rows.now net.now) kind loaded.now)
         legs.now }
 {
     'legs: for leg in legs {

@@ -1,26 +1,25 @@
 //! The decisions of a node, with what is kept beside them for look-ups.
-ghost use Rattle.std.specs.Prelude.{◌≡◌, ◌⊎◌, ◌<◌, ◌≤◌, ◌++◌, ◌∷◌, [], ℕ, IfOk, OnOk, length, take};
+ghost use Rattle.std.specs.Prelude.{◌≡◌, ◌<◌, ◌≤◌, ◌++◌, ◌∷◌, [], ℕ, IfOk, OnOk, length, take};
 ghost use Rattle.optra_node.specs.Nodes.{IsFormedDecision, IsUndecided};
 ghost use Rattle.optra_node.specs.Trees.{children};
 ghost use Rattle.optra_node.specs.Certificates.{IsFormedItem, SplitsUndecided};
 ghost use Rattle.optra_open.specs.Opens.{IsRoom};
-ghost use Rattle.optra_open.specs.ToCome.{to_come, AreKept, IsNextWay, IsYesAt};
+ghost use Rattle.optra_open.specs.ToCome.{to_come, AreKept, IsLastYes, IsNextWay, IsYesAt};
 
 use crate::decision_index::DecisionIndex;
-use crate::taking::take_decision;
+use crate::decision_uses::{add_decision, take_decision};
 use optra_network::NoMemory;
-use optra_node::{Decision, Item, add_decision};
-use optra_walk::{Instance, RowFamily};
+use optra_node::{Decision, Item};
+use optra_walk::{Instance, RowFamily, Totals};
 use std::alloc::Global;
-use std::collections::BTreeMap;
 
 /// The decisions of a node, how much of each row its yes legs use, and an index of the decisions.
 /// The last decision can be taken off again and further ones put to it, without a copy.
 #[derive(Drop)]
-pub struct NodeRoom<R: Copy + Ord> {
+pub struct NodeRoom<F: RowFamily> {
     /// The decisions, from the root on.
     pub decisions: Vec<Decision>,
-    pub(crate) totals: BTreeMap<R, u128>,
+    pub(crate) totals: Totals<F>,
     pub(crate) index: DecisionIndex,
 }
 
@@ -29,7 +28,7 @@ pub fn root_room<F: RowFamily>(
     alloc: Global,
     inst: Instance<'_>,
     rows: &F,
-) -> Result<NodeRoom<F::Row>, NoMemory>
+) -> Result<NodeRoom<F>, NoMemory>
     ensures room { IfOk result (IsRoom F.Row.cmp inst.entry.net.now
         (F.rows_of rows.now inst.entry.net.now) inst.entry.bids.now) }
     ensures root { IfOk result (λ room. room.decisions.items ≡ []) }
@@ -38,7 +37,7 @@ pub fn root_room<F: RowFamily>(
     let index = DecisionIndex::new(alloc, inst.bids.len())?;
     Ok(NodeRoom {
         decisions: Vec::new(alloc),
-        totals: BTreeMap::new(alloc),
+        totals: Totals::new(alloc),
         index,
     })
 }
@@ -46,7 +45,7 @@ pub fn root_room<F: RowFamily>(
 /// Puts one more decision to it, of a leg that is not decided yet for its bid. `NoMemory` is its
 /// only refusal, and then the room serves no more.
 fn decide<F: RowFamily>(
-    room: &mut NodeRoom<F::Row>,
+    room: &mut NodeRoom<F>,
     inst: Instance<'_>,
     rows: &F,
     decision: Decision,
@@ -67,7 +66,7 @@ fn decide<F: RowFamily>(
 }
 
 /// Takes the last decision off.
-fn undo<F: RowFamily>(room: &mut NodeRoom<F::Row>, inst: Instance<'_>, rows: &F) -> Decision
+fn undo<F: RowFamily>(room: &mut NodeRoom<F>, inst: Instance<'_>, rows: &F) -> Decision
     requires room { IsRoom F.Row.cmp inst.net.now (F.rows_of rows.now inst.net.now) inst.bids.now
         room.old }
     requires some { 0 < length room.old.decisions.items }
@@ -87,11 +86,7 @@ fn undo<F: RowFamily>(room: &mut NodeRoom<F::Row>, inst: Instance<'_>, rows: &F)
 
 /// Turns to the nearest node that is still to come, or to the root where none is. `NoMemory` is
 /// its only refusal.
-fn turn<F: RowFamily>(
-    room: &mut NodeRoom<F::Row>,
-    inst: Instance<'_>,
-    rows: &F,
-) -> Result<(), NoMemory>
+fn turn<F: RowFamily>(room: &mut NodeRoom<F>, inst: Instance<'_>, rows: &F) -> Result<(), NoMemory>
     requires { IsRoom F.Row.cmp inst.net.now (F.rows_of rows.now inst.net.now) inst.bids.now
         room.old }
     ensures room { OnOk result (IsRoom F.Row.cmp inst.entry.net.now
@@ -114,7 +109,7 @@ fn turn<F: RowFamily>(
 /// is yes, and after a leaf the nearest that is still to come. Where none is, it is the root.
 /// `NoMemory` is its only refusal.
 pub fn pass<F: RowFamily>(
-    room: &mut NodeRoom<F::Row>,
+    room: &mut NodeRoom<F>,
     inst: Instance<'_>,
     rows: &F,
     item: &Item<F::Row>,
@@ -146,12 +141,13 @@ pub fn pass<F: RowFamily>(
 /// The place of the last yes decision, or 0 where none is one.
 fn last_yes(decisions: &[Decision]) -> usize
     ensures within { result ≤ length decisions.now }
-    ensures yes { (result ≡ 0) ⊎ IsYesAt decisions.now result }
+    ensures last { IsLastYes decisions.now result }
 {
     let mut left = decisions.len();
     'back: while left > 0 {
         left -= 1;
-        if decisions[left].yes {
+        let decision = decisions[left];
+        if decision.yes {
             return left;
         }
     }

@@ -1,14 +1,15 @@
-//! The node at hand while a tree is gone through.
+//! The node at hand while a tree is gone through: what it says, and tests by which a search that goes on from what was known
+//! before saves work.
 ghost use Rattle.std.specs.Prelude.{◌≡◌, ◌-◌, ◌<◌, ◌≤◌, ◌↔◌, [], All, IsTrue, IfOk, IfSome, false, length, slice_get, true};
 ghost use Rattle.std.specs.List.{list_any};
 ghost use Rattle.optra_network.specs.Net.{IsProper};
 ghost use Rattle.optra_node.specs.Nodes.{IsFormedLeg, IsUndecided, IsOverfull, IsBlocked, kind_at, has_yes};
 ghost use Rattle.optra_node.specs.Spans.{IsLegOk, IsLetBy};
-ghost use Rattle.optra_node.specs.Summaries.{decisions_for};
+ghost use Rattle.optra_node.specs.OwnDecisions.{decisions_for};
 ghost use Rattle.optra_walk.specs.Families.{IsUsable};
 ghost use Rattle.optra_node.specs.Duals.{PriceList, ArePrices, leg_price, capacity_price};
 ghost use Rattle.optra_node.specs.Certificates.{AreAscending};
-ghost use Rattle.optra_open.specs.Loaded.{AreLatestAt, AreRising, AreLoaded, KeepsOff};
+ghost use Rattle.optra_open.specs.Loaded.{AreLatestAt, AreRising, AreLoaded, AreUsed, KeepsOff};
 ghost use Rattle.optra_open.specs.NodeWeights.{weights_at};
 ghost use Rattle.optra_open.specs.Keyed.{yes_part};
 ghost use Rattle.optra_rests.specs.Sizes.{IsLegPrice, IsCapacityPrice};
@@ -16,12 +17,13 @@ ghost use Rattle.optra_open.specs.Tests.{may_have_leg, may_start_at};
 ghost use Rattle.optra_open.specs.ToCome.{AreKept};
 ghost use Rattle.optra_rests.specs.Weights.{AreAlike};
 
-use crate::decision_rows::rows_of_decision;
+use crate::blocked_legs::is_blocked_beside;
+use crate::decision_uses::rows_of_decision;
 use crate::leaf_prices::{capacity_price, leg_price};
 use crate::loaded::{all_keep_off, keeps_off, loaded_rows};
 use crate::node_room::{NodeRoom, depth_after};
 use optra_network::{Minute, NoMemory};
-use optra_node::{Decision, Item, is_blocked_beside, kind_at, start_ok, total};
+use optra_node::{Decision, Item, kind_at, start_ok};
 use optra_walk::{Instance, Leg, RowFamily};
 use std::alloc::Global;
 use std::marker::Model;
@@ -32,14 +34,14 @@ use std::marker::Model;
 pub struct OpenNode<'a, F: RowFamily> {
     inst: Instance<'a>,
     rows: &'a F,
-    room: &'a NodeRoom<F::Row>,
+    room: &'a NodeRoom<F>,
 }
 
 impl<'a, F: RowFamily> Model for OpenNode<'a, F> {
-    ghost use Rattle.optra_node.specs.Summaries.{Summed};
+    ghost use Rattle.optra_node.specs.Nodes.{InstanceNode};
     ghost use Rattle.optra_open.specs.Opens.{IsRoom};
 
-    ghost Value = { Summed F };
+    ghost Value = { InstanceNode F };
 
     ghost view = { λ a. record { family = a.rows.now; net = a.inst.net.now; bids = a.inst.bids.now; node = a.room.now.decisions.items } };
 
@@ -60,26 +62,41 @@ fn has_none(decisions: &[Decision]) -> bool
     decisions.is_empty()
 }
 
+/// What the node says: its decisions, which legs and starts it allows, and what legs cost at prices.
 impl<'a, F: RowFamily> OpenNode<'a, F> {
-    ghost use Rattle.optra_node.specs.Summaries.{summed};
+    ghost use Rattle.optra_node.specs.Nodes.{instance_node};
     ghost use Rattle.optra_open.specs.Opens.{IsRoom};
 
     /// The node that the room has.
-    pub fn of(inst: Instance<'a>, rows: &'a F, room: &'a NodeRoom<F::Row>) -> OpenNode<'a, F>
+    pub fn of(inst: Instance<'a>, rows: &'a F, room: &'a NodeRoom<F>) -> OpenNode<'a, F>
         requires { IsRoom F.Row.cmp inst.net.now (F.rows_of rows.now inst.net.now) inst.bids.now
             room.now }
-        ensures { result ≡ summed rows.now inst.entry.net.now inst.entry.bids.now
+        ensures { result ≡ instance_node rows.now inst.entry.net.now inst.entry.bids.now
             room.now.decisions.items }
     {
         OpenNode { inst, rows, room }
     }
 
-    /// The yes decisions for a bid, in the node's order.
-    fn yes(&self, bid: u32) -> &[Decision]
-        requires { bid < length self.now.bids }
-        ensures { result.now ≡ decisions_for (yes_part self.now.node) bid }
+    /// The instance.
+    pub fn inst(&self) -> Instance<'_>
+        ensures net { result.net.now ≡ self.now.net }
+        ensures bids { result.bids.now ≡ self.now.bids }
     {
-        self.room.index.yes_of(bid)
+        self.inst
+    }
+
+    /// A law, and no work: its network is one that a builder finished.
+    pub fn laws(&self)
+        ensures { IsProper self.now.net }
+    {
+        let _inst = self.inst;
+    }
+
+    /// How many decisions the node has.
+    pub fn depth(&self) -> usize
+        ensures { result ≡ length self.now.node }
+    {
+        self.room.decisions.len()
     }
 
     /// Whether the leg is not decided yet for the bid.
@@ -105,7 +122,15 @@ impl<'a, F: RowFamily> OpenNode<'a, F> {
     {
         let net = self.inst.net;
         self.rows.is_row(net, row)
-            && u128::from(self.rows.cap(net, row)) < total(&self.room.totals, row)
+            && u128::from(self.rows.cap(net, row)) < self.room.totals.total(row)
+    }
+
+    /// The yes decisions for a bid, in the node's order.
+    fn yes(&self, bid: u32) -> &[Decision]
+        requires { bid < length self.now.bids }
+        ensures { result.now ≡ decisions_for (yes_part self.now.node) bid }
+    {
+        self.room.index.yes_of(bid)
     }
 
     /// Whether each decision for the bid lets its walk have the leg.
@@ -151,76 +176,6 @@ impl<'a, F: RowFamily> OpenNode<'a, F> {
         self.let_by(bid, leg) && !self.blocked(bid, leg)
     }
 
-    /// How many decisions the node has.
-    pub fn depth(&self) -> usize
-        ensures { result ≡ length self.now.node }
-    {
-        self.room.decisions.len()
-    }
-
-    /// How many first decisions of the node stay when its room passes the item.
-    pub fn depth_after(&self, item: &Item<F::Row>) -> usize
-        ensures within { result ≤ length self.now.node }
-        ensures kept { AreKept self.now.node item.now result }
-    {
-        depth_after(&self.room.decisions, item)
-    }
-
-    /// Whether the last decision is for the bid. No means that there is none or that it is for
-    /// another; a yes claims nothing, so who asks looks at the bid anew.
-    pub fn is_last_for(&self, bid: u32) -> bool
-        ensures { result ≡ false → IfSome (slice_get self.now.node (length self.now.node - 1))
-            (λ last. last.bid ≡ bid → ⊥) }
-    {
-        match self.room.decisions.last() {
-            Some(last) => last.bid == bid,
-            None => false,
-        }
-    }
-
-    /// The rows that the last decision uses, ascending; none where there is no decision. `NoMemory`
-    /// is its only refusal.
-    pub fn latest_rows(&self, alloc: Global) -> Result<Vec<F::Row>, NoMemory>
-        ensures { IfOk result (λ latest. AreLatestAt F.Row.cmp F.rows_of self.now latest.items) }
-    {
-        match self.room.decisions.last() {
-            Some(last) => rows_of_decision(alloc, self.inst, self.rows, *last),
-            None => Ok(Vec::new(alloc)),
-        }
-    }
-
-    /// Whether no decision is for the bid. A yes is always right; a no claims nothing.
-    pub fn is_left_alone(&self, bid: u32) -> bool
-        requires { bid < length self.now.bids }
-        ensures { IsTrue result → All (λ d. d.bid ≡ bid → ⊥) self.now.node }
-    {
-        has_none(self.room.index.own_of(bid))
-    }
-
-    /// The instance.
-    pub fn inst(&self) -> Instance<'_>
-        ensures net { result.net.now ≡ self.now.net }
-        ensures bids { result.bids.now ≡ self.now.bids }
-    {
-        self.inst
-    }
-
-    /// A law, and no work: its network is one that a builder finished.
-    pub fn laws(&self)
-        ensures { IsProper self.now.net }
-    {
-        let _inst = self.inst;
-    }
-
-    /// The rows of which the yes legs use something, ascending. `NoMemory` is its only refusal.
-    pub fn loaded(&self, alloc: Global) -> Result<Vec<F::Row>, NoMemory>
-        ensures rising { IfOk result (λ loaded. AreRising F.Row.cmp loaded.items) }
-        ensures all { IfOk result (λ loaded. AreLoaded F.Row.cmp (F.rows_of self.now.family
-            self.now.net) self.now.bids self.now.node loaded.items) }
-    {
-        loaded_rows(alloc, &self.room.totals)
-    }
-
     /// Whether a walk of the bid may have the leg, on a track that its type may use, with the loaded
     /// rows of the node at hand.
     pub fn leg_ok_beside(&self, loaded: &[F::Row], bid: u32, leg: Leg) -> bool
@@ -239,54 +194,23 @@ impl<'a, F: RowFamily> OpenNode<'a, F> {
         self.keeps_off(loaded, bid, leg) || !self.blocked(bid, leg)
     }
 
-    /// Whether the leg uses none of the rows, and no other row above its capacity. A yes is always
-    /// right; a no claims nothing.
-    pub fn keeps_off(&self, loaded: &[F::Row], bid: u32, leg: Leg) -> bool
-        requires bid { bid < length self.now.bids }
-        requires usable { IsUsable self.now.net (kind_at self.now.bids bid) leg }
-        requires rising { AreRising F.Row.cmp loaded.now }
-        ensures { IsTrue result → KeepsOff F.Row.cmp (F.rows_of self.now.family self.now.net)
-            (kind_at self.now.bids bid) loaded.now leg }
-    {
-        let inst = self.inst;
-        keeps_off(inst.net, self.rows, loaded, kind_at(inst, bid), leg)
-    }
-
-    /// As [`OpenNode::keeps_off`], of each leg: a yes is right of all of them, a no claims nothing.
-    pub fn all_keep_off(&self, listed: &[F::Row], bid: u32, legs: &[Leg]) -> bool
-        requires bid { bid < length self.now.bids }
-        requires usable { All (IsUsable self.now.net (kind_at self.now.bids bid)) legs.now }
-        requires rising { AreRising F.Row.cmp listed.now }
-        ensures { IsTrue result → All (KeepsOff F.Row.cmp (F.rows_of self.now.family self.now.net)
-            (kind_at self.now.bids bid) listed.now) legs.now }
-    {
-        let inst = self.inst;
-        all_keep_off(inst.net, self.rows, listed, kind_at(inst, bid), legs)
-    }
-
-    /// Whether it is seen at once that a walk of the bid may have both legs, at one price, or
-    /// neither. It is never true of others.
-    pub fn are_alike(&self, bid: u32, first: Leg, second: Leg) -> bool
-        requires bid { bid < length self.now.bids }
-        requires first { IsUsable self.now.net (kind_at self.now.bids bid) first }
-        requires second { IsUsable self.now.net (kind_at self.now.bids bid) second }
-        ensures { result ≡ true → (prices : PriceList F.Row)
-            → AreAlike (weights_at F.rows_of F.rows_used self.now bid prices) first second }
-    {
-        let inst = self.inst;
-        let kind = kind_at(inst, bid);
-        if !self.rows.use_alike(inst.net, kind, first, second) {
-            return false;
-        }
-        self.let_by(bid, first) == self.let_by(bid, second)
-    }
-
     /// Whether the bid may start at the minute, as a test.
     pub fn may_start(&self, bid: u32, minute: Minute) -> bool
         requires { bid < length self.now.bids }
         ensures { result ≡ may_start_at self.now.node bid minute }
     {
         start_ok(self.yes(bid), bid, minute)
+    }
+
+    /// The rows of which the yes legs use something, ascending. `NoMemory` is its only refusal.
+    pub fn loaded(&self, alloc: Global) -> Result<Vec<F::Row>, NoMemory>
+        ensures rising { IfOk result (λ loaded. AreRising F.Row.cmp loaded.items) }
+        ensures all { IfOk result (λ loaded. AreLoaded F.Row.cmp (F.rows_of self.now.family
+            self.now.net) self.now.bids self.now.node loaded.items) }
+        ensures used { IfOk result (λ loaded. AreUsed (F.rows_of self.now.family self.now.net)
+            self.now.bids self.now.node loaded.items) }
+    {
+        loaded_rows(alloc, &self.room.totals)
     }
 
     /// What the leg costs a walk of the bid at the prices, on a track that its type may use.
@@ -310,6 +234,92 @@ impl<'a, F: RowFamily> OpenNode<'a, F> {
             prices.now }
         ensures range { IsCapacityPrice result }
     {
-        capacity_price(self.inst.net, self.rows, prices)
+        capacity_price(self.inst, self.rows, prices)
+    }
+}
+
+/// What only saves work: tests of what stays as it was before, or is seen at once. No answer of a check rests on one of them
+/// being asked.
+impl<'a, F: RowFamily> OpenNode<'a, F> {
+    /// Whether no decision is for the bid. Then each leg is let it, and none of its decisions is looked for.
+    fn is_left_alone(&self, bid: u32) -> bool
+        requires { bid < length self.now.bids }
+        ensures { IsTrue result ↔ All (λ d. d.bid ≡ bid → ⊥) self.now.node }
+    {
+        has_none(self.room.index.own_of(bid))
+    }
+
+    /// Whether the leg uses none of the rows, and no other row above its capacity. Where the rows are the loaded ones, it is
+    /// not blocked then.
+    fn keeps_off(&self, loaded: &[F::Row], bid: u32, leg: Leg) -> bool
+        requires bid { bid < length self.now.bids }
+        requires usable { IsUsable self.now.net (kind_at self.now.bids bid) leg }
+        requires rising { AreRising F.Row.cmp loaded.now }
+        ensures { IsTrue result ↔ KeepsOff F.Row.cmp (F.rows_of self.now.family self.now.net)
+            (kind_at self.now.bids bid) loaded.now leg }
+    {
+        let inst = self.inst;
+        keeps_off(inst.net, self.rows, loaded, kind_at(inst, bid), leg)
+    }
+
+    /// Whether each of the legs uses none of the rows, and no other row above its capacity. Where the rows are those of the
+    /// last decision, these legs are blocked as they were before it.
+    pub fn all_keep_off(&self, listed: &[F::Row], bid: u32, legs: &[Leg]) -> bool
+        requires bid { bid < length self.now.bids }
+        requires usable { All (IsUsable self.now.net (kind_at self.now.bids bid)) legs.now }
+        requires rising { AreRising F.Row.cmp listed.now }
+        ensures { IsTrue result ↔ All (KeepsOff F.Row.cmp (F.rows_of self.now.family self.now.net)
+            (kind_at self.now.bids bid) listed.now) legs.now }
+    {
+        let inst = self.inst;
+        all_keep_off(inst.net, self.rows, listed, kind_at(inst, bid), legs)
+    }
+
+    /// How many first decisions of the node stay when its room passes the item. What was found with these alone holds on.
+    pub fn depth_after(&self, item: &Item<F::Row>) -> usize
+        ensures within { result ≤ length self.now.node }
+        ensures kept { AreKept self.now.node item.now result }
+    {
+        depth_after(&self.room.decisions, item)
+    }
+
+    /// Whether the last decision is for the bid. Where it is for another bid or there is none, what is known of the bid holds
+    /// on.
+    pub fn is_last_for(&self, bid: u32) -> bool
+        ensures { (result ≡ false) ↔ IfSome (slice_get self.now.node (length self.now.node - 1))
+            (λ last. last.bid ≡ bid → ⊥) }
+    {
+        match self.room.decisions.last() {
+            Some(last) => last.bid == bid,
+            None => false,
+        }
+    }
+
+    /// The rows that the last decision uses, ascending; none where there is no decision. `NoMemory`
+    /// is its only refusal.
+    pub fn latest_rows(&self, alloc: Global) -> Result<Vec<F::Row>, NoMemory>
+        ensures { IfOk result (λ latest. AreLatestAt F.Row.cmp F.rows_of self.now latest.items) }
+    {
+        match self.room.decisions.last() {
+            Some(last) => rows_of_decision(alloc, self.inst, self.rows, *last),
+            None => Ok(Vec::new(alloc)),
+        }
+    }
+
+    /// Whether it is seen at once that a walk of the bid may have both legs, at one price, or neither. Of others it is never
+    /// true. That it isn't true of legs that are alike is left open: a search then asks of each for itself.
+    pub fn are_alike(&self, bid: u32, first: Leg, second: Leg) -> bool
+        requires bid { bid < length self.now.bids }
+        requires first { IsUsable self.now.net (kind_at self.now.bids bid) first }
+        requires second { IsUsable self.now.net (kind_at self.now.bids bid) second }
+        ensures { result ≡ true → (prices : PriceList F.Row)
+            → AreAlike (weights_at F.rows_of F.rows_used self.now bid prices) first second }
+    {
+        let inst = self.inst;
+        let kind = kind_at(inst, bid);
+        if !self.rows.use_alike(inst.net, kind, first, second) {
+            return false;
+        }
+        self.let_by(bid, first) == self.let_by(bid, second)
     }
 }

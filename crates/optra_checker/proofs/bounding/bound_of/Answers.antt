@@ -1,10 +1,10 @@
 use Rattle.optra_checker.proofs.bounding.bound_of.Goals as goal
 
-pub leave_all-requires-clause-walks : goal.leave_all-requires-clause-walks
-leave_all-requires-clause-walks g c = c.in_ok-cents.ensures.walks
+pub turn_back_all-requires-clause-walks : goal.turn_back_all-requires-clause-walks
+turn_back_all-requires-clause-walks g c = c.in_ok-cents.ensures.walks
 
-pub leave_all-requires-clause-depth : goal.leave_all-requires-clause-depth
-leave_all-requires-clause-depth g c = c.requires.depth
+pub turn_back_all-requires-clause-depth : goal.turn_back_all-requires-clause-depth
+turn_back_all-requires-clause-depth g c = c.requires.depth
 
 pub item_bound-requires-clause-walks : goal.item_bound-requires-clause-walks
 item_bound-requires-clause-walks g c = c.requires.walks

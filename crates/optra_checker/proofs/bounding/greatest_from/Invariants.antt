@@ -1,6 +1,6 @@
 use Rattle.std.proofs.Common.{take}
 use Rattle.optra_node.specs.Trees.{placed, root}
-use Rattle.optra_checker.specs.BestWalks.{AreAllBest}
+use Rattle.optra_checker.specs.BestOnWay.{AreAllBest}
 use Rattle.optra_checker.specs.Bounds.{IsGreatestOf}
 use Rattle.optra_open.specs.Opens.{IsRoom}
 use Rattle.optra_open.specs.ToCome.{IsAt}

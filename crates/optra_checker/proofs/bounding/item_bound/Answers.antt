@@ -6,8 +6,8 @@ use Rattle.optra_checker.proofs.bounding.item_bound.Goals as goal
 pub leaf_bound-requires-clause-walks : goal.leaf_bound-requires-clause-walks
 leaf_bound-requires-clause-walks g c = c.requires.walks
 
-pub bring_all-requires : goal.bring_all-requires
-bring_all-requires g c = c.requires.walks
+pub advance_all-requires : goal.advance_all-requires
+advance_all-requires g c = c.requires.walks
 
 pub leaf_bound-requires-clause-instance : goal.leaf_bound-requires-clause-instance
 leaf_bound-requires-clause-instance g c = c.requires.instance

@@ -22,7 +22,7 @@ returns-in-Some-clause-added g c =
     let rows = g.F.RowFamily.rows_of c.args.rows.now c.args.net.now in
     let total = total_of g.F.Row.Ord.cmp in
     let bid = c.args.bid.now in
-    let P = λ (entries : List Entry). IfOk c.legs_fit.result (λ fits. IsTrue fits → (q : g.row.F-Row.Denot) → total c.legs_fit.new.totals q ≡ total c.args.totals.now q + load_of rows q entries) in
+    let P = λ (entries : List Entry). IfOk c.legs_fit.result (λ fits. IsTrue fits → (q : g.row.F-Row.Denot) → total c.legs_fit.new.totals.sums q ≡ total c.args.totals.now.sums q + load_of rows q entries) in
     let legs_are = (λ i. map (λ (leg : Leg). (c.kind_of.ensures i, leg)) (c.legs_of.ensures i)) ∙ sym (append-nil (map (λ (leg : Leg). (bid.path.kind, leg)) c.in-Some.walk)) ∙ ap (λ o. entries_of (bid ∷ []) (o ∷ [])) (sym c.in-Some.is) in
     subst P legs_are c.legs_fit.ensures.added
 
@@ -31,6 +31,6 @@ returns-in-Some-clause-within g c =
     let rows = g.F.RowFamily.rows_of c.args.rows.now c.args.net.now in
     let total = total_of g.F.Row.Ord.cmp in
     let bid = c.args.bid.now in
-    let P = λ (entries : List Entry). IfOk c.legs_fit.result (λ fits. IsTrue fits ↔ AreWithin rows (λ q. total c.args.totals.now q + load_of rows q entries)) in
+    let P = λ (entries : List Entry). IfOk c.legs_fit.result (λ fits. IsTrue fits ↔ AreWithin rows (λ q. total c.args.totals.now.sums q + load_of rows q entries)) in
     let legs_are = (λ i. map (λ (leg : Leg). (c.kind_of.ensures i, leg)) (c.legs_of.ensures i)) ∙ sym (append-nil (map (λ (leg : Leg). (bid.path.kind, leg)) c.in-Some.walk)) ∙ ap (λ o. entries_of (bid ∷ []) (o ∷ [])) (sym c.in-Some.is) in
     subst P legs_are c.legs_fit.ensures.within

@@ -18,7 +18,7 @@ returns-then-not-branch-clause-within g c =
     let legs = c.args.legs.now in (
       λ t. absurd (no_true t),
       λ within. absurd (not_both c.in_ok-leg_fits.field-0 c.if-not-branch.true (c.in_ok-leg_fits.ensures.within.1
-          (within_below rows (total c.leg_fits.new.totals) (λ q. total c.args.totals.now q + load_of rows q (map (λ (leg : Leg). (kind, leg)) legs))
+          (within_below rows (total c.leg_fits.new.totals.sums) (λ q. total c.args.totals.now.sums q + load_of rows q (map (λ (leg : Leg). (kind, leg)) legs))
           (λ q. let a = c.in_ok-leg_fits.ensures.added q in let b = c.legs.invariant.added q in let l = legs_below rows kind q legs c.legs.leg-index any_leg c.legs-test.true in omega arith) within))),
     )
 
@@ -37,8 +37,8 @@ returns-clause-within g c =
     let kind = c.args.kind in
     let legs = c.args.legs.now in
     let all = take_all c.legs.leg-index legs c.legs-test.false in (
-      λ _. within_same rows (λ q. total c.args.totals.now q + load_of rows q (map (λ (leg : Leg). (kind, leg)) legs)) (total c.legs.totals)
-          (λ q. sym (c.legs.invariant.added q ∙ ap (λ ls. total c.args.totals.now q + load_of rows q (map (λ (leg : Leg). (kind, leg)) ls)) all)) c.legs.invariant.within,
+      λ _. within_same rows (λ q. total c.args.totals.now.sums q + load_of rows q (map (λ (leg : Leg). (kind, leg)) legs)) (total c.legs.totals.sums)
+          (λ q. sym (c.legs.invariant.added q ∙ ap (λ ls. total c.args.totals.now.sums q + load_of rows q (map (λ (leg : Leg). (kind, leg)) ls)) all)) c.legs.invariant.within,
       λ _. refl,
     )
 

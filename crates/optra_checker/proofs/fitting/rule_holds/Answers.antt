@@ -33,7 +33,7 @@ returns-then-not-branch g c =
     let within : c.bids.i < length entries = omega arith in (
       λ t. absurd (no_true t),
       λ keeps. absurd (not_both c.in_ok-entry_fits.field-0 c.if-not-branch.true (c.in_ok-entry_fits.ensures.within.1
-          (within_below rows (λ q. total c.bids.totals q + load_of rows q (entries_of (c.index-bids-i.result ∷ []) (c.index-entries-i.result ∷ []))) (λ q. load_of rows q (entries_of bids entries))
+          (within_below rows (λ q. total c.bids.totals.sums q + load_of rows q (entries_of (c.index-bids-i.result ∷ []) (c.index-entries-i.result ∷ []))) (λ q. load_of rows q (entries_of bids entries))
           (λ q. let r = c.bids.invariant.rest q in let a = load_at rows q bids entries c.bids.i c.index-bids-i.result c.index-entries-i.result l within c.index-bids-i.is c.index-entries-i.is in omega arith)
           (fits.1 (rule.0 keeps))))),
     )
@@ -51,7 +51,7 @@ bids-preserved g c =
     let added = c.in_ok-entry_fits.ensures.added fits in
     record {
       rest = λ q. let r = c.bids.invariant.rest q in let a = load_at rows q bids entries c.bids.i c.index-bids-i.result c.index-entries-i.result l within c.index-bids-i.is c.index-entries-i.is in let d = added q in omega arith;
-      within = within_same rows (total c.entry_fits.new.totals) (λ q. total c.bids.totals q + load_of rows q (entries_of (c.index-bids-i.result ∷ []) (c.index-entries-i.result ∷ []))) added (c.in_ok-entry_fits.ensures.within.0 fits);
+      within = within_same rows (total c.entry_fits.new.totals.sums) (λ q. total c.bids.totals.sums q + load_of rows q (entries_of (c.index-bids-i.result ∷ []) (c.index-entries-i.result ∷ []))) added (c.in_ok-entry_fits.ensures.within.0 fits);
     }
 
 pub returns : goal.returns
@@ -66,7 +66,7 @@ returns g c =
     let usable = choice_usable net proper bids entries c.requires in
     let fits = within_fits rows net (λ kind leg u. (g.met.F.RowFamily.lists_rows f net kind leg u).are_rows) (entries_of bids entries) usable in
     let rule = g.met.F.RowFamily.rule_by_rows f net (entries_of bids entries) proper usable in (
-      λ _. rule.1 (fits.0 (within_same rows (λ q. load_of rows q (entries_of bids entries)) (total c.bids.totals)
+      λ _. rule.1 (fits.0 (within_same rows (λ q. load_of rows q (entries_of bids entries)) (total c.bids.totals.sums)
           (λ q. let r = c.bids.invariant.rest q in let p = load_past rows q bids entries c.bids.i c.bids-test.false in omega arith) c.bids.invariant.within)),
       λ _. refl,
     )

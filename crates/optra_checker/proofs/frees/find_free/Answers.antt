@@ -11,16 +11,16 @@ search-worth-requires-clause-path g c = c.requires
 pub search-worth-requires-clause-weights : goal.search-worth-requires-clause-weights
 search-worth-requires-clause-weights g c = record { net_is = refl; kind_is = c.kind_of.ensures }
 
-pub returns-then-are_free : goal.returns-then-are_free
-returns-then-are_free g c =
+pub returns-then-attains_at_root : goal.returns-then-attains_at_root
+returns-then-attains_at_root g c =
     let net = c.args.net.now in
     let bid = c.args.bid.now in
     record {
       depth = refl;
       best = subst (λ (kind : TypeId). IsBestWorth (free_weights net kind) net bid c.in_ok-worth.worth) c.kind_of.ensures c.in_ok-worth.ensures.best;
       size = c.in_ok-worth.ensures.size;
-      walk = λ some. c.are_free.ensures.walk c.if-are_free.true;
-      fits = λ some. c.are_free.ensures.fits c.if-are_free.true;
+      walk = λ some. c.attains_at_root.ensures.walk c.if-attains_at_root.true;
+      fits = λ some. c.attains_at_root.ensures.fits c.if-attains_at_root.true;
     }
 
 pub returns : goal.returns

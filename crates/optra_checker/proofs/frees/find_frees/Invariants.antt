@@ -1,6 +1,6 @@
 -- One for each of the bids so far.
 use Rattle.std.proofs.Common.{[]}
-use Rattle.optra_checker.specs.BestWalks.{AreBestOf}
+use Rattle.optra_checker.specs.BestOnWay.{AreBestOf}
 use Rattle.optra_open.proofs.EachLemmas.{AreEach}
 use Rattle.optra_checker.proofs.frees.find_frees.Given as goal
 

@@ -2,7 +2,7 @@ use Rattle.std.proofs.Common.{◌↔◌, List, length, refl, sym, subst, rules}
 use Rattle.std.specs.Prelude.{IsTrue}
 use Rattle.optra_node.specs.declared.Decision.{Decision}
 use Rattle.optra_node.specs.declared.Item.{Item}
-use Rattle.optra_node.specs.Summaries.{Summed}
+use Rattle.optra_node.specs.Nodes.{InstanceNode}
 use Rattle.optra_node.specs.Certificates.{IsFormedItem, SplitsUndecided, EndsDead}
 use Rattle.optra_open.proofs.AtLemmas.{all_more, all_past, at_first, at_more, here_of_all, no_true, not_both}
 use Rattle.optra_checker.proofs.HereLemmas.{all_here}
@@ -22,7 +22,7 @@ pub ends_dead-dead-requires : goal.ends_dead-dead-requires
 ends_dead-dead-requires g c =
     let cmp = g.F.Row.Ord.cmp in
     let here = all_here (IsFormedItem cmp c.args.inst.net.now (length c.args.inst.bids.now)) c.args.tree.now c.items.item-index c.item-item.result c.items-test.true c.item-item.is c.requires.items in
-    record { formed = subst (λ (w : Summed g.row.F.Denot). IsFormedItem cmp w.net (length w.bids) c.item-item.result) (sym c.of-node.ensures) here }
+    record { formed = subst (λ (w : InstanceNode g.row.F.Denot). IsFormedItem cmp w.net (length w.bids) c.item-item.result) (sym c.of-node.ensures) here }
 
 pub pass-requires-clause-room : goal.pass-requires-clause-room
 pass-requires-clause-room g c = c.items.invariant.kept
@@ -43,7 +43,7 @@ returns-then-not-branch g c =
     let bids = c.args.inst.bids.now in
     let v = c.items.room.decisions.items in
     let P = λ (p : List Decision × Item g.row.F-Row.Denot). EndsDead net (g.F.RowFamily.rows_of f net) bids p.0 p.1 in
-    let told = subst (λ (w : Summed g.row.F.Denot). IsTrue c.in_ok-dead.field-0 ↔ EndsDead w.net (g.F.RowFamily.rows_of w.family w.net) w.bids w.node c.item-item.result) c.of-node.ensures c.in_ok-dead.ensures in (
+    let told = subst (λ (w : InstanceNode g.row.F.Denot). IsTrue c.in_ok-dead.field-0 ↔ EndsDead w.net (g.F.RowFamily.rows_of w.family w.net) w.bids w.node c.item-item.result) c.of-node.ensures c.in_ok-dead.ensures in (
       λ t. absurd (no_true t),
       λ all. absurd (not_both c.in_ok-dead.field-0 c.if-not-branch.true (told.1 (here_of_all c.args.tree.now c.items.item-index c.item-item.result v c.items-test.true c.item-item.is c.items.invariant.at P all))),
     )
@@ -59,7 +59,7 @@ items-preserved g c =
     let next = c.pass.new.room.decisions.items in
     let at = c.items.invariant.at in
     let P = λ (p : List Decision × Item g.row.F-Row.Denot). EndsDead net (g.F.RowFamily.rows_of f net) bids p.0 p.1 in
-    let told = subst (λ (w : Summed g.row.F.Denot). IsTrue c.in_ok-dead.field-0 ↔ EndsDead w.net (g.F.RowFamily.rows_of w.family w.net) w.bids w.node c.item-item.result) c.of-node.ensures c.in_ok-dead.ensures in
+    let told = subst (λ (w : InstanceNode g.row.F.Denot). IsTrue c.in_ok-dead.field-0 ↔ EndsDead w.net (g.F.RowFamily.rows_of w.family w.net) w.bids w.node c.item-item.result) c.of-node.ensures c.in_ok-dead.ensures in
     record {
       kept = c.in_ok-pass.ensures.room;
       at = at_more tree i c.item-item.result v c.items-test.true c.item-item.is at c.requires.whole next c.in_ok-pass.ensures.next;

@@ -3,7 +3,7 @@ use Rattle.std.specs.Prelude.{IsTrue}
 use Rattle.optra_node.specs.declared.Decision.{Decision}
 use Rattle.optra_node.specs.declared.Item.{Item}
 use Rattle.optra_node.specs.Certificates.{IsFormedItem, SplitsUndecided}
-use Rattle.optra_node.specs.Summaries.{Summed}
+use Rattle.optra_node.specs.Nodes.{InstanceNode}
 use Rattle.optra_open.proofs.AtLemmas.{all_more, all_past, at_first, at_more, here_of_all, no_true, not_both}
 use Rattle.optra_checker.proofs.HereLemmas.{all_here}
 use Rattle.optra_checker.proofs.splitting.splits_hold_from.Goals as goal
@@ -22,7 +22,7 @@ pub is_fresh-fresh-requires : goal.is_fresh-fresh-requires
 is_fresh-fresh-requires g c =
     let cmp = g.F.Row.Ord.cmp in
     let here = all_here (IsFormedItem cmp c.args.inst.net.now (length c.args.inst.bids.now)) c.args.tree.now c.items.item-index c.item-item.result c.items-test.true c.item-item.is c.requires.items in
-    subst (λ (w : Summed g.row.F.Denot). IsFormedItem cmp w.net (length w.bids) c.item-item.result) (sym c.of-node.ensures) here
+    subst (λ (w : InstanceNode g.row.F.Denot). IsFormedItem cmp w.net (length w.bids) c.item-item.result) (sym c.of-node.ensures) here
 
 pub pass-requires-clause-room : goal.pass-requires-clause-room
 pass-requires-clause-room g c = c.items.invariant.kept
@@ -33,7 +33,7 @@ pass-requires-clause-formed g c =
 
 pub pass-requires-clause-undecided : goal.pass-requires-clause-undecided
 pass-requires-clause-undecided g c =
-    subst (λ (w : Summed g.row.F.Denot). SplitsUndecided w.node c.item-item.result) c.of-node.ensures (c.is_fresh-fresh.ensures.0 c.if-not-fresh.false)
+    subst (λ (w : InstanceNode g.row.F.Denot). SplitsUndecided w.node c.item-item.result) c.of-node.ensures (c.is_fresh-fresh.ensures.0 c.if-not-fresh.false)
 
 pub returns-then-not-fresh : goal.returns-then-not-fresh
 returns-then-not-fresh g c =
@@ -41,7 +41,7 @@ returns-then-not-fresh g c =
     let bids = c.args.inst.bids.now in
     let v = c.items.room.decisions.items in
     let P = λ (p : List Decision × Item g.row.F-Row.Denot). SplitsUndecided p.0 p.1 in
-    let told = subst (λ (w : Summed g.row.F.Denot). IsTrue c.is_fresh-fresh.result ↔ SplitsUndecided w.node c.item-item.result) c.of-node.ensures c.is_fresh-fresh.ensures in (
+    let told = subst (λ (w : InstanceNode g.row.F.Denot). IsTrue c.is_fresh-fresh.result ↔ SplitsUndecided w.node c.item-item.result) c.of-node.ensures c.is_fresh-fresh.ensures in (
       λ t. absurd (no_true t),
       λ all. absurd (not_both c.is_fresh-fresh.result c.if-not-fresh.true (told.1 (here_of_all c.args.tree.now c.items.item-index c.item-item.result v c.items-test.true c.item-item.is c.items.invariant.at P all))),
     )
@@ -57,7 +57,7 @@ items-preserved g c =
     let next = c.pass.new.room.decisions.items in
     let at = c.items.invariant.at in
     let P = λ (p : List Decision × Item g.row.F-Row.Denot). SplitsUndecided p.0 p.1 in
-    let fresh = subst (λ (w : Summed g.row.F.Denot). SplitsUndecided w.node c.item-item.result) c.of-node.ensures (c.is_fresh-fresh.ensures.0 c.if-not-fresh.false) in
+    let fresh = subst (λ (w : InstanceNode g.row.F.Denot). SplitsUndecided w.node c.item-item.result) c.of-node.ensures (c.is_fresh-fresh.ensures.0 c.if-not-fresh.false) in
     record {
       kept = c.in_ok-pass.ensures.room;
       at = at_more tree i c.item-item.result v c.items-test.true c.item-item.is at c.requires.whole next c.in_ok-pass.ensures.next;

@@ -1,19 +1,19 @@
 use Rattle.optra_checker.proofs.terms.offer_at.Goals as goal
 
-pub bring_at-requires-clause-bid : goal.bring_at-requires-clause-bid
-bring_at-requires-clause-bid g c = c.requires.bid
+pub advance_at-requires-clause-bid : goal.advance_at-requires-clause-bid
+advance_at-requires-clause-bid g c = c.requires.bid
 
-pub bring_at-requires-clause-latest : goal.bring_at-requires-clause-latest
-bring_at-requires-clause-latest g c = c.requires.latest
+pub advance_at-requires-clause-latest : goal.advance_at-requires-clause-latest
+advance_at-requires-clause-latest g c = c.requires.latest
 
-pub bring_at-requires-clause-ascending : goal.bring_at-requires-clause-ascending
-bring_at-requires-clause-ascending g c = c.requires.ascending
+pub advance_at-requires-clause-ascending : goal.advance_at-requires-clause-ascending
+advance_at-requires-clause-ascending g c = c.requires.ascending
 
-pub bring_at-requires-clause-proper : goal.bring_at-requires-clause-proper
-bring_at-requires-clause-proper g c = c.requires.proper
+pub advance_at-requires-clause-proper : goal.advance_at-requires-clause-proper
+advance_at-requires-clause-proper g c = c.requires.proper
 
-pub bring_at-requires-clause-walks : goal.bring_at-requires-clause-walks
-bring_at-requires-clause-walks g c = c.requires.walks
+pub advance_at-requires-clause-walks : goal.advance_at-requires-clause-walks
+advance_at-requires-clause-walks g c = c.requires.walks
 
 pub offer_of-requires-clause-bid : goal.offer_of-requires-clause-bid
 offer_of-requires-clause-bid g c = c.requires.bid

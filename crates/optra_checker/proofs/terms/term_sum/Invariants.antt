@@ -1,5 +1,5 @@
 use Rattle.std.proofs.Common.{IfSome}
-use Rattle.optra_checker.specs.BestWalks.{AreAllBest}
+use Rattle.optra_checker.specs.BestOnWay.{AreAllBest}
 use Rattle.optra_checker.specs.Leaves.{AreTerms, IsSumSize}
 use Rattle.optra_checker.proofs.terms.term_sum.Given as goal
 

@@ -11,7 +11,7 @@ use Rattle.optra_open.proofs.leaf_prices.capacity_price.Goals as goal
 
 pub times-total-requires : goal.times-total-requires
 times-total-requires g c =
-    let rows = g.F.RowFamily.rows_of c.args.rows.now c.args.net.now in
+    let rows = g.F.RowFamily.rows_of c.args.rows.now c.args.inst.net.now in
     let e = c.entry-item.result in
     let price = subst (IsPrice rows) (sym c.entry-item.is) (c.requires c.entries.entry-index e c.entries-test.true) in
     let range : IsRowPrice e.1 = (let low = price.least in omega (arith, ints), price.most) in
@@ -20,12 +20,12 @@ times-total-requires g c =
 pub overflow_add-total : goal.overflow_add-total
 overflow_add-total g c =
     let f = c.args.rows.now in
-    let net = c.args.net.now in
+    let net = c.args.inst.net.now in
     let rows = g.F.RowFamily.rows_of f net in
     let e = c.entry-item.result in
     let price = subst (IsPrice rows) (sym c.entry-item.is) (c.requires c.entries.entry-index e c.entries-test.true) in
     let range : IsRowPrice e.1 = (let low = price.least in omega (arith, ints), price.most) in
-    let capacity = g.met.F.RowFamily.capacity_fits f net e.0 c.laws.ensures price.is_row in
+    let capacity = g.met.F.RowFamily.capacity_fits f net e.0 c.args.inst.proper price.is_row in
     let one = c.cap.ensures in
     let inv = c.entries.invariant in
     let total = to_z w128 c.entries.total-bits in
@@ -38,12 +38,12 @@ overflow_add-total g c =
 pub entries-preserved : goal.entries-preserved
 entries-preserved g c =
     let f = c.args.rows.now in
-    let net = c.args.net.now in
+    let net = c.args.inst.net.now in
     let rows = g.F.RowFamily.rows_of f net in
     let e = c.entry-item.result in
     let price = subst (IsPrice rows) (sym c.entry-item.is) (c.requires c.entries.entry-index e c.entries-test.true) in
     let range : IsRowPrice e.1 = (let low = price.least in omega (arith, ints), price.most) in
-    let capacity = g.met.F.RowFamily.capacity_fits f net e.0 c.laws.ensures price.is_row in
+    let capacity = g.met.F.RowFamily.capacity_fits f net e.0 c.args.inst.proper price.is_row in
     let one = c.cap.ensures in
     let inv = c.entries.invariant in
     let total = to_z w128 c.entries.total-bits in
@@ -64,5 +64,5 @@ entries-preserved g c =
 
 pub returns-clause-value : goal.returns-clause-value
 returns-clause-value g c =
-    let rows = g.F.RowFamily.rows_of c.args.rows.now c.args.net.now in
+    let rows = g.F.RowFamily.rows_of c.args.rows.now c.args.inst.net.now in
     c.entries.invariant.value ∙ ap (capacity_price rows) (take_all c.entries.entry-index c.args.prices.now c.entries-test.false)

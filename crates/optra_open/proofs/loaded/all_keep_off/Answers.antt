@@ -1,9 +1,9 @@
 -- One more leg.
-use Rattle.std.proofs.Common.{false, arith}
+use Rattle.std.proofs.Common.{false, arith, refl}
 use Rattle.optra_walk.specs.declared.Action.TheVariants.{Pass}
 use Rattle.optra_walk.specs.declared.Leg.{Leg}
 use Rattle.optra_open.specs.Loaded.{KeepsOff}
-use Rattle.optra_open.proofs.AtLemmas.{no_true}
+use Rattle.optra_open.proofs.AtLemmas.{no_true, not_both}
 use Rattle.optra_open.proofs.EachLemmas.{all_next_at, all_past}
 use Rattle.optra_open.proofs.loaded.all_keep_off.Goals as goal
 
@@ -22,10 +22,10 @@ keeps_off-requires-clause-usable g c = c.requires.usable c.legs.leg-index any_le
 pub legs-preserved : goal.legs-preserved
 legs-preserved g c =
     all_next_at (KeepsOff g.F.Row.Ord.cmp (g.F.RowFamily.rows_of c.args.rows.now c.args.net.now) c.args.kind c.args.loaded.now) c.args.legs.now c.legs.leg-index any_leg c.legs-test.true
-    c.legs.invariant (c.keeps_off.ensures c.if-not-keeps_off.false)
+    c.legs.invariant (c.keeps_off.ensures.0 c.if-not-keeps_off.false)
 
 pub returns-then-not-keeps_off : goal.returns-then-not-keeps_off
-returns-then-not-keeps_off g c t = absurd (no_true t)
+returns-then-not-keeps_off g c = (λ t. absurd (no_true t), λ all. absurd (not_both c.keeps_off.result c.if-not-keeps_off.true (c.keeps_off.ensures.1 (all c.legs.leg-index any_leg c.legs-test.true))))
 
 pub returns : goal.returns
-returns g c t = all_past (KeepsOff g.F.Row.Ord.cmp (g.F.RowFamily.rows_of c.args.rows.now c.args.net.now) c.args.kind c.args.loaded.now) c.args.legs.now c.legs.leg-index c.legs-test.false c.legs.invariant
+returns g c = (λ t. all_past (KeepsOff g.F.Row.Ord.cmp (g.F.RowFamily.rows_of c.args.rows.now c.args.net.now) c.args.kind c.args.loaded.now) c.args.legs.now c.legs.leg-index c.legs-test.false c.legs.invariant, λ all. refl)

@@ -1,4 +1,4 @@
-use Rattle.std.proofs.Common.{◌++◌, ◌∷◌, [], refl, sym, ◌∙◌, ap, inr, subst, take}
+use Rattle.std.proofs.Common.{◌≡◌, ◌++◌, ◌∷◌, [], length, arith, refl, sym, ◌∙◌, ap, inr, subst, take}
 use Rattle.std.proofs.lemmas.List.{take-append-le}
 use Rattle.optra_node.specs.declared.Decision.{Decision}
 use Rattle.optra_node.specs.Trees.{decide, decide_not, children}
@@ -27,4 +27,4 @@ returns-in-Split-clause-kept g c =
     let node = c.args.room.now.decisions.items in
     let yes : Decision = decide c.in-Split.bid c.in-Split.leg in
     on_ok_weaker c.decide.result
-    (λ is k h. ap (take k) is ∙ take-append-le k node (yes ∷ []) (subst (λ item. AreKept node item k) c.in-Split.is h)) c.decide.ensures.more
+    (λ is k h. ap (take k) is ∙ take-append-le k node (yes ∷ []) (let all : k ≡ length node = subst (λ item. AreKept node item k) c.in-Split.is h in omega (arith, all))) c.decide.ensures.more

@@ -1,7 +1,7 @@
 use Rattle.std.proofs.Common.{List, sym, subst}
 use Rattle.optra_node.specs.declared.Decision.{Decision}
 use Rattle.optra_open.specs.Opens.{IsOpen}
-use Rattle.optra_open.proofs.OpenLemmas.{open_root, total_none}
+use Rattle.optra_open.proofs.OpenLemmas.{open_root}
 use Rattle.optra_open.proofs.node_room.root_room.Goals as goal
 
 pub returns-clause-room : goal.returns-clause-room
@@ -10,5 +10,5 @@ returns-clause-room g c =
     let net = c.args.inst.net.now in
     let bids = c.args.inst.bids.now in
     let rows = g.F.RowFamily.rows_of c.args.rows.now net in
-    subst (λ (node : List Decision). IsOpen cmp net rows bids node c.new-3.result c.in_ok-index.index) (sym c.new-2.ensures.items)
-    (open_root cmp net rows bids c.new-3.result c.in_ok-index.index (λ row. total_none cmp c.new-3.result row c.new-3.ensures.empty) c.in_ok-index.ensures)
+    subst (λ (node : List Decision). IsOpen cmp net rows bids node c.new-3.result.sums c.in_ok-index.index) (sym c.new-2.ensures.items)
+    (open_root cmp net rows bids c.new-3.result.sums c.in_ok-index.index c.new-3.ensures c.in_ok-index.ensures)

@@ -20,7 +20,7 @@ returns-clause-room g c =
     let few =
     totals_few g.F.Row.Ord.cmp net c.args.inst.proper rows (g.F.RowFamily.rows_used f net) (λ kind leg usable. g.met.F.RowFamily.lists_rows f net kind leg usable)
     (λ kind leg row not. g.met.F.RowFamily.unusable_uses_none f net kind leg row not) bids before formed in
-    open_pop g.F.Row.Ord.cmp net rows bids d node before room.totals c.take_decision.new.totals room.index c.take_off.new.self is c.requires.room few c.take_decision.ensures
+    open_pop g.F.Row.Ord.cmp net rows bids d node before room.totals.sums c.take_decision.new.totals.sums room.index c.take_off.new.self is c.requires.room few c.take_decision.ensures
     (c.take_off.ensures (length bids) before (subst (λ n. IsIndexOf (length bids) n room.index) is c.requires.room.indexed))
 
 pub returns-clause-last : goal.returns-clause-last
@@ -37,7 +37,7 @@ pub take_decision-requires-clause-enough : goal.take_decision-requires-clause-en
 take_decision-requires-clause-enough g c =
     let room = c.args.room.now in
     let net = c.args.inst.net.now in
-    enough g.F.Row.Ord.cmp net (g.F.RowFamily.rows_of c.args.rows.now net) c.args.inst.bids.now c.in-Some.last room.decisions.items c.pop.new.self.items room.totals c.in-Some.ensures.items c.requires.room.loads
+    enough g.F.Row.Ord.cmp net (g.F.RowFamily.rows_of c.args.rows.now net) c.args.inst.bids.now c.in-Some.last room.decisions.items c.pop.new.self.items room.totals.sums c.in-Some.ensures.items c.requires.room.loads
 
 pub returns-clause-formed : goal.returns-clause-formed
 returns-clause-formed g c =

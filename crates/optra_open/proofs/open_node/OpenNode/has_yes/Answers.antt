@@ -3,7 +3,7 @@ use Rattle.std.specs.List.{list_any}
 use Rattle.optra_node.specs.declared.Decision.{Decision}
 use Rattle.optra_open.specs.Keyed.{yes_part}
 use Rattle.optra_open.proofs.IndexLemmas.{has_yes_part}
-use Rattle.optra_open.proofs.OwnLemmas.{own_yes}
+use Rattle.optra_node.proofs.OwnLemmas.{own_yes}
 use Rattle.optra_open.proofs.open_node.OpenNode.has_yes.Goals as goal
 
 pub returns : goal.returns

@@ -33,7 +33,7 @@ returns-then-keeps_off g c =
     let used = g.F.RowFamily.rows_used self.family self.net in
     let proper = c.requires.usable.proper in
     let lists = g.met.F.RowFamily.lists_rows self.family self.net kind leg c.requires.usable in
-    let free = off_free cmp rows kind c.args.loaded.now leg (used kind leg) self.bids self.node bid c.requires.all (c.keeps_off.ensures c.if-keeps_off.true) in
+    let free = off_free cmp rows kind c.args.loaded.now leg (used kind leg) self.bids self.node bid c.requires.all (c.keeps_off.ensures.0 c.if-keeps_off.true) in
     same_from_decides c.keeps_off.result (may_have_leg self.net rows used self.bids self.node bid kind leg)
     ((λ t. record { let_by = c.let_by.ensures.0 c.if-not-let_by.false; free = free }), (λ h. c.if-keeps_off.true))
     (leg_tested self.net kind cmp rows used self.bids self.node bid leg lists)

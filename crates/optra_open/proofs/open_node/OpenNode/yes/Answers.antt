@@ -1,5 +1,6 @@
 use Rattle.std.proofs.Common.{◌∙◌, ap, length, ◌<◌, sym, subst}
-use Rattle.optra_node.specs.Summaries.{Summed, decisions_for}
+use Rattle.optra_node.specs.OwnDecisions.{decisions_for}
+use Rattle.optra_node.specs.Nodes.{InstanceNode}
 use Rattle.optra_open.specs.Keyed.{yes_part}
 use Rattle.optra_open.proofs.IndexLemmas.{yes_within}
 use Rattle.optra_open.proofs.open_node.OpenNode.yes.Goals as goal
@@ -12,4 +13,4 @@ returns g c =
 pub yes_of-requires : goal.yes_of-requires
 yes_of-requires g c =
     let inside = c.self.inside in
-    yes_within (length inside.inst.bids.now) inside.room.now.decisions.items inside.room.now.index c.self.invariant.indexed c.args.bid (subst (λ (v : Summed g.row.F.Denot). c.args.bid < length v.bids) (sym c.self.view_is) c.requires)
+    yes_within (length inside.inst.bids.now) inside.room.now.decisions.items inside.room.now.index c.self.invariant.indexed c.args.bid (subst (λ (v : InstanceNode g.row.F.Denot). c.args.bid < length v.bids) (sym c.self.view_is) c.requires)

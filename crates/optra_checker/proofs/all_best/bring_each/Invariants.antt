@@ -1,6 +1,0 @@
-use Rattle.optra_checker.specs.BestWalks.{AreAllBest}
-use Rattle.optra_checker.proofs.all_best.bring_each.Given as goal
-
-abbrev pub invariant-bids : goal.invariant-bids
-invariant-bids g l =
-    AreAllBest l.node.net (g.F.RowFamily.rows_of l.node.family l.node.net) (g.F.RowFamily.rows_used l.node.family l.node.net) l.node.bids l.node.node l.walks
