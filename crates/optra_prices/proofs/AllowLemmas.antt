@@ -1,10 +1,11 @@
 -- Tables of arcs that are brought to a node, arc by arc and bid by bid.
-use Rattle.std.proofs.Common.{◌≡◌, ◌≢◌, ℕ, ◌+◌, ◌≤◌, ◌<◌, Bool, true, false, List, [], length, set, get_or, Some, slice_get, refl, sym, ap, ◌∙◌, subst, arith, inl, inr, ℤ}
-use Rattle.std.specs.Prelude.{◌↔◌, ◌||◌, All, neg_ℤ}
+use Rattle.std.proofs.Common.{◌≡◌, ◌≢◌, ℕ, ◌+◌, ◌≤◌, ◌<◌, Bool, true, false, List, [], length, set, get_or, Option, Some, slice_get, unwrap_or, refl, sym, ap, ◌∙◌, subst, arith, inl, inr, ℤ}
+use Rattle.std.specs.Prelude.{◌↔◌, ◌||◌, ◌⊎◌, All, neg_ℤ}
 use Rattle.std.specs.declared.cmp.Ordering.{Ordering}
 use Rattle.std.proofs.lemmas.Bool.{cases_eq}
+use Rattle.std.proofs.lemmas.List.{get_or-set_other}
 use Rattle.std.proofs.lemmas.List.Elements.{All-nil, All-weaker}
-use Rattle.std.proofs.lemmas.Option.{same_Some, slice_get_within, slice_get-get_or}
+use Rattle.std.proofs.lemmas.Option.{same_Some, slice_get_within, slice_get-get_or, unwrap_or-slice_get}
 use Rattle.optra_network.specs.Net.{Net, IsProper}
 use Rattle.optra_network.specs.declared.TypeId.{TypeId}
 use Rattle.optra_bid.specs.Specs.{IsBetween}
@@ -15,15 +16,15 @@ use Rattle.optra_graph.specs.Timed.{Timed, IsGraphOf, leg_of}
 use Rattle.optra_node.specs.declared.Decision.{Decision}
 use Rattle.optra_node.specs.Nodes.{IsBlocked, kind_at, yes_load, others_load}
 use Rattle.optra_node.specs.Spans.{Lets, IsLetBy, IsLegOk}
-use Rattle.optra_node.specs.Summaries.{decisions_for}
-use Rattle.optra_node.proofs.SummaryLemmas.{all_for, load_split}
+use Rattle.optra_node.specs.OwnDecisions.{decisions_for, AreAt}
+use Rattle.optra_node.proofs.OwnLemmas.{all_for, load_split}
 use Rattle.optra_prices.specs.Allowing.{IsToldAnew, AreToldAnew, IsTableAnew, IsTableFor, RoomTells, IsLetMark}
 use Rattle.optra_prices.specs.Arcs.{IsArcValue}
-use Rattle.optra_prices.specs.Claims.{AreClaims, placed_uses, AreAt}
+use Rattle.optra_prices.specs.Claims.{AreClaims, placed_uses}
 use Rattle.optra_prices.specs.Keepings.{IsBrought, AreBrought}
 use Rattle.optra_prices.specs.Marks.{IsMark}
 use Rattle.optra_prices.specs.Rooms.{IsTold, IsRoom, HasRoomFor, HasRoomForAll}
-use Rattle.optra_prices.specs.Tables.{Extends, AreTouches, group_at}
+use Rattle.optra_prices.specs.Tables.{Extends, AreTouches, group_at, no_arc}
 use Rattle.optra_prices.specs.Terms.{Setting, setting, AreTerms, AreMarked}
 use Rattle.optra_prices.specs.Standings.{Covers, IsArcTable, HoldArcs, IsBidTable, AreTables}
 use Rattle.optra_prices.specs.Uses.{AddsUses, TakesUses}
@@ -282,6 +283,19 @@ pub neither : (a b : Bool) → (a || b) ≡ false → (a ≡ false) × (b ≡ fa
 neither true b e = cc
 neither false b e = (refl, e)
 
+pub get_or_by : (xs ys : List ArcTerm) (k : ℕ) (d : ArcTerm) → slice_get xs k ≡ slice_get ys k → get_or xs k d ≡ get_or ys k d
+get_or_by xs ys k d e = sym (unwrap_or-slice_get xs k d) ∙ ap (λ (o : Option ArcTerm). unwrap_or o d) e ∙ unwrap_or-slice_get ys k d
+
+-- an arc that changed so far did not change back, or this one changed
+pub changed_at : (old arcs new : List ArcTerm) (k : ℕ) (after : ArcTerm) → k < length arcs → get_or arcs k no_arc ≡ get_or old k no_arc → new ≡ set arcs k after
+    → {changed here : Bool} → (changed ≡ true → (j : ℕ) × (j < k) × (get_or arcs j no_arc ≡ get_or old j no_arc → ⊥)) → (here ≡ true → get_or new k no_arc ≡ get_or arcs k no_arc → ⊥)
+    → (changed ≡ true) ⊎ (here ≡ true) → (j : ℕ) × (j < k + 1) × (get_or new j no_arc ≡ get_or old j no_arc → ⊥)
+changed_at old arcs new k after within same put so_far now (inl e) =
+    let some = so_far e in
+    let apart : some.0 ≢ k = (λ is. let l = some.1 in absurd (omega arith)) in
+    (some.0, (let l = some.1 in omega arith), λ is. some.2 (sym (get_or-set_other arcs k some.0 after no_arc apart) ∙ sym (ap (λ (xs : List ArcTerm). get_or xs some.0 no_arc) put) ∙ is))
+changed_at old arcs new k after within same put so_far now (inr e) = (k, omega arith, λ is. now e (is ∙ sym same))
+
 -- what has changed of the first tables is known, and the others are as they were
 pub record AreBroughtUpTo (n : ℕ) (told changed : List Bool) (old new : List BidTable) : Type 0 where
   pub count_is : length new ≡ length old
@@ -294,14 +308,15 @@ pub brought_none : (told : List Bool) (tables : List BidTable) → AreBroughtUpT
 brought_none told tables = record { count_is = refl; changed_count = refl; done = λ number c before after l x b a. absurd (omega arith); left = λ number l. refl; told_left = λ number l. refl }
 
 -- a table that stays
-pub brought_skip : (n : ℕ) (told changed : List Bool) (old new : List BidTable) → AreBroughtUpTo n told changed old new → AreBroughtUpTo (n + 1) told changed old new
-brought_skip n told changed old new so_far = record {
+pub brought_skip : (n : ℕ) (told changed : List Bool) (old new : List BidTable) → slice_get changed n ≡ Some false → AreBroughtUpTo n told changed old new → AreBroughtUpTo (n + 1) told changed old new
+brought_skip n told changed old new untold so_far = record {
   count_is = so_far.count_is;
   changed_count = so_far.changed_count;
   done = λ number x y z l x_at y_at z_at. elim (cases_eq number n) as (λ _. IsBrought x y z) [
     | inl e ↦
         let same : y ≡ z = same_Some y z (sym y_at ∙ sym (so_far.left number (omega arith)) ∙ z_at) in
-        subst (λ (u : BidTable). IsBrought x y u) same (record { graph = refl; groups = refl; arcs = λ e. refl; forced = λ e. refl })
+        let unchanged : x ≡ false = same_Some x false (sym x_at ∙ ap (slice_get changed) e ∙ untold) in
+        subst (λ (u : BidTable). IsBrought x y u) same (record { graph = refl; groups = refl; arcs = λ w. refl; forced = λ w. refl; other = λ yes w v. cc (unchanged, yes) })
     | inr apart ↦ so_far.done number x y z (omega arith) x_at y_at z_at
   ];
   left = λ number l. so_far.left number (omega arith);

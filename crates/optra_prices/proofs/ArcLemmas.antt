@@ -18,7 +18,8 @@ use Rattle.optra_node.specs.Nodes.{has_yes, IsAllowed}
 use Rattle.optra_node.specs.Spans.{IsLegOk}
 use Rattle.optra_node.specs.Duals.{PriceList, sum_of, leg_price, reduced_value, IsTerm, IsStuck}
 use Rattle.optra_node.proofs.SumLemmas.{sum_of-cons}
-use Rattle.optra_prices.specs.Arcs.{leg_value, AreWeighed, IsFound, path_reply}
+use Rattle.optra_walk.specs.Shares.{leg_value}
+use Rattle.optra_prices.specs.Arcs.{AreWeighed, IsFound, path_reply}
 use Rattle.optra_prices.specs.Replies.{IsFirstGreatest, IsReply}
 use Rattle.optra_prices.proofs.ValueLemmas.{walk_sum}
 

@@ -16,9 +16,9 @@ use Rattle.optra_bid.specs.declared.bids.Bid.{Bid}
 use Rattle.optra_walk.specs.Families.{Rows, ListsRows, TellsApart}
 use Rattle.optra_node.specs.declared.Decision.{Decision}
 use Rattle.optra_node.specs.Nodes.{yes_uses, yes_load}
-use Rattle.optra_node.specs.Summaries.{is_for, decisions_for}
+use Rattle.optra_node.specs.OwnDecisions.{decisions_for, AreAt}
 use Rattle.optra_node.proofs.RowLemmas.{equal_is}
-use Rattle.optra_prices.specs.Claims.{Claims, ClaimsMore, IsClaim, AreClaims, claim_uses, touches_at, placed_uses, AreAt, ArePlacesByBid}
+use Rattle.optra_prices.specs.Claims.{Claims, ClaimsMore, IsClaim, AreClaims, claim_uses, touches_at, placed_uses}
 use Rattle.optra_prices.specs.Holdings.{part_of}
 use Rattle.optra_prices.specs.Tables.{IsNumbering, number_in}
 use Rattle.optra_prices.specs.Uses.{touch_use, touch_uses}
@@ -146,28 +146,3 @@ placed_within rows bids numbered node claims are (place ∷ places) (d ∷ decis
     let there = zip_at (IsClaim rows bids numbered) node claims are place d first in
     All-cons (λ (p : ℕ). p < length claims) place places (slice_get_within claims place there.0 there.1)
     (placed_within rows bids numbered node claims are places decisions (same_rest (slice_get node place) (Some d) (map (slice_get node) places) (map Some decisions) ok))
-
--- ---- places by bid
--- the place of the next decision goes to the list of its bid
-pub places_more : (bids : ℕ) (node : List Decision) (n : ℕ) (z : Decision) (lists : List (List ℕ)) (list : List ℕ) → n < length node → (get_or node n z).bid < bids → ArePlacesByBid bids node (take n node) lists
-    → list ≡ get_or lists (get_or node n z).bid [] ++ n ∷ [] → ArePlacesByBid bids node (take (n + 1) node) (set lists (get_or node n z).bid list)
-places_more bids node n z lists list l within is made = record {
-  count = length-set lists d.bid list ∙ is.count;
-  each = λ bid m. elim (eqb_tells d.bid bid) as (λ _. AreAt node (get_or (set lists d.bid list) bid []) (decisions_for (take (n + 1) node) bid)) [
-    | inl (test, same) ↦
-        let count = is.count in
-        let written : get_or (set lists d.bid list) bid [] ≡ get_or lists bid [] ++ n ∷ [] =
-        ap (λ (k : ℕ). get_or (set lists d.bid list) k []) (sym same) ∙ get_or-set_same lists d.bid list [] (omega (arith, within, count)) ∙ made ∙ ap (λ (k : ℕ). get_or lists k [] ++ n ∷ []) same
-        in
-        ap (map (slice_get node)) written ∙ map_push (slice_get node) (get_or lists bid []) n ∙ ap (λ (xs : List (Option Decision)). xs ++ slice_get node n ∷ []) (is.each bid m)
-        ∙ ap (λ (o : Option Decision). map Some (decisions_for (take n node) bid) ++ o ∷ []) (slice_get-get_or node n z l) ∙ sym (map_push Some (decisions_for (take n node) bid) d) ∙ ap (map Some) (sym (more bid true test))
-    | inr (test, other) ↦
-        ap (map (slice_get node)) (get_or-set_other lists d.bid bid list [] (λ e. other (sym e))) ∙ is.each bid m ∙ ap (map Some) (sym (more bid false test ∙ append-nil (decisions_for (take n node) bid)))
-  ];
-}
-  where
-    d : Decision
-    d = get_or node n z
-
-    more : (bid : ℕ) (b : Bool) → nat_eq d.bid bid ≡ b → decisions_for (take (n + 1) node) bid ≡ decisions_for (take n node) bid ++ cond b (d ∷ []) []
-    more bid b e = filter_more (is_for bid) node n z l ∙ ap (λ (c : Bool). decisions_for (take n node) bid ++ cond c (d ∷ []) []) e

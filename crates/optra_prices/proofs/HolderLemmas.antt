@@ -1,6 +1,6 @@
 -- Bids that are added to those that have the groups of their arcs, and those to which the groups that fell lead.
 use Rattle.std.proofs.Common.{◌≡◌, ℕ, zero, suc, ◌+◌, ◌≤◌, ◌<◌, Bool, true, false, List, [], ◌∷◌, ◌++◌, ◌-◌, length, take, replicate, set, get_or, Some, slice_get, refl, sym, ap, ◌∙◌, subst, arith, inl, inr}
-use Rattle.std.specs.Prelude.{◌||◌, All, Contains, slice_index}
+use Rattle.std.specs.Prelude.{◌||◌, ◌⊎◌, All, Contains, slice_index}
 use Rattle.std.proofs.lemmas.Bool.{cases_lt, cases_eq}
 use Rattle.std.proofs.lemmas.List.{get_or-set_same, get_or-set_other, get_or_append_left, get_or_default, get_or_past, get_or_push, length-set, length_push, take_all}
 use Rattle.std.proofs.lemmas.List.Elements.{All-weaker}
@@ -28,6 +28,10 @@ all_groups P (arc ∷ arcs) each (suc k) d l = all_groups P arcs (λ j m. each (
 pub neither : (a b : Bool) → (a || b) ≡ false → (a ≡ false) × (b ≡ false)
 neither false b e = (refl, e)
 neither true b e = cc
+
+pub one_of : (a b : Bool) → (a || b) ≡ true → (a ≡ true) ⊎ (b ≡ true)
+one_of true b e = inl refl
+one_of false b e = inr e
 
 -- arcs that keep their groups
 pub same_groups : (old new : List ArcTerm) → length new ≡ length old → ((k : ℕ) (before after : ArcTerm) → slice_get old k ≡ Some before → slice_get new k ≡ Some after → after.group ≡ before.group) → groups_of new ≡ groups_of old

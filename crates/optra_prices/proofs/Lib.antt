@@ -39,7 +39,6 @@ pub mod LevelLemmas
 pub mod ColumnLemmas
 pub mod PathLemmas
 pub mod UseLemmas
-pub mod CountLemmas
 pub mod PairLemmas
 pub mod NarrowLoadLemmas
 pub mod KeyLemmas

@@ -1,5 +1,5 @@
 -- A search in 64 bits finds what one at the weights themselves does.
-use Rattle.std.proofs.Common.{◌≡◌, ℕ, ◌<◌, Bool, List, [], ◌∷◌, length, get_or, refl, ◌∙◌, sym, subst, arith, ℤ, pos, ◌+ℤ◌, ◌-ℤ◌, ◌≤ℤ◌, inl, inr}
+use Rattle.std.proofs.Common.{◌≡◌, ℕ, ◌<◌, ◌≤◌, List, [], length, get_or, refl, ◌∙◌, sym, subst, arith, ℤ, pos, ◌+ℤ◌, ◌-ℤ◌, ◌≤ℤ◌, inl, inr}
 use Rattle.std.specs.Prelude.{All, FitsSigned, neg_ℤ}
 use Rattle.std.specs.Int.{w64, int_wrapping_sub}
 use Rattle.std.proofs.lemmas.Bool.{cases_lt}
@@ -7,28 +7,15 @@ use Rattle.std.proofs.lemmas.Int.{ints, int_wrap_fits, wrapping_sub_is}
 use Rattle.std.proofs.lemmas.List.{get_or_past}
 use Rattle.optra_bid.specs.Specs.{IsBetween}
 use Rattle.optra_dag.specs.NarrowSums.{IsWithin}
-use Rattle.optra_dag.specs.Paths.{Graph, IsFirstBest, LeadsToEnd, to_of, weight_of}
+use Rattle.optra_dag.specs.Agreeing.{AgreeBelow}
 use Rattle.optra_prices.specs.Arcs.{IsArcValue}
 use Rattle.optra_prices.specs.Columns.{IsColumns}
-use Rattle.optra_prices.specs.Tables.{IsGroupPrice, AreUpTo, AreWeighedTo, weight_by, narrow_weight_by, no_arc}
+use Rattle.optra_prices.specs.NarrowArcs.{PricedArcs, priced_arcs}
+use Rattle.optra_prices.specs.Tables.{allows_by, IsGroupPrice, AreUpTo, AreWeighedTo, weight_by, narrow_weight_by, no_arc}
 use Rattle.optra_prices.specs.Standings.{IsMost}
 use Rattle.optra_prices.specs.declared.columns.Columns.{Columns}
 use Rattle.optra_prices.specs.ArcTerms.{ArcTerm}
 use Rattle.optra_prices.specs.declared.numbering.Groups.{Groups}
-
-module _ (g : Graph) (allows : ℕ → Bool) (weight weight' : ℕ → ℤ) (same : (k : ℕ) → k < length g.arcs → weight' k ≡ weight k) where
-  weighs_same : (n : ℕ) (p : List ℕ) → LeadsToEnd g allows n p → weight_of weight' p ≡ weight_of weight p
-  weighs_same n [] h = refl
-  weighs_same n (k ∷ p) h = let e = same k h.0 in let f = weighs_same (to_of g k) p h.3 in cc
-
-  -- where the arcs weigh the same, the first best path is the same
-  pub best_same : (sum : ℤ) (path : List ℕ) → IsFirstBest g allows weight sum path → IsFirstBest g allows weight' sum path
-  best_same sum path h = record {
-    path = h.path;
-    sum = weighs_same 0 path h.path.leads ∙ h.sum;
-    greatest = λ q w. subst (λ z. z ≤ℤ sum) (sym (weighs_same 0 q w.leads)) (h.greatest q w);
-    first = λ q w e. h.first q w (sym (weighs_same 0 q w.leads) ∙ e);
-  }
 
 -- a value less a price stays within 64 bits
 subtracts : (value price : ℤ) → IsArcValue value → IsGroupPrice price → int_wrapping_sub w64 value price ≡ value -ℤ price
@@ -70,6 +57,16 @@ weighed_to values high most arcs grouped range are up e = record {
 -- in 64 bits an arc weighs what it does
 pub narrow_same : (most : ℕ) (arcs : List ArcTerm) (grouped : List ℤ) → AreWeighedTo most arcs grouped → (k : ℕ) → k < length arcs → narrow_weight_by arcs grouped k ≡ weight_by arcs grouped k
 narrow_same most arcs grouped is k l = subtracts (get_or arcs k no_arc).value (get_or grouped (get_or arcs k no_arc).group (pos 0)) (is.values k no_arc l) (price_in grouped (get_or arcs k no_arc).group is.range)
+
+-- the arcs priced in 64 bits agree with the arcs at these prices
+pub narrow_agrees : (most n : ℕ) (arcs : List ArcTerm) (grouped : List ℤ) (w : PricedArcs) → AreWeighedTo most arcs grouped → n ≡ length arcs → w ≡ priced_arcs arcs grouped
+    → AgreeBelow n (allows_by arcs) (weight_by arcs grouped) (allows_by w.arcs) (narrow_weight_by w.arcs w.grouped)
+narrow_agrees most n arcs grouped w is count e =
+    subst (λ (v : PricedArcs). AgreeBelow n (allows_by arcs) (weight_by arcs grouped) (allows_by v.arcs) (narrow_weight_by v.arcs v.grouped)) (sym e)
+    (record { allowed = λ k l. refl; weighed = λ k l. narrow_same most arcs grouped is k (subst (λ m. k < m) count l) })
+
+pub narrow_asked : (n : ℕ) (arcs : List ArcTerm) (grouped : List ℤ) (w : PricedArcs) → n ≡ length arcs → w ≡ priced_arcs arcs grouped → n ≤ length w.arcs
+narrow_asked n arcs grouped w count e = subst (λ (v : PricedArcs). n ≤ length v.arcs) (sym e) (omega arith)
 
 -- no group costs more than the highest price so far
 pub columns_up : (groups : Groups) (c : Columns) → IsColumns groups c → AreUpTo c.highest c.grouped.items

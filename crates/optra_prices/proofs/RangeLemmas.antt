@@ -1,11 +1,10 @@
 -- Prices within their ranges, and products of them, as they are in numbers of so many bits.
-use Rattle.std.proofs.Common.{◌≡◌, ℕ, ◌*◌, ◌<◌, ◌≤◌, sym, ap, ◌∙◌, subst, arith, w64, to_z, of_z}
+use Rattle.std.proofs.Common.{◌≡◌, ℕ, ◌*◌, ◌≤◌, sym, ap, ◌∙◌, subst, arith, w64, to_z, of_z}
 use Rattle.std.specs.Prelude.{ℤ, pos, negsuc, ◌+ℤ◌, ◌-ℤ◌, ◌*ℤ◌, ◌≤ℤ◌, FitsSigned}
 use Rattle.std.specs.Int.{w128}
 use Rattle.std.proofs.Math.Nat.{mul-le-mul_left}
 use Rattle.std.proofs.lemmas.Int.{ints, to_z-of_z}
-use Rattle.optra_bid.specs.Specs.{IsRate}
-use Rattle.optra_prices.specs.Bounds.{IsArcCents, IsOffPrice, IsTimePrice, IsCapacityPrice, IsWholePrice}
+use Rattle.optra_prices.specs.Bounds.{IsCapacityPrice, IsWholePrice}
 use Rattle.optra_prices.specs.Tables.{IsRowPrice}
 
 -- a product lies within the bounds of its factors
@@ -14,15 +13,6 @@ product_within most (pos p) n low high = let h : p ≤ most = omega (arith, ints
 product_within most (negsuc p) n low high = absurd (omega (arith, ints))
 
 -- a number that fits is itself again
-pub rate_same : (z : ℤ) → IsRate z → to_z w64 (of_z w64 z) ≡ z
-rate_same z range = let a = range.0 in let b = range.1 in let fits : FitsSigned w64 z = omega (arith, ints) in to_z-of_z w64 z fits
-
-pub time_same : (z : ℤ) → IsTimePrice z → to_z w64 (of_z w64 z) ≡ z
-time_same z range = let a = range.0 in let b = range.1 in let fits : FitsSigned w64 z = omega (arith, ints) in to_z-of_z w64 z fits
-
-pub arc_cents_same : (z : ℤ) → IsArcCents z → to_z w64 (of_z w64 z) ≡ z
-arc_cents_same z range = let a = range.0 in let b = range.1 in let fits : FitsSigned w64 z = omega (arith, ints) in to_z-of_z w64 z fits
-
 pub row_price_same : (z : ℤ) → IsRowPrice z → to_z w64 (of_z w64 z) ≡ z
 row_price_same z range = let a = range.0 in let b = range.1 in let fits : FitsSigned w64 z = omega (arith, ints) in to_z-of_z w64 z fits
 
@@ -32,54 +22,8 @@ capacity_price_same z range = let a = range.0 in let b = range.1 in let fits : F
 whole_price_same : (z : ℤ) → IsWholePrice z → to_z w128 (of_z w128 z) ≡ z
 whole_price_same z range = let a = range.0 in let b = range.1 in let fits : FitsSigned w128 z = omega (arith, ints) in to_z-of_z w128 z fits
 
-pub rate_kept : (z : ℤ) → IsRate z → IsRate (to_z w64 (of_z w64 z))
-rate_kept z range = subst IsRate (sym (rate_same z range)) range
-
 pub row_price_kept : (z : ℤ) → IsRowPrice z → IsRowPrice (to_z w64 (of_z w64 z))
 row_price_kept z range = subst IsRowPrice (sym (row_price_same z range)) range
-
--- ---- a rate times minutes
-module _ (rate x : ℤ) (n : ℕ) (range : IsRate rate) (few : n < 131072) (is : x ≡ pos n) where
-  minutes_same : to_z w64 (of_z w64 x) ≡ pos n
-  minutes_same = let fits : FitsSigned w64 x = omega (arith, ints) in to_z-of_z w64 x fits ∙ is
-
-  factors : to_z w64 (of_z w64 rate) *ℤ to_z w64 (of_z w64 x) ≡ rate *ℤ pos n
-  factors = λ i. rate_same rate range i *ℤ minutes_same i
-
-  times_within : IsTimePrice (rate *ℤ pos n)
-  times_within = let w = product_within 1000000 rate n range.0 range.1 in let a = w.0 in let b = w.1 in (a, omega (arith, ints))
-
-  times_fit : FitsSigned w64 (rate *ℤ pos n)
-  times_fit = let a = times_within.0 in let b = times_within.1 in omega (arith, ints)
-
-  pub rate_times_fit : FitsSigned w64 (to_z w64 (of_z w64 rate) *ℤ to_z w64 (of_z w64 x))
-  rate_times_fit = subst (λ (z : ℤ). FitsSigned w64 z) (sym factors) times_fit
-
-  pub rate_times_value : to_z w64 (of_z w64 (to_z w64 (of_z w64 rate) *ℤ to_z w64 (of_z w64 x))) ≡ rate *ℤ pos n
-  rate_times_value = ap (λ (z : ℤ). to_z w64 (of_z w64 z)) factors ∙ to_z-of_z w64 (rate *ℤ pos n) times_fit
-
-  pub rate_times_range : IsTimePrice (to_z w64 (of_z w64 (to_z w64 (of_z w64 rate) *ℤ to_z w64 (of_z w64 x))))
-  rate_times_range = subst IsTimePrice (sym rate_times_value) times_within
-
--- ---- the sum of two of these
-module _ (x y : ℤ) (x_range : IsTimePrice x) (y_range : IsTimePrice y) where
-  summands : to_z w64 (of_z w64 x) +ℤ to_z w64 (of_z w64 y) ≡ x +ℤ y
-  summands = λ i. time_same x x_range i +ℤ time_same y y_range i
-
-  sum_within : IsOffPrice (x +ℤ y)
-  sum_within = let a = x_range.0 in let b = x_range.1 in let c = y_range.0 in let d = y_range.1 in (omega (arith, ints), omega (arith, ints))
-
-  sum_fits : FitsSigned w64 (x +ℤ y)
-  sum_fits = let a = sum_within.0 in let b = sum_within.1 in omega (arith, ints)
-
-  pub times_sum_fits : FitsSigned w64 (to_z w64 (of_z w64 x) +ℤ to_z w64 (of_z w64 y))
-  times_sum_fits = subst (λ (z : ℤ). FitsSigned w64 z) (sym summands) sum_fits
-
-  pub times_sum_value : to_z w64 (of_z w64 (to_z w64 (of_z w64 x) +ℤ to_z w64 (of_z w64 y))) ≡ x +ℤ y
-  times_sum_value = ap (λ (z : ℤ). to_z w64 (of_z w64 z)) summands ∙ to_z-of_z w64 (x +ℤ y) sum_fits
-
-  pub times_sum_range : IsOffPrice (to_z w64 (of_z w64 (to_z w64 (of_z w64 x) +ℤ to_z w64 (of_z w64 y))))
-  times_sum_range = subst IsOffPrice (sym times_sum_value) sum_within
 
 -- ---- a price of a row times its capacity
 module _ (price x y : ℤ) (n : ℕ) (range : IsRowPrice price) (few : n ≤ 65535) (x_is : x ≡ to_z w64 (of_z w64 price)) (y_is : y ≡ pos n) where

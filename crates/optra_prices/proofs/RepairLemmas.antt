@@ -123,7 +123,8 @@ module _ {R : Type 0} (net : Net) (rows : Rows R) (bids : List Bid) (node : List
       let e = order_unique v (length bids) q.order p.order q.is_order p.is_order in
       gives_unique p.order (empty_choice bids) a b p.gives (subst (λ (order : List ℕ). GivesInTurn net rows bids node order (empty_choice bids) b) e q.gives)
 
-zip_set : {A B : Type 0} (P : A → B → Type 0) (xs : List A) (ys : List B) (k : ℕ) (x : A) (y : B) → AllZip P xs ys → slice_get xs k ≡ Some x → P x y → AllZip P xs (slice_set ys k y)
+-- an entry that fits its place may be put there
+pub zip_set : {A B : Type 0} (P : A → B → Type 0) (xs : List A) (ys : List B) (k : ℕ) (x : A) (y : B) → AllZip P xs ys → slice_get xs k ≡ Some x → P x y → AllZip P xs (slice_set ys k y)
 zip_set P [] [] k x y h at p = cc
 zip_set P [] (w ∷ ys) k x y h at p = absurd h
 zip_set P (z ∷ xs) [] k x y h at p = absurd h

@@ -19,7 +19,7 @@ use Rattle.optra_node.specs.declared.Decision.{Decision}
 use Rattle.optra_node.specs.Nodes.{IsBlocked, has_yes, is_yes_for, uses_at, yes_load, others_load}
 use Rattle.optra_node.specs.Spans.{Lets}
 use Rattle.optra_node.proofs.LoadLemmas.{contains-map}
-use Rattle.optra_node.proofs.SummaryLemmas.{load_split}
+use Rattle.optra_node.proofs.OwnLemmas.{load_split}
 use Rattle.optra_prices.specs.Allowing.{AreAtUnlessTold}
 use Rattle.optra_prices.specs.Holders.{is_told}
 use Rattle.optra_prices.specs.Standings.{IsBidTable, AreTables}

@@ -16,7 +16,8 @@ use Rattle.optra_walk.proofs.UsableLemmas.{walk_usable}
 use Rattle.optra_graph.specs.Timed.{Timed, IsGraphOf, IsRoute, IsLegArc, leg_of, leg_at, start_of, walk_of}
 use Rattle.optra_node.specs.Nodes.{IsFormedLeg, kind_at}
 use Rattle.optra_node.proofs.LoadLemmas.{contains_cases, contains-map}
-use Rattle.optra_prices.specs.Arcs.{IsArcValue, start_value, leg_value}
+use Rattle.optra_walk.specs.Shares.{start_value, leg_value}
+use Rattle.optra_prices.specs.Arcs.{IsArcValue}
 use Rattle.optra_prices.specs.Tables.{Extends, AreTouches, group_at, AreGroups, KeepsGroups}
 use Rattle.optra_prices.specs.Terms.{IsStartTerm, IsLegTerm, AreTerms, IsTerm}
 use Rattle.optra_prices.specs.ArcTerms.{ArcTerm}

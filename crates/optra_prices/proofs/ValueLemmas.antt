@@ -17,7 +17,7 @@ use Rattle.optra_walk.specs.Values.{first_departure, last_arrival, wait_minutes,
 use Rattle.optra_walk.proofs.WalkLemmas.{arrival_later, rises}
 use Rattle.optra_node.specs.Duals.{sum_of}
 use Rattle.optra_node.proofs.SumLemmas.{sum_of-cons}
-use Rattle.optra_prices.specs.Arcs.{start_value, end_price, wait_price, action_price, leg_value}
+use Rattle.optra_walk.specs.Shares.{start_value, end_price, wait_price, action_price, leg_value}
 
 times_suc : (z : ℤ) (n : ℕ) → z *ℤ pos (suc n) ≡ z *ℤ pos n +ℤ z
 times_suc z n = *ℤ_comm z (pos (suc n)) ∙ suc_ℤ-*ℤ (pos n) z ∙ ap (λ y. y +ℤ z) (*ℤ_comm (pos n) z)

@@ -1,46 +1,17 @@
 -- What the arcs of a bid's graph add to the reduced value of a walk, and what a search over them finds.
-use Rattle.std.specs.Prelude.{◌≡◌, ◌⊎◌, ◌↔◌, ℕ, ◌<◌, Bool, true, false, List, [], ◌∷◌, length, Option, None, Some, unwrap_or}
-use Rattle.std.specs.Prelude.{ℤ, pos, negsuc, ◌+ℤ◌, ◌-ℤ◌, ◌*ℤ◌, ◌≤ℤ◌, ◌<ℤ◌}
+use Rattle.std.specs.Prelude.{◌≡◌, ◌⊎◌, ◌↔◌, ℕ, ◌<◌, Bool, true, false, List, [], ◌∷◌, length, Option, None, Some}
+use Rattle.std.specs.Prelude.{ℤ, pos, negsuc, ◌-ℤ◌, ◌≤ℤ◌, ◌<ℤ◌}
 use Rattle.optra_network.specs.Net.{Net}
 use Rattle.optra_bid.specs.Specs.{IsBetween}
 use Rattle.optra_bid.specs.declared.bids.Bid.{Bid}
-use Rattle.optra_walk.specs.declared.Action.{Action}
-use Rattle.optra_walk.specs.declared.Action.TheVariants.{Pass, Halt, Wait, Finish}
 use Rattle.optra_walk.specs.declared.Leg.{Leg}
 use Rattle.optra_walk.specs.Families.{Rows}
-use Rattle.optra_walk.specs.Legs.{arrival_of}
-use Rattle.optra_walk.specs.Values.{price_off}
+use Rattle.optra_walk.specs.Shares.{start_value, leg_value}
 use Rattle.optra_dag.specs.Paths.{Graph, IsPath, IsFirstBest, weight_of}
 use Rattle.optra_graph.specs.Timed.{Timed, leg_of, start_of, walk_of}
 use Rattle.optra_node.specs.declared.Decision.{Decision}
 use Rattle.optra_node.specs.Duals.{PriceList, leg_price}
 use Rattle.optra_node.specs.Spans.{IsLegOk, IsStartOk}
-
--- in thousandths of a cent, what a start at the minute adds: the base, less the price of minutes off the ideal
--- departure; the minutes before the start are given back, since the end takes all minutes up to it
-abbrev pub start_value : Bid → ℕ → ℤ
-start_value bid minute =
-    pos 1000 *ℤ (bid.money.base -ℤ price_off bid.path.depart.ideal bid.money.early_depart bid.money.late_depart minute +ℤ bid.money.travel *ℤ pos minute)
-
--- what an end at the minute takes
-abbrev pub end_price : Bid → ℕ → ℤ
-end_price bid minute =
-    pos 1000 *ℤ (price_off bid.path.arrive.ideal bid.money.early_arrive bid.money.late_arrive minute +ℤ bid.money.travel *ℤ pos minute)
-
--- what a wait takes
-abbrev pub wait_price : Bid → ℕ → ℤ
-wait_price bid minutes = pos 1000 *ℤ (bid.money.wait *ℤ pos minutes)
-
--- what an action takes, by the arrival of its leg
-abbrev pub action_price : Bid → Option ℕ → Action → ℤ
-action_price bid arrival Pass = pos 0
-action_price bid arrival (Halt dwell) = pos 0
-action_price bid arrival (Wait dwell) = wait_price bid dwell
-action_price bid arrival Finish = end_price bid (unwrap_or arrival 0)
-
--- what a leg adds, apart from the prices of rows
-abbrev pub leg_value : Net → Bid → Leg → ℤ
-leg_value net bid leg = pos 0 -ℤ action_price bid (arrival_of net bid.path.kind leg) leg.action
 
 -- an arc may be taken where its start or its leg passes the node's test, and it weighs what that adds, less the prices of the rows used
 pub record AreWeighed {R : Type 0} (net : Net) (rows : Rows R) (bids : List Bid) (node : List Decision) (prices : PriceList R) (number : ℕ) (bid : Bid) (t : Timed) (allows : ℕ → Bool) (weight : ℕ → ℤ) : Type 0 where

@@ -1,6 +1,7 @@
 -- The ranges of prices, by name. Those of money are in cents, and all others in thousandths of a cent.
-use Rattle.std.specs.Prelude.{ℕ, ℤ, pos, negsuc}
+use Rattle.std.specs.Prelude.{ℕ, ℤ, pos}
 use Rattle.optra_bid.specs.Specs.{IsBetween}
+use Rattle.optra_walk.specs.Shares.{IsAddedCents}
 
 -- the greatest price of a row
 abbrev pub most_price : ℕ
@@ -14,21 +15,9 @@ most_capacity = 65535
 abbrev pub IsBase : ℤ → Type 0
 IsBase cents = IsBetween (pos 0) (pos 1000000000) cents
 
--- a rate for fewer than 2^17 minutes
-abbrev pub IsTimePrice : ℤ → Type 0
-IsTimePrice cents = IsBetween (pos 0) (pos 131072000000) cents
-
--- two rates, each for fewer than 2^17 minutes
-abbrev pub IsOffPrice : ℤ → Type 0
-IsOffPrice cents = IsBetween (pos 0) (pos 262144000000) cents
-
--- what an arc takes, in cents
-abbrev pub IsTaken : ℤ → Type 0
-IsTaken cents = IsBetween (pos 0) (pos 1000000000000) cents
-
 -- what an arc adds apart from the prices of rows, in cents
 abbrev pub IsArcCents : ℤ → Type 0
-IsArcCents cents = IsBetween (negsuc 999999999999) (pos 1000000000000) cents
+IsArcCents cents = IsAddedCents cents
 
 -- the length of a price step
 abbrev pub IsStepLength : ℤ → Type 0

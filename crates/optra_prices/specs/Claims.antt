@@ -1,12 +1,11 @@
 -- What decisions use of rows, by the numbers of rows.
-use Rattle.std.specs.Prelude.{◌≡◌, ℕ, ◌<◌, ◌++◌, ◌∷◌, [], true, false, List, length, map, sum_by, Option, None, Some, slice_get, slice_index_or}
+use Rattle.std.specs.Prelude.{◌≡◌, ℕ, ◌<◌, ◌++◌, ◌∷◌, [], true, false, List, sum_by, Option, None, Some, slice_get}
 use Rattle.std.specs.List.{AllZip}
 use Rattle.std.specs.Option.{option_map_or}
 use Rattle.optra_bid.specs.declared.bids.Bid.{Bid}
 use Rattle.optra_walk.specs.Families.{Rows}
 use Rattle.optra_node.specs.declared.Decision.{Decision}
 use Rattle.optra_node.specs.Nodes.{yes_uses}
-use Rattle.optra_node.specs.Summaries.{decisions_for}
 use Rattle.optra_prices.specs.Uses.{touch_uses}
 use Rattle.optra_prices.specs.declared.claims.Claim.{Claim}
 use Rattle.optra_prices.specs.declared.touch.Touch.{Touch}
@@ -40,12 +39,3 @@ touches_at claims place = option_map_or (λ claim. claim.touches.items) (slice_g
 -- how much the claims at the places use of the row with number n
 abbrev pub placed_uses : List Claim → List ℕ → ℕ → ℕ
 placed_uses claims places n = sum_by (λ place. touch_uses (touches_at claims place) n) places
-
--- at the places of the node stand the decisions
-abbrev pub AreAt : List Decision → List ℕ → List Decision → Type 0
-AreAt node places decisions = map (slice_get node) places ≡ map Some decisions
-
--- a list for each bid, of the places in the node at which the decisions for it stand that are among these
-pub record ArePlacesByBid (bids : ℕ) (node decisions : List Decision) (lists : List (List ℕ)) : Type 0 where
-  pub count : length lists ≡ bids
-  pub each : (bid : ℕ) → bid < bids → AreAt node (slice_index_or lists bid []) (decisions_for decisions bid)

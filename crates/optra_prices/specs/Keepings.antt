@@ -29,6 +29,7 @@ pub record IsBrought (changed : Bool) (old new : BidTable) : Type 0 where
   pub groups : groups_of new.arcs ≡ groups_of old.arcs
   pub arcs : changed ≡ false → new.arcs ≡ old.arcs
   pub forced : changed ≡ false → new.forced ≡ old.forced
+  pub other : changed ≡ true → new.arcs ≡ old.arcs → new.forced ≡ old.forced → ⊥
 
 -- tables were brought to a node, with what has changed of each
 pub record AreBrought (changed : List Bool) (old new : List BidTable) : Type 0 where

@@ -29,7 +29,6 @@ pub mod Courses
 pub mod Overfull
 pub mod Keepings
 pub mod Claims
-pub mod Counts
 pub mod Loads
 pub mod Rooms
 pub mod Allowing

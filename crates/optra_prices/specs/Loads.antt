@@ -10,11 +10,11 @@ pub record RowLoads : Type 0 where
 
 -- past the last row
 abbrev pub no_load : Load
-no_load = record { low = 0; capacity = 0 }
+no_load = record { used = 0; capacity = 0 }
 
--- the low parts of uses
-abbrev pub lows_in : List Load → List ℕ
-lows_in rows = map (λ row. row.low) rows
+-- what is used of rows
+abbrev pub uses_in : List Load → List ℕ
+uses_in rows = map (λ row. row.used) rows
 
 -- the capacities
 abbrev pub capacities_in : List Load → List ℕ

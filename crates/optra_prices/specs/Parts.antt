@@ -8,7 +8,8 @@ use Rattle.optra_walk.specs.Families.{Rows, load_of}
 use Rattle.optra_graph.specs.Timed.{Timed, leg_of, start_of}
 use Rattle.optra_node.specs.declared.Decision.{Decision}
 use Rattle.optra_node.specs.Spans.{IsLegOk, IsStartOk}
-use Rattle.optra_prices.specs.Arcs.{start_value, leg_value, IsArcValue}
+use Rattle.optra_walk.specs.Shares.{start_value, leg_value}
+use Rattle.optra_prices.specs.Arcs.{IsArcValue}
 use Rattle.optra_prices.specs.Rooms.{IsRoom, HasRoomForAll}
 use Rattle.optra_prices.specs.Tables.{group_at}
 use Rattle.optra_prices.specs.declared.arc_tables.ArcTables.{ArcTables}

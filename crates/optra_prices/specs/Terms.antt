@@ -9,7 +9,8 @@ use Rattle.optra_graph.specs.Timed.{Timed, leg_of, start_of, IsGraphOf}
 use Rattle.optra_node.specs.declared.Decision.{Decision}
 use Rattle.optra_node.specs.Nodes.{has_yes}
 use Rattle.optra_node.specs.Spans.{IsLegOk, IsStartOk}
-use Rattle.optra_prices.specs.Arcs.{start_value, leg_value, IsArcValue}
+use Rattle.optra_walk.specs.Shares.{start_value, leg_value}
+use Rattle.optra_prices.specs.Arcs.{IsArcValue}
 use Rattle.optra_prices.specs.Tables.{AreTouches, group_at, AreGroups}
 use Rattle.optra_prices.specs.ArcTerms.{ArcTerm}
 use Rattle.optra_prices.specs.declared.touch.Touch.{Touch}

@@ -2,8 +2,9 @@
 //!
 //! The room that the yes legs leave is held by the numbers of rows, so that no row is looked up in a map for an arc. A
 //! bid's own yes legs are taken out of it while the bid's arcs are told.
-ghost use Rattle.std.specs.Prelude.{◌≡◌, ◌<◌, ◌≤◌, [], false, IfOk, OnOk, length, slice_index_or, slice_set};
-ghost use Rattle.optra_node.specs.Summaries.{summed, decisions_for};
+ghost use Rattle.std.specs.Prelude.{◌≡◌, ◌<◌, ◌≤◌, [], true, false, IfOk, OnOk, length, slice_index_or, slice_set};
+ghost use Rattle.optra_node.specs.Nodes.{instance_node};
+ghost use Rattle.optra_node.specs.OwnDecisions.{decisions_for};
 ghost use Rattle.optra_prices.specs.Terms.{setting};
 ghost use Rattle.optra_prices.specs.Keepings.{IsBrought, AreBrought};
 ghost use Rattle.optra_prices.specs.Rooms.{IsDecided};
@@ -16,29 +17,28 @@ use crate::arcs::Arcs;
 use crate::claims::{add_placed, take_placed};
 use crate::decided::Decided;
 use crate::grouping::either;
-use crate::marking::has_yes;
 use crate::numbering::{BidTable, Groups};
-use crate::owning::Owned;
 use crate::rooms::{Room, Told, tell_group};
 use crate::row_numbers::RowNumbers;
 use optra_graph::TimeGraph;
 use optra_network::NoMemory;
+use optra_node::OwnDecisions;
 use optra_walk::{CodedRow, Instance, RowFamily};
 
 /// Whether the arc may be taken, where it is known whether there is room for what it touches and whether the bid has
 /// decisions of its own.
 fn let_arc<F: RowFamily>(
-    summary: &Owned<'_, F>,
+    own: &OwnDecisions<'_, F>,
     number: u32,
     graph: &TimeGraph,
     k: u32,
     has_own: bool,
     has_room: bool,
 ) -> bool
-    requires bid { number < length summary.now.bids }
+    requires bid { number < length own.now.bids }
     requires within { k < length graph.now.dag.arcs }
-    requires own { has_own ≡ false → decisions_for summary.now.node number ≡ [] }
-    ensures { IsLetMark summary.now.net summary.now.bids summary.now.node number graph.now k
+    requires own { has_own ≡ false → decisions_for own.now.node number ≡ [] }
+    ensures { IsLetMark own.now.net own.now.bids own.now.node number graph.now k
         has_room result }
 {
     if !has_room {
@@ -48,8 +48,8 @@ fn let_arc<F: RowFamily>(
         return true;
     }
     match graph.leg(k) {
-        Some(leg) => summary.let_by(number, leg),
-        None => summary.start_ok(number, graph.start(k).unwrap_or(0)),
+        Some(leg) => own.let_by(number, leg),
+        None => own.start_ok(number, graph.start(k).unwrap_or(0)),
     }
 }
 
@@ -59,6 +59,8 @@ fn set_allowed(arcs: &mut Arcs, k: u32, allowed: bool) -> bool
     ensures set { arcs.new ≡ slice_set arcs.old k (with_mark (slice_index_or arcs.old k no_arc)
         allowed) }
     ensures same { result ≡ false → arcs.new ≡ arcs.old }
+    ensures other { result ≡ true
+        → slice_index_or arcs.new k no_arc ≡ slice_index_or arcs.old k no_arc → ⊥ }
 {
     if arcs.slice().allowed(k as usize) == allowed {
         return false;
@@ -69,21 +71,22 @@ fn set_allowed(arcs: &mut Arcs, k: u32, allowed: bool) -> bool
 
 /// Tells anew which arcs of a bid's graph may be taken, group by group, and whether that changed for one of them.
 fn allow_arcs<F: RowFamily>(
-    summary: &Owned<'_, F>,
+    own: &OwnDecisions<'_, F>,
     number: u32,
     room: &Room,
     graph: &TimeGraph,
     groups: &Groups,
     arcs: &mut Arcs,
 ) -> bool
-    requires bid { number < length summary.now.bids }
-    requires tells { RoomTells (F.rows_of summary.now.family summary.now.net) summary.now.bids
-        summary.now.node number room.now graph.now groups.now arcs.old }
-    ensures told { AreToldAnew summary.now.net (F.rows_of summary.now.family summary.now.net)
-        summary.now.bids summary.now.node number graph.now arcs.old arcs.new }
+    requires bid { number < length own.now.bids }
+    requires tells { RoomTells (F.rows_of own.now.family own.now.net) own.now.bids
+        own.now.node number room.now graph.now groups.now arcs.old }
+    ensures told { AreToldAnew own.now.net (F.rows_of own.now.family own.now.net)
+        own.now.bids own.now.node number graph.now arcs.old arcs.new }
     ensures same { result ≡ false → arcs.new ≡ arcs.old }
+    ensures other { result ≡ true → arcs.new ≡ arcs.old → ⊥ }
 {
-    let has_own = !summary.own(number).is_empty();
+    let has_own = !own.own(number).is_empty();
     let mut last = Told {
         group: 0,
         has_room: true,
@@ -91,7 +94,7 @@ fn allow_arcs<F: RowFamily>(
     let mut changed = false;
     for k in 0..graph.dag().arcs() {
         last = tell_group(room, groups, arcs.slice().group(k as usize), last);
-        let allowed = let_arc(summary, number, graph, k, has_own, last.has_room);
+        let allowed = let_arc(own, number, graph, k, has_own, last.has_room);
         let other = set_allowed(arcs, k, allowed);
         changed = either(changed, other);
     }
@@ -102,6 +105,7 @@ fn allow_arcs<F: RowFamily>(
 fn set_forced(old: &mut bool, forced: bool) -> bool
     ensures forced { old.new ≡ forced }
     ensures same { result ≡ false → old.new ≡ old.old }
+    ensures other { result ≡ true → old.new ≡ old.old → ⊥ }
 {
     let changed = *old != forced;
     *old = forced;
@@ -110,21 +114,21 @@ fn set_forced(old: &mut bool, forced: bool) -> bool
 
 /// Brings a bid's table to the node, and tells whether an arc or whether the bid has a yes leg changed.
 fn allow_table<F: RowFamily>(
-    summary: &Owned<'_, F>,
+    own: &OwnDecisions<'_, F>,
     number: u32,
     room: &Room,
     groups: &Groups,
     table: &mut BidTable<'_>,
 ) -> bool
-    requires bid { number < length summary.now.bids }
-    requires tells { RoomTells (F.rows_of summary.now.family summary.now.net) summary.now.bids
-        summary.now.node number room.now table.old.graph.now groups.now table.old.arcs }
-    ensures anew { IsTableAnew summary.now.net (F.rows_of summary.now.family summary.now.net)
-        summary.now.bids summary.now.node number table.old table.new }
+    requires bid { number < length own.now.bids }
+    requires tells { RoomTells (F.rows_of own.now.family own.now.net) own.now.bids
+        own.now.node number room.now table.old.graph.now groups.now table.old.arcs }
+    ensures anew { IsTableAnew own.now.net (F.rows_of own.now.family own.now.net)
+        own.now.bids own.now.node number table.old table.new }
     ensures brought { IsBrought result table.old table.new }
 {
-    let arcs = allow_arcs(summary, number, room, table.graph, groups, &mut table.arcs);
-    let forced = set_forced(&mut table.forced, has_yes(summary, number));
+    let arcs = allow_arcs(own, number, room, table.graph, groups, &mut table.arcs);
+    let forced = set_forced(&mut table.forced, own.has_yes(number));
     either(arcs, forced)
 }
 
@@ -139,31 +143,31 @@ pub(crate) struct Grouping<'a, R: CodedRow> {
 fn allow_bid<F: RowFamily>(
     inst: Instance<'_>,
     rows: &F,
-    summary: &Owned<'_, F>,
+    own: &OwnDecisions<'_, F>,
     grouping: &Grouping<'_, F::Row>,
     decided: &mut Decided,
     number: u32,
     table: &mut BidTable<'_>,
 ) -> Result<bool, NoMemory>
     requires bid { number < length inst.bids.now }
-    requires summary { summary.now ≡ summed rows.now inst.net.now inst.bids.now summary.now.node }
+    requires own_is { own.now ≡ instance_node rows.now inst.net.now inst.bids.now own.now.node }
     requires decided { IsDecided inst.net.now (F.rows_of rows.now inst.net.now) inst.bids.now
-        grouping.now.numbering.now.rows.items summary.now.node decided.old }
+        grouping.now.numbering.now.rows.items own.now.node decided.old }
     requires table { IsTableFor inst.net.now (F.rows_of rows.now inst.net.now)
         (F.rows_used rows.now inst.net.now) inst.bids.now grouping.now.numbering.now.rows.items
         grouping.now.groups.now number table.old }
     ensures decided { OnOk result (IsDecided inst.entry.net.now
         (F.rows_of rows.now inst.entry.net.now) inst.entry.bids.now
-        grouping.now.numbering.now.rows.items summary.now.node decided.new) }
+        grouping.now.numbering.now.rows.items own.now.node decided.new) }
     ensures anew { OnOk result (IsTableAnew inst.entry.net.now
-        (F.rows_of rows.now inst.entry.net.now) inst.entry.bids.now summary.now.node number
+        (F.rows_of rows.now inst.entry.net.now) inst.entry.bids.now own.now.node number
         table.old table.new) }
     ensures brought { IfOk result (λ changed. IsBrought changed table.old table.new) }
 {
     let _ = rows;
-    let places = summary.places(number);
+    let places = own.places(number);
     take_placed(&mut decided.room, &decided.claims, places);
-    let changed = allow_table(summary, number, &decided.room, grouping.groups, table);
+    let changed = allow_table(own, number, &decided.room, grouping.groups, table);
     add_placed(&mut decided.room, &decided.claims, places)?;
     Ok(changed)
 }
@@ -174,29 +178,29 @@ fn allow_bid<F: RowFamily>(
 pub(crate) fn allow_told<F: RowFamily>(
     inst: Instance<'_>,
     rows: &F,
-    summary: &Owned<'_, F>,
+    own: &OwnDecisions<'_, F>,
     grouping: &Grouping<'_, F::Row>,
     decided: &mut Decided,
     told: &mut Vec<bool>,
     tables: &mut Vec<BidTable<'_>>,
 ) -> Result<(), NoMemory>
-    requires summary { summary.now ≡ summed rows.now inst.net.now inst.bids.now summary.now.node }
+    requires own_is { own.now ≡ instance_node rows.now inst.net.now inst.bids.now own.now.node }
     requires decided { IsDecided inst.net.now (F.rows_of rows.now inst.net.now) inst.bids.now
-        grouping.now.numbering.now.rows.items summary.now.node decided.old }
+        grouping.now.numbering.now.rows.items own.now.node decided.old }
     requires tables { HoldArcs inst.net.now (F.rows_of rows.now inst.net.now)
         (F.rows_used rows.now inst.net.now) inst.bids.now (length inst.bids.now)
         grouping.now.numbering.now.rows.items grouping.now.groups.now tables.old.items }
     requires told { length told.old.items ≡ length tables.old.items }
     requires others { AreAtUnlessTold (setting inst.net.now (F.rows_of rows.now inst.net.now)
-        (F.rows_used rows.now inst.net.now) inst.bids.now summary.now.node)
+        (F.rows_used rows.now inst.net.now) inst.bids.now own.now.node)
         grouping.now.numbering.now.rows.items grouping.now.groups.now told.old.items
         tables.old.items }
     ensures decided { OnOk result (IsDecided inst.entry.net.now
         (F.rows_of rows.now inst.entry.net.now) inst.entry.bids.now
-        grouping.now.numbering.now.rows.items summary.now.node decided.new) }
+        grouping.now.numbering.now.rows.items own.now.node decided.new) }
     ensures tables { OnOk result
         (AreTables (setting inst.entry.net.now (F.rows_of rows.now inst.entry.net.now)
-        (F.rows_used rows.now inst.entry.net.now) inst.entry.bids.now summary.now.node)
+        (F.rows_used rows.now inst.entry.net.now) inst.entry.bids.now own.now.node)
         (length inst.entry.bids.now) grouping.now.numbering.now.rows.items grouping.now.groups.now
         tables.new.items) }
     ensures brought { OnOk result (AreBrought told.new.items tables.old.items tables.new.items) }
@@ -209,7 +213,7 @@ pub(crate) fn allow_told<F: RowFamily>(
         told[number] = allow_bid(
             inst,
             rows,
-            summary,
+            own,
             grouping,
             decided,
             number as u32,

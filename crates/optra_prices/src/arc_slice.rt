@@ -136,7 +136,8 @@ impl<'a> ArcSlice<'a> {
         arc.value().wrapping_sub(price)
     }
 
-    /// The arcs at prices of groups, where all of them are narrow and all groups have a price.
+    /// The arcs at prices of groups, where all of them are narrow and all groups have a price. A `None` too many is left open, here and
+    /// below: a search then asks more of each arc, which costs time alone.
     pub(crate) fn narrow_weights(&self, grouped: &'a [i64]) -> Option<NarrowWeights<'a>>
         ensures { IfSome result (λ weights. weights ≡ priced_arcs self.now grouped.now) }
     {

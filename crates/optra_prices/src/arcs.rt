@@ -34,7 +34,7 @@ impl Model for Arcs {
     ghost invariant = { λ a. AreListed a.narrow.items a.groups a.closed };
 }
 
-/// The arc, where its value and its group fit.
+/// The arc, where its value and its group fit. A `None` too many costs time and memory alone: arcs from it on are wide ones.
 fn narrowed(term: &ArcTerm) -> Option<NarrowArc>
     ensures { IfSome result (λ arc. term_of arc ≡ term.now) }
 {

@@ -1,7 +1,7 @@
 //! The decisions of the node to which tables were brought, what they use, and the room beside its yes legs.
 //!
 //! A node shares most of its decisions with the one before it, so that few claims have to be taken out of the room or added.
-ghost use Rattle.std.specs.Prelude.{◌≡◌, ◌≤◌, true, All, IfOk, OnOk, drop, length, take};
+ghost use Rattle.std.specs.Prelude.{◌≡◌, ◌↔◌, ◌<◌, ◌≤◌, All, IfOk, IsTrue, OnOk, drop, length, slice_get, take, true};
 ghost use Rattle.optra_node.specs.Nodes.{IsNode, IsFormedDecision};
 ghost use Rattle.optra_prices.specs.Claims.{AreClaims};
 ghost use Rattle.optra_prices.specs.Tables.{IsNumbering};
@@ -32,7 +32,7 @@ pub(crate) fn decisions_of(node: &Node) -> &[Decision]
 
 /// Whether two decisions are the same.
 fn is_same(one: Decision, other: Decision) -> bool
-    ensures { result ≡ true → one ≡ other }
+    ensures { IsTrue result ↔ (one ≡ other) }
 {
     one == other
 }
@@ -42,6 +42,8 @@ pub(crate) fn shared_count(old: &[Decision], new: &[Decision]) -> usize
     ensures old { result ≤ length old.now }
     ensures new { result ≤ length new.now }
     ensures shared { take result old.now ≡ take result new.now }
+    ensures most { result < length old.now → result < length new.now
+        → slice_get old.now result ≡ slice_get new.now result → ⊥ }
 {
     let most = old.len().min(new.len());
     for k in 0..most {

@@ -130,7 +130,8 @@ fn told_up_to(fallen: &[bool], from: usize) -> usize
     first
 }
 
-/// Tells the bids that have a group whose price fell. The groups that are marked lead to them, until all bids are told.
+/// Tells the bids that have a group whose price fell. The groups that are marked lead to them, until all bids are told. Which others
+/// are told is left open: one more is searched again, to the same reply, so that it costs time alone.
 pub(crate) fn tell_fallen(
     columns: &Columns,
     tables: &[BidTable<'_>],

@@ -30,7 +30,6 @@ use crate::loading::no_paths;
 use crate::loads::Loads;
 use crate::numbering::{BidTable, Standing};
 use crate::opening::are_open;
-use crate::owning::Owned;
 use crate::path_ends::PathEnds;
 use crate::rooms::{has_room_on_each, unused_room};
 use crate::row_numbers::RowNumbers;
@@ -41,7 +40,7 @@ use crate::{Dead, Dual, Priced};
 use optra_dag::Buffers;
 use optra_graph::Graphs;
 use optra_network::{Cents, NoMemory};
-use optra_node::{Node, Prices, prices_by_used_rows, tests_tell_allowed};
+use optra_node::{Node, OwnDecisions, Prices, prices_by_used_rows, tests_tell_allowed};
 use optra_walk::{Instance, RowFamily};
 use std::alloc::Global;
 
@@ -98,8 +97,8 @@ fn allow_root<F: RowFamily>(
     }
     let node = Node::root(alloc);
     let mut told = vec![in alloc; true; inst.bids.len()]?;
-    let summary = Owned::new(alloc, inst, rows, &node)?;
-    allow_told(inst, rows, &summary, grouping, decided, &mut told, tables)
+    let own = OwnDecisions::new(alloc, inst, rows, &node)?;
+    allow_told(inst, rows, &own, grouping, decided, &mut told, tables)
 }
 
 /// What the root decides, which is nothing; the tables say of each arc whether the root allows it.
@@ -243,7 +242,7 @@ pub fn bring_to<F: RowFamily>(
         count,
         claims,
     )?;
-    let summary = Owned::new(alloc, inst, rows, node)?;
+    let own = OwnDecisions::new(alloc, inst, rows, node)?;
     let grouping = Grouping {
         numbering: &kept.numbering,
         groups: &kept.columns.groups,
@@ -251,7 +250,7 @@ pub fn bring_to<F: RowFamily>(
     allow_told(
         inst,
         rows,
-        &summary,
+        &own,
         &grouping,
         &mut kept.decided,
         &mut kept.fallen,

@@ -1,7 +1,7 @@
 //! How much the replies use of rows, by the numbers of rows.
 //!
 //! What the paths use that were counted last stays from step to step; only a path that is another one now is counted anew.
-ghost use Rattle.std.specs.Prelude.{◌≡◌, ◌≤◌, true, ℕ, [], All, IfOk, OnOk, length, replicate, take};
+ghost use Rattle.std.specs.Prelude.{◌≡◌, ◌≤◌, true, ℕ, [], All, IfOk, OnOk, length, replicate, take, ◌<◌, slice_index};
 ghost use Rattle.optra_prices.specs.Levels.{IsLevels, AreUnused, KeepsPrices};
 ghost use Rattle.optra_prices.specs.Tables.{AreGroups};
 ghost use Rattle.optra_prices.specs.Uses.{touch_uses, touches_at, list_uses, rows_use, AreCounted, AddsUses, TakesUses, CountsList, AreEmpty, lists_of, lists_in};
@@ -197,6 +197,8 @@ fn count_groups(
 fn same_start(a: &[usize], b: &[usize]) -> usize
     ensures within { (result ≤ length a.now) × (result ≤ length b.now) }
     ensures same { take result a.now ≡ take result b.now }
+    ensures most { result < length a.now → result < length b.now
+        → slice_index a.now result ≡ slice_index b.now result → ⊥ }
 {
     let most = a.len().min(b.len());
     for k in 0..most {

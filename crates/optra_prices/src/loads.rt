@@ -1,5 +1,5 @@
-//! How much is used of rows by number, beside how much there is of them; exact, without a limit but memory.
-ghost use Rattle.std.specs.Prelude.{◌≡◌, ◌↔◌, ◌+◌, ◌-◌, ◌^◌, ◌≤◌, ◌++◌, ◌∷◌, [], All, min, IsTrue, IfOk, IfSome, OnOk, length, slice_index};
+//! How much is used of rows by number, beside how much there is of them.
+ghost use Rattle.std.specs.Prelude.{◌≡◌, ◌↔◌, ◌+◌, ◌-◌, ◌≤◌, ◌++◌, ◌∷◌, [], All, IsTrue, IfOk, IfSome, OnOk, length, slice_index};
 ghost use Rattle.optra_prices.specs.Loads.{AddsOnce, FitEach, FitsOnce, IsUnused, SetsUses};
 
 use crate::narrow_loads::NarrowLoads;
@@ -42,7 +42,7 @@ fn widen(narrow: &NarrowLoads, wide: &mut WideLoads) -> Result<(), NoMemory>
     Ok(())
 }
 
-/// A sum, where it fits into 8 bits.
+/// A sum, where it fits into 8 bits. Where it is not told, the rows are widened, which costs time and memory alone.
 fn narrow_sum(used: u8, more: u32) -> Option<u8>
     ensures { IfSome result (λ sum. sum ≡ used + more) }
 {
@@ -166,7 +166,8 @@ impl Loads {
         Ok(())
     }
 
-    /// Adds one to what is used of a row where it is seen at once that there is room for it, and tells whether it did.
+    /// Adds one to what is used of a row where it is seen at once that there is room for it, and tells whether it did. Where it did
+    /// not, the room is asked for and added to in the long way, so that a `false` too many costs time alone.
     pub(crate) fn add_once(&mut self, number: usize) -> bool
         ensures { AddsOnce number result self.old self.new }
     {
@@ -218,9 +219,9 @@ impl Loads {
         }
     }
 
-    /// How much is used of a row, or 2^64 - 1 where it is more, and 0 where there is none.
+    /// How much is used of a row, and 0 where there is none.
     pub(crate) fn used(&self, number: usize) -> u64
-        ensures { result ≡ min (slice_index self.now.uses number) (2 ^ 64 - 1) }
+        ensures { result ≡ slice_index self.now.uses number }
     {
         if self.is_narrow {
             u64::from(self.narrow.used(number))

@@ -108,7 +108,8 @@ fn put_guess(guesses: &mut Vec<u32>, place: usize, head: u32) {
     }
 }
 
-/// The group of a head, where the family sees at once that its leg uses alike.
+/// The group of a head, where the family sees at once that its leg uses alike. A `None` too many is left open, here and below: the leg
+/// gets a group of its own with the same touches, which costs time and memory alone.
 fn head_group<F: RowFamily>(
     net: &Network,
     rows: &F,

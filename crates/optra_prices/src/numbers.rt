@@ -163,7 +163,7 @@ impl Numbers {
         self.wide.shrink_to_fit();
     }
 
-    /// The numbers in 32 bits each, where all of them fit.
+    /// The numbers in 32 bits each, where all are held so. A `None` too many costs time and memory alone.
     pub(crate) fn narrow(&self) -> Option<&[u32]>
         ensures { IfSome result (λ numbers. numbers.now ≡ self.now.items) }
     {

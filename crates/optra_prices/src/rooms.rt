@@ -159,7 +159,7 @@ pub(crate) fn has_room(room: &Room, touches: &TouchSlice<'_>) -> bool
 }
 
 /// Whether there is room for one more use of each row, and for each of the touches that use their row more often: then there
-/// is room for all of them, and no narrow one is asked for by itself.
+/// is room for all of them, and no narrow one is asked for by itself. Where it is not told, each is, which costs time alone.
 pub(crate) fn has_room_on_each(room: &Room, touches: &TouchSlice<'_>) -> bool
     ensures { result ≡ true → HasRoomOnHeld room.now touches.now }
 {

@@ -36,7 +36,7 @@ fn widen(narrow: &[u32], wide: &mut Vec<i64>) -> Result<(), NoMemory>
     Ok(())
 }
 
-/// A price in 32 bits, where it fits.
+/// A price in 32 bits, where it fits. A `None` too many costs time and memory alone.
 fn narrowed(price: i64) -> Option<u32>
     ensures { IfSome result (λ narrow. pos narrow ≡ price) }
 {

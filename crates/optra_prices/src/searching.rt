@@ -1,17 +1,15 @@
 //! The search of one bid's graph at prices of groups.
-ghost use Rattle.std.specs.Prelude.{◌≡◌, ◌⊎◌, ◌*◌, ◌≤◌, ◌^◌, ℕ, true, false, List, length, All, IfOk, IfSome, IfNone, MatchBool, pos, neg_ℤ, ◌+ℤ◌, ◌<ℤ◌, ◌≤ℤ◌};
+ghost use Rattle.std.specs.Prelude.{◌≡◌, ◌⊎◌, ◌≤◌, ℕ, true, false, List, length, All, IfOk, IfSome, IfNone, MatchBool, pos, neg_ℤ, ◌+ℤ◌, ◌<ℤ◌, ◌≤ℤ◌};
 ghost use Rattle.optra_bid.specs.Specs.{IsBetween};
 ghost use Rattle.optra_dag.specs.Paths.{IsPath, IsFirstBest};
 ghost use Rattle.optra_prices.specs.Arcs.{IsFound};
 ghost use Rattle.optra_prices.specs.Standings.{IsMost};
-ghost use Rattle.optra_prices.specs.Tables.{allows_by, weight_by, narrow_weight_by, AreUpTo, AreWeighedTo, IsGroupPrice};
+ghost use Rattle.optra_prices.specs.Tables.{allows_by, weight_by, AreUpTo, AreWeighedTo, IsGroupPrice};
 
 use crate::arc_slice::ArcSlice;
 use crate::arcs::Arcs;
 use crate::group_prices::GroupPrices;
-use optra_dag::{
-    Buffers, Dag, NARROW_ROOM, NarrowWeight, Weight, first_best_in, is_narrow, narrow_best_in,
-};
+use optra_dag::{Buffers, Dag, NarrowWeight, Weight, best_by};
 use optra_network::NoMemory;
 
 /// The arcs, and the prices of the groups that they touch.
@@ -88,55 +86,7 @@ fn most_of(values: i64, prices: i64) -> u64
     (values + prices) as u64
 }
 
-/// The first best path, in 64 bits: by the narrow arcs alone where no others are, and with no look at whether they may be
-/// taken where all may.
-fn narrow_sum(
-    buffers: &mut Buffers,
-    dag: &Dag,
-    weights: &Weights<'_>,
-    most: u64,
-) -> Result<Option<i64>, NoMemory>
-    requires count { length dag.now.arcs ≡ length weights.now.arcs }
-    requires weighed { AreWeighedTo most weights.now.arcs weights.now.grouped.now }
-    requires room { most * length dag.now.ends ≤ NARROW_ROOM }
-    ensures best { IfOk result (λ answer. IfSome answer (λ sum. IsFirstBest dag.now
-        (allows_by weights.now.arcs) (narrow_weight_by weights.now.arcs weights.now.grouped.now)
-        sum buffers.new)) }
-    ensures none { IfOk result (λ answer. IfNone answer ((path : List ℕ)
-        → IsPath dag.now (allows_by weights.now.arcs) path → ⊥)) }
-{
-    if let Some(open) = weights.arcs.open_weights(weights.grouped) {
-        return narrow_best_in(buffers, dag, &open, most);
-    }
-    match weights.arcs.narrow_weights(weights.grouped) {
-        Some(narrow) => narrow_best_in(buffers, dag, &narrow, most),
-        None => narrow_best_in(buffers, dag, weights, most),
-    }
-}
-
-/// The first best path, in 64 bits.
-fn narrow_best(
-    buffers: &mut Buffers,
-    dag: &Dag,
-    weights: &Weights<'_>,
-    most: u64,
-) -> Result<Option<i128>, NoMemory>
-    requires count { length dag.now.arcs ≡ length weights.now.arcs }
-    requires weighed { AreWeighedTo most weights.now.arcs weights.now.grouped.now }
-    requires room { most * length dag.now.ends ≤ NARROW_ROOM }
-    ensures best { IfOk result (λ answer. IfSome answer (λ sum. IsFirstBest dag.now
-        (allows_by weights.now.arcs) (weight_by weights.now.arcs weights.now.grouped.now)
-        sum buffers.new)) }
-    ensures none { IfOk result (λ answer. IfNone answer ((path : List ℕ)
-        → IsPath dag.now (allows_by weights.now.arcs) path → ⊥)) }
-{
-    let Some(sum) = narrow_sum(buffers, dag, weights, most)? else {
-        return Ok(None);
-    };
-    Ok(Some(i128::from(sum)))
-}
-
-/// The first best path: in 64 bits where they hold all sums.
+/// The first best path: by the narrow arcs alone where no others are, and with no look at whether they may be taken where all may.
 fn best_in(
     buffers: &mut Buffers,
     dag: &Dag,
@@ -151,10 +101,12 @@ fn best_in(
     ensures none { IfOk result (λ answer. IfNone answer ((path : List ℕ)
         → IsPath dag.now (allows_by weights.now.arcs) path → ⊥)) }
 {
-    if is_narrow(dag, most) {
-        narrow_best(buffers, dag, weights, most)
-    } else {
-        first_best_in(buffers, dag, weights)
+    if let Some(open) = weights.arcs.open_weights(weights.grouped) {
+        return best_by(buffers, dag, weights, &open, most);
+    }
+    match weights.arcs.narrow_weights(weights.grouped) {
+        Some(narrow) => best_by(buffers, dag, weights, &narrow, most),
+        None => best_by(buffers, dag, weights, &weights.copied(), most),
     }
 }
 

@@ -1,5 +1,5 @@
 //! What is known of one bid, brought up to date after prices changed or the node did.
-ghost use Rattle.std.specs.Prelude.{◌≡◌, All, IfOk, OnOk, List, ℤ, false, slice_index_or};
+ghost use Rattle.std.specs.Prelude.{◌≡◌, All, IfOk, OnOk, List, ℤ, true, false, slice_index_or};
 ghost use Rattle.optra_prices.specs.Columns.{MarksTell, HasNotRisen};
 ghost use Rattle.optra_prices.specs.Holders.{HaveNotFallen};
 ghost use Rattle.optra_prices.specs.Keepings.{KeepsStanding};
@@ -122,7 +122,8 @@ pub(crate) fn group_of(arcs: &Arcs, k: u32) -> usize
 
 /// Whether the price of one of the groups rose.
 fn has_risen(marks: &[Mark], groups: &[usize]) -> bool
-    ensures { result ≡ false → All (HasNotRisen marks.now) groups.now }
+    ensures still { result ≡ false → All (HasNotRisen marks.now) groups.now }
+    ensures rose { result ≡ true → All (HasNotRisen marks.now) groups.now → ⊥ }
 {
     groups.iter().any(|g| mark_at(marks, *g) == Mark::Rose)
 }

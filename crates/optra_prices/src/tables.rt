@@ -4,7 +4,8 @@
 ghost use Rattle.std.specs.Prelude.{◌≡◌, ◌<◌, ◌≤◌, IfOk, OnOk, length, All, pos, neg_ℤ, ◌≤ℤ◌, ◌*ℤ◌, unsigned_abs};
 ghost use Rattle.optra_bid.specs.Specs.{IsBetween};
 ghost use Rattle.optra_graph.specs.Timed.{IsGraphOf};
-ghost use Rattle.optra_prices.specs.Arcs.{start_value, leg_value, IsArcValue};
+ghost use Rattle.optra_walk.specs.Shares.{start_value, leg_value};
+ghost use Rattle.optra_prices.specs.Arcs.{IsArcValue};
 ghost use Rattle.optra_prices.specs.Makings.{IsMaking, Grows};
 ghost use Rattle.optra_prices.specs.Standings.{Covers, IsMost};
 ghost use Rattle.optra_prices.specs.Terms.{IsTerm, AreArcs};
@@ -15,11 +16,10 @@ use crate::arcs::Arcs;
 use crate::making::{Making, leg_group};
 use crate::narrow_arc::NarrowArc;
 use crate::numbering::BidTable;
-use crate::weighing::{leg_cents, start_cents};
 use optra_bid::Bid;
 use optra_graph::TimeGraph;
 use optra_network::{Minute, Network, NoMemory, TypeId};
-use optra_walk::{Leg, RowFamily};
+use optra_walk::{Leg, RowFamily, leg_cents, start_cents};
 use std::alloc::Global;
 
 /// The train type of a bid.
@@ -106,7 +106,8 @@ fn thousandths(cents: u32) -> i64
     1000 * i64::from(cents)
 }
 
-/// What no value of the arcs exceeds in size.
+/// What no value of the arcs exceeds in size. A greater number is left open: sums are then sooner taken in 128 bits, which costs time
+/// alone.
 fn most_of(arcs: &ArcSlice<'_>) -> i64
     requires { All (λ arc. IsArcValue arc.value) arcs.now }
     ensures { Covers result arcs.now }

@@ -47,7 +47,8 @@ fn mark_claims(columns: &mut Columns, claims: &[Claim]) -> Result<(), NoMemory>
     Ok(())
 }
 
-/// Tells the bids that have a group which is marked.
+/// Tells the bids that have a group which is marked. Which others are told is left open, here and below: one more is brought to
+/// the node though nothing of it changed, so that it costs time alone.
 fn tell_due(columns: &Columns, tables: &[BidTable<'_>], holders: &Index, told: &mut Vec<bool>)
     requires columns { IsColumns columns.now.groups columns.now }
     requires holders { AreHolders tables.now holders.now }

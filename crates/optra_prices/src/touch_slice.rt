@@ -30,14 +30,14 @@ impl TouchSlice<'_> {
         self.narrow.len() + self.wide.len()
     }
 
-    /// Whether it is known that each uses its row once.
+    /// Whether it is known that each uses its row once. Where it is not, what each uses is read, which costs time alone.
     pub(crate) fn are_once(&self) -> bool
         ensures { result ≡ true → All (λ touch. touch.uses ≡ 1) self.now }
     {
         self.wide.is_empty()
     }
 
-    /// The rows, where it is known that each touch uses its row once.
+    /// The rows, where it is known that each touch uses its row once. Without them the touches are read, which costs time alone.
     pub(crate) fn narrow_rows(&self) -> Option<&[u32]>
         ensures { IfSome result (λ rows. map touch_of rows.now ≡ self.now) }
     {

@@ -28,7 +28,7 @@ impl Model for Touches {
     ghost view = { λ a. touches_of a.narrow.items a.wide.items };
 }
 
-/// The row of a touch that uses it once, where it fits.
+/// The row of a touch that uses it once, where it fits. A `None` too many costs memory alone.
 fn narrowed(touch: Touch) -> Option<u32>
     ensures { IfSome result (λ row. touch ≡ touch_of row) }
 {

@@ -1,45 +1,33 @@
-//! How much is used of rows by number, beside how much there is of them, for rows that 8 bits don't serve; exact, without a
-//! limit but memory.
-ghost use Rattle.std.specs.Prelude.{◌≡◌, ◌↔◌, ◌+◌, ◌-◌, ◌^◌, ◌≤◌, ◌<◌, ◌++◌, ◌∷◌, [], ℕ, true, false, cond, nat_eq, min, IsTrue, IfOk, OnOk, length, replicate, slice_index, slice_index_or, slice_set};
-ghost use Rattle.optra_prices.specs.Counts.{times};
-ghost use Rattle.optra_prices.specs.Loads.{IsUnused, SetsUses, capacities_in, lows_in, no_load};
+//! How much is used of rows by number, beside how much there is of them, for rows that 8 bits don't serve.
+ghost use Rattle.std.specs.Prelude.{◌≡◌, ◌+◌, ◌-◌, ◌++◌, ◌∷◌, [], IfOk, OnOk, length, replicate, slice_index, slice_index_or, slice_set};
+ghost use Rattle.optra_prices.specs.Loads.{IsUnused, SetsUses, capacities_in, uses_in, no_load};
 
 use optra_network::NoMemory;
-use std::alloc::Global;
+use std::alloc::{AllocError, Global};
 use std::marker::Model;
 
-/// So much is used of a row each time that it stands in the list of what is beyond the low parts.
-const BEYOND: u64 = 4_294_967_296;
-
-/// What is used of a row, less what is beyond 32 bits, and how much there is of it.
+/// What is used of a row, and how much there is of it.
 #[derive(Clone, Copy)]
 pub(crate) struct Load {
-    pub(crate) low: u32,
+    pub(crate) used: u64,
     pub(crate) capacity: u32,
 }
 
-/// Uses and capacities of rows, side by side. A row stands in `over` once for each 2^32 that its uses have beyond the low
-/// part, so that `over` is empty while uses are few.
+/// Uses and capacities of rows, side by side.
 #[derive(Drop)]
 pub(crate) struct WideLoads {
     rows: Vec<Load>,
-    over: Vec<usize>,
 }
 
 impl Model for WideLoads {
-    ghost use Rattle.std.specs.Prelude.{◌≡◌, ◌≤◌, ℕ, length};
-    ghost use Rattle.optra_prices.specs.Counts.{numbers_of, times};
-    ghost use Rattle.optra_prices.specs.Loads.{RowLoads, capacities_in, lows_in};
+    ghost use Rattle.optra_prices.specs.Loads.{RowLoads, capacities_in, uses_in};
 
     ghost Value = { RowLoads };
 
     ghost view = { λ a. record {
-      uses = numbers_of (times a.over.items) (lows_in a.rows.items);
+      uses = uses_in a.rows.items;
       capacities = capacities_in a.rows.items;
     } };
-
-    ghost invariant = { λ a. (place : ℕ) → length a.rows.items ≤ place
-        → times a.over.items place ≡ 0 };
 }
 
 /// What is held of the row with this number, and nothing where there is none.
@@ -47,52 +35,31 @@ fn load_at(rows: &[Load], number: usize) -> Load
     ensures { result ≡ slice_index_or rows.now number no_load }
 {
     rows.get(number).copied().unwrap_or(Load {
-        low: 0,
+        used: 0,
         capacity: 0,
     })
 }
 
-/// Sets the low part of what is used of a row.
-fn set_low(rows: &mut Vec<Load>, number: usize, low: u32)
-    requires { number < length rows.old.items }
-    ensures lows { lows_in rows.new.items ≡ slice_set (lows_in rows.old.items) number low }
+/// Sets what is used of a row, where there is one.
+fn set_used(rows: &mut Vec<Load>, number: usize, used: u64)
+    ensures uses { uses_in rows.new.items ≡ slice_set (uses_in rows.old.items) number used }
     ensures capacities { capacities_in rows.new.items ≡ capacities_in rows.old.items }
 {
+    if number >= rows.len() {
+        return;
+    }
     let capacity = rows[number].capacity;
-    rows[number] = Load { low, capacity };
+    rows[number] = Load { used, capacity };
 }
 
 /// Nothing is used of any row.
-fn clear_lows(rows: &mut Vec<Load>)
-    ensures lows { lows_in rows.new.items ≡ replicate (length rows.old.items) 0 }
+fn clear_uses(rows: &mut Vec<Load>)
+    ensures uses { uses_in rows.new.items ≡ replicate (length rows.old.items) 0 }
     ensures capacities { capacities_in rows.new.items ≡ capacities_in rows.old.items }
 {
     for number in 0..rows.len() {
-        set_low(rows, number, 0);
+        set_used(rows, number, 0);
     }
-}
-
-/// How often a number stands in a list.
-fn times(over: &[usize], number: usize) -> usize
-    ensures { result ≡ times over.now number }
-{
-    over.iter().filter(|there| **there == number).count()
-}
-
-/// Takes a number out of a list once, and tells whether it stood there.
-fn take_out(over: &mut Vec<usize>, number: usize) -> bool
-    ensures taken { result ≡ true → (n : ℕ) → times over.old.items n
-        ≡ times over.new.items n + cond (nat_eq number n) 1 0 }
-    ensures none { result ≡ false → times over.old.items number ≡ 0 }
-    ensures same { result ≡ false → over.new.items ≡ over.old.items }
-{
-    for k in 0..over.len() {
-        if over[k] == number {
-            over.swap_remove(k);
-            return true;
-        }
-    }
-    false
 }
 
 impl WideLoads {
@@ -103,7 +70,6 @@ impl WideLoads {
     {
         WideLoads {
             rows: Vec::new(alloc),
-            over: Vec::new(alloc),
         }
     }
 
@@ -112,11 +78,8 @@ impl WideLoads {
         ensures { IfOk result (IsUnused self.now) }
     {
         let mut rows = Vec::from_slice(alloc, &self.rows)?;
-        clear_lows(&mut rows);
-        Ok(WideLoads {
-            rows,
-            over: Vec::new(alloc),
-        })
+        clear_uses(&mut rows);
+        Ok(WideLoads { rows })
     }
 
     /// How many rows there are.
@@ -139,7 +102,7 @@ impl WideLoads {
         ensures capacities { OnOk result (self.new.capacities ≡ self.old.capacities
             ++ capacity ∷ []) }
     {
-        self.rows.push(Load { low: 0, capacity })?;
+        self.rows.push(Load { used: 0, capacity })?;
         Ok(())
     }
 
@@ -147,8 +110,7 @@ impl WideLoads {
     pub(crate) fn clear(&mut self)
         ensures { IsUnused self.old self.new }
     {
-        clear_lows(&mut self.rows);
-        self.over.clear();
+        clear_uses(&mut self.rows);
     }
 
     /// Takes all rows away.
@@ -157,24 +119,18 @@ impl WideLoads {
         ensures capacities { self.new.capacities ≡ [] }
     {
         self.rows.clear();
-        self.over.clear();
     }
 
-    /// Adds to what is used of a row. Where there is none, nothing changes.
+    /// Adds to what is used of a row. Where there is none, nothing changes. What it answers where the sum is 2^64 or more is
+    /// `NoMemory`: so many uses are those of more legs than memory holds.
     pub(crate) fn add(&mut self, number: usize, by: u32) -> Result<(), NoMemory>
         ensures { OnOk result (SetsUses number (slice_index self.old.uses number + by) self.old
             self.new) }
     {
-        if number >= self.rows.len() {
-            return Ok(());
-        }
-        let low = self.rows[number].low;
-        let Some(sum) = low.checked_add(by) else {
-            self.over.push(number)?;
-            set_low(&mut self.rows, number, low.wrapping_add(by));
-            return Ok(());
+        let Some(sum) = self.used(number).checked_add(u64::from(by)) else {
+            return Err(AllocError);
         };
-        set_low(&mut self.rows, number, sum);
+        set_used(&mut self.rows, number, sum);
         Ok(())
     }
 
@@ -182,31 +138,15 @@ impl WideLoads {
     pub(crate) fn take(&mut self, number: usize, by: u32)
         ensures { SetsUses number (slice_index self.old.uses number - by) self.old self.new }
     {
-        if number >= self.rows.len() {
-            return;
-        }
-        let low = self.rows[number].low;
-        if by <= low {
-            set_low(&mut self.rows, number, low - by);
-            return;
-        }
-        if take_out(&mut self.over, number) {
-            set_low(&mut self.rows, number, low.wrapping_sub(by));
-            return;
-        }
-        set_low(&mut self.rows, number, 0);
+        let rest = self.used(number).saturating_sub(u64::from(by));
+        set_used(&mut self.rows, number, rest);
     }
 
-    /// How much is used of a row, or 2^64 - 1 where it is more, and 0 where there is none.
+    /// How much is used of a row, and 0 where there is none.
     pub(crate) fn used(&self, number: usize) -> u64
-        ensures { result ≡ min (slice_index self.now.uses number) (2 ^ 64 - 1) }
+        ensures { result ≡ slice_index self.now.uses number }
     {
-        let low = u64::from(load_at(&self.rows, number).low);
-        if self.over.is_empty() {
-            return low;
-        }
-        let more = times(&self.over, number) as u64;
-        more.saturating_mul(BEYOND).saturating_add(low)
+        load_at(&self.rows, number).used
     }
 
     /// How much there is of a row, and 0 where there is none.

@@ -6,6 +6,7 @@ pub mod PlacedLemmas
 pub mod ResultLemmas
 pub mod SoundLemmas
 pub mod PlanLemmas
+pub mod WorthLemmas
 pub mod FixedLemmas
 pub mod SettledLemmas
 pub mod BudgetLemmas

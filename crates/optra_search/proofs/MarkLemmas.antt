@@ -27,7 +27,8 @@ use Rattle.optra_node.specs.Nodes.{kind_at, IsAllowed, IsFormedLeg}
 use Rattle.optra_node.specs.Spans.{IsLegOk}
 use Rattle.optra_node.specs.Duals.{leg_price}
 use Rattle.optra_node.proofs.LoadLemmas.{contains_cases, contains-map}
-use Rattle.optra_prices.specs.Arcs.{start_value, leg_value, AreWeighed}
+use Rattle.optra_walk.specs.Shares.{start_value, leg_value}
+use Rattle.optra_prices.specs.Arcs.{AreWeighed}
 use Rattle.optra_prices.proofs.ArcLemmas.{path_allowed, allowed_path}
 use Rattle.optra_prices.proofs.RepairLemmas.{some_is}
 use Rattle.optra_search.specs.declared.freeing.ArcMark.{ArcMark}

@@ -1,12 +1,14 @@
 -- The laws of the plain planner.
-use Rattle.std.specs.Prelude.{◌≡◌, ℕ, ◌+◌, ◌-◌, ◌^◌, ◌≤◌, List, length, Some, slice_get, All, Contains}
+use Rattle.std.specs.Prelude.{◌≡◌, ℕ, ◌+◌, ◌-◌, ◌^◌, ◌≤◌, List, length, Option, Some, slice_get, All, Contains, IfSome}
 use Rattle.std.specs.Prelude.{pos, ◌≤ℤ◌, ◌<ℤ◌}
-use Rattle.std.specs.List.{AllPairs}
+use Rattle.std.specs.List.{AllPairs, AllZip}
 use Rattle.std.specs.declared.cmp.Ordering.{Ordering}
 use Rattle.optra_network.specs.Net.{Net}
+use Rattle.optra_bid.specs.Specs.{IsBetween}
 use Rattle.optra_bid.specs.declared.bids.Bid.{Bid}
 use Rattle.optra_walk.specs.declared.Leg.{Leg}
 use Rattle.optra_walk.specs.Walks.{IsWalk}
+use Rattle.optra_walk.specs.Values.{value_of}
 use Rattle.optra_walk.specs.Families.{Rows, Entry}
 use Rattle.optra_node.specs.Duals.{sum_of}
 use Rattle.optra_node.specs.Certificates.{IsFormed, IsValid}
@@ -62,3 +64,12 @@ abbrev pub SufficientBudget : {R : Type 0} → (R → R → Ordering) → Net �
 SufficientBudget {R} cmp net rows bids =
     (steps budget : ℕ) (plan : Planned R) (pairs : List (ℕ × Leg)) → ArePairs net bids pairs → 2 ^ (length pairs + 1) - 1 ≤ budget
     → IsPlainPlan cmp net rows bids steps budget plan → plan.bound ≡ plan.revenue
+
+-- one entry for each bid, and each walk that is there is worth 1 to 1,000,000,000 cents
+abbrev pub EarnEach : Net → List Bid → List (Option (List Leg)) → Type 0
+EarnEach net bids walks =
+    AllZip (λ bid walk. IfSome walk (λ legs. IsBetween (pos 1) (pos 1000000000) (value_of net bid.path bid.money legs))) bids walks
+
+abbrev pub PlansEarnEach : {R : Type 0} → (R → R → Ordering) → Net → Rows R → List Bid → Type 0
+PlansEarnEach {R} cmp net rows bids =
+    (steps budget : ℕ) (plan : Planned R) → IsPlainPlan cmp net rows bids steps budget plan → EarnEach net bids plan.choice

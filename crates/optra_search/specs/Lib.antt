@@ -2,6 +2,7 @@
 pub mod Splits
 pub mod Planner
 pub mod Laws
+pub mod Plans
 pub mod Marks
 pub mod Openings
 pub mod Searches

@@ -23,7 +23,7 @@ mod turning;
 mod waiting;
 
 pub use entered::Entered;
-pub use laws::plan_laws;
+pub use laws::{certified_plans, plan_laws};
 pub use repairing::Repairer;
 
 /// How far a plan goes.

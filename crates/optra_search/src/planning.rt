@@ -2,6 +2,7 @@
 ghost use Rattle.std.specs.Prelude.{◌≡◌, ◌⊎◌, ◌≤◌, ◌∷◌, [], None, true, pos, length, map, All, Contains, IfOk, OnOk};
 ghost use Rattle.optra_prices.specs.Repairs.{empty_choice};
 ghost use Rattle.optra_prices.specs.Keepings.{AreKept};
+ghost use Rattle.optra_search.specs.Laws.{EarnEach};
 ghost use Rattle.optra_search.specs.Planner.{IsPlainPlan};
 ghost use Rattle.optra_search.specs.Reached.{parts_of};
 ghost use Rattle.optra_search.specs.Closings.{IsBound, plan_of};
@@ -117,7 +118,8 @@ fn plan_with<F: RowFamily, G: Graphs, P: Repairer<F, G>>(
 /// may better the incumbent. Where the dual value of the path's result in whole cents, rounded down, is then at most the
 /// incumbent's revenue, the node becomes a leaf with the result's prices. Else it is split, and its yes child and then its
 /// no child stand first, both at the result's prices. Once the count is the budget, each open node becomes a leaf with its
-/// start prices. The bound is the greatest dual value of the priced leaves in whole cents, rounded down.
+/// start prices. The bound is the greatest dual value of the priced leaves in whole cents, rounded down. Repair keeps no walk
+/// that earns nothing, so each walk of the choice is worth 1 to 1,000,000,000 cents.
 ///
 /// It needs a budget of at least 1, at most 1,000 bids, and graphs that were made with the instance's network, which it
 /// prepares itself: after it answered, the path specification of each bid is held, no other one that was not held before,
@@ -135,6 +137,8 @@ pub fn plan<F: RowFamily, G: Graphs, P: Repairer<F, G>>(
     ensures plan { IfOk result (λ plan. IsPlainPlan F.Row.cmp inst.entry.net.now
         (F.rows_of rows.now inst.entry.net.now) inst.entry.bids.now limits.steps limits.budget
         plan) }
+    ensures worth { IfOk result (λ plan. EarnEach inst.entry.net.now inst.entry.bids.now
+        plan.choice) }
     ensures held { OnOk result (All (λ bid. Contains (G.held graphs.new) bid.path)
         inst.entry.bids.now) }
     ensures others { OnOk result (All (λ path. Contains (G.held graphs.old) path

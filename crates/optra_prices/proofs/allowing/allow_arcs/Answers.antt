@@ -5,13 +5,14 @@ use Rattle.optra_dag.specs.Paths.{Graph}
 use Rattle.optra_prices.specs.ArcTerms.{ArcTerm}
 use Rattle.optra_prices.specs.NarrowArcs.{with_mark}
 use Rattle.optra_prices.specs.Tables.{no_arc}
-use Rattle.optra_prices.proofs.AllowLemmas.{AreToldUpTo, told_more, told_all, arc_mark, neither}
+use Rattle.optra_prices.proofs.AllowLemmas.{AreToldUpTo, told_more, told_all, arc_mark, neither, changed_at, get_or_by}
+use Rattle.optra_prices.proofs.HolderLemmas.{one_of}
 use Rattle.optra_prices.proofs.ListLemmas.{all_at}
 use Rattle.optra_prices.proofs.allowing.allow_arcs.Goals as goal
 
 pub loop-k-preserved : goal.loop-k-preserved
 loop-k-preserved g c =
-    let s = c.args.summary.now in
+    let s = c.args.own.now in
     let rows = g.F.RowFamily.rows_of s.family s.net in
     let t = c.args.graph.now in
     let old = c.args.arcs.now in
@@ -37,11 +38,13 @@ loop-k-preserved g c =
       same = λ e.
           let none = neither c.loop-k.changed c.set_allowed-other.result (sym c.either-changed.ensures ∙ e) in
           put.same none.1 ∙ inv.same none.0;
+      other = λ e. changed_at old arcs c.set_allowed-other.new.arcs k after within
+          (let here = inv.told.left k (omega arith) in get_or_by arcs old k no_arc here) put.set inv.other put.other (one_of c.loop-k.changed c.set_allowed-other.result (sym c.either-changed.ensures ∙ e));
     }
 
 pub returns : goal.returns
 returns g c =
-    let s = c.args.summary.now in
+    let s = c.args.own.now in
     let count = c.arcs-k-end.ensures.count in
     let dag = ap (λ (d : Graph). length d.arcs) c.dag.ensures in
     let given = c.requires.tells.count in
@@ -49,6 +52,7 @@ returns g c =
     record {
       told = told_all s.net (g.F.RowFamily.rows_of s.family s.net) s.bids s.node c.args.number c.args.graph.now c.loop-k.k c.args.arcs.now c.loop-k.arcs c.loop-k.invariant.told done;
       same = c.loop-k.invariant.same;
+      other = λ e same. let some = c.loop-k.invariant.other e in some.2 (ap (λ (xs : List ArcTerm). get_or xs some.0 no_arc) same);
     }
 
 pub let_arc-allowed-requires-clause-own : goal.let_arc-allowed-requires-clause-own

@@ -3,7 +3,8 @@ use Rattle.std.specs.Prelude.{All}
 use Rattle.optra_network.specs.declared.TypeId.{TypeId}
 use Rattle.optra_walk.specs.declared.Leg.{Leg}
 use Rattle.optra_walk.specs.Families.{IsUsable}
-use Rattle.optra_node.specs.Summaries.{Summed, decisions_for}
+use Rattle.optra_node.specs.Nodes.{InstanceNode}
+use Rattle.optra_node.specs.OwnDecisions.{decisions_for}
 use Rattle.optra_prices.specs.Allowing.{RoomTells}
 use Rattle.optra_prices.specs.Claims.{placed_uses}
 use Rattle.optra_prices.specs.Uses.{TakesUses, AddsUses}
@@ -14,7 +15,7 @@ use Rattle.optra_prices.proofs.allowing.allow_bid.Goals as goal
 
 pub take_placed-requires : goal.take_placed-requires
 take_placed-requires g c =
-    let node = c.args.summary.now.node in
+    let node = c.args.own.now.node in
     let decided = c.args.decided.now in
     let places = c.places-places.result.now in
     subst (λ (cs : List Claim). All (λ (place : ℕ). place < length cs) places) (sym c.deref.ensures.value)
@@ -22,7 +23,7 @@ take_placed-requires g c =
 
 pub add_placed-requires : goal.add_placed-requires
 add_placed-requires g c =
-    let node = c.args.summary.now.node in
+    let node = c.args.own.now.node in
     let decided = c.args.decided.now in
     let places = c.places-places.result.now in
     subst (λ (cs : List Claim). All (λ (place : ℕ). place < length cs) places) (sym c.deref-2.ensures.value)
@@ -35,7 +36,7 @@ allow_table-changed-requires-clause-tells g c =
     let rows = g.F.RowFamily.rows_of f net in
     let used = g.F.RowFamily.rows_used f net in
     let bids = c.args.inst.bids.now in
-    let node = c.args.summary.now.node in
+    let node = c.args.own.now.node in
     let n = c.args.number in
     let numbered = c.args.grouping.now.numbering.now.rows.items in
     let table = c.args.table.now in
@@ -47,14 +48,14 @@ allow_table-changed-requires-clause-tells g c =
     let lists = λ (kind : TypeId) (leg : Leg) (usable : IsUsable net kind leg). g.met.F.RowFamily.lists_rows f net kind leg usable in
     let takes = subst (λ (cs : List Claim). TakesUses (placed_uses cs places) old.room.loads.uses new.loads.uses) c.deref.ensures.value c.take_placed.ensures.uses in
     let room = room_without rows bids numbered node old.claims.items is.claims_are n places c.places-places.ensures old.room new is.room_is takes c.take_placed.ensures.capacities in
-    subst (λ (x : Summed g.row.F.Denot). RoomTells (g.F.RowFamily.rows_of x.family x.net) x.bids x.node n new table.graph.now c.args.grouping.now.groups.now table.arcs) (sym c.requires.summary)
+    subst (λ (x : InstanceNode g.row.F.Denot). RoomTells (g.F.RowFamily.rows_of x.family x.net) x.bids x.node n new table.graph.now c.args.grouping.now.groups.now table.arcs) (sym c.requires.own_is)
     (table_tells g.F.Row.Ord.cmp net proper rows used lists bids node n numbered new room c.args.grouping.now.groups.now table c.requires.table)
 
 pub returns-clause-decided : goal.returns-clause-decided
 returns-clause-decided g c =
     let rows = g.F.RowFamily.rows_of c.args.rows.now c.args.inst.net.now in
     let bids = c.args.inst.bids.now in
-    let node = c.args.summary.now.node in
+    let node = c.args.own.now.node in
     let n = c.args.number in
     let numbered = c.args.grouping.now.numbering.now.rows.items in
     let old = c.args.decided.now in

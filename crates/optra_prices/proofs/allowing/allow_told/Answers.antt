@@ -12,7 +12,7 @@ loop-number-init g c =
     let tables = c.args.tables.now.items in
     record {
       decided = c.requires.decided;
-      tables = tables_first net (g.F.RowFamily.rows_of f net) (g.F.RowFamily.rows_used f net) c.args.inst.bids.now c.args.summary.now.node grouping.numbering.now.rows.items grouping.groups.now tables c.requires.tables;
+      tables = tables_first net (g.F.RowFamily.rows_of f net) (g.F.RowFamily.rows_used f net) c.args.inst.bids.now c.args.own.now.node grouping.numbering.now.rows.items grouping.groups.now tables c.requires.tables;
       brought = brought_none c.args.told.now.items tables;
     }
 
@@ -35,9 +35,9 @@ loop-number-preserved-then-not-index g c =
     let untold : slice_get c.args.told.now.items n ≡ Some false = sym (brought.told_left n (omega arith)) ∙ here ∙ ap Some c.if-not-index.true in
     record {
       decided = inv.decided;
-      tables = tables_skip net (g.F.RowFamily.rows_of f net) (g.F.RowFamily.rows_used f net) bids c.args.summary.now.node grouping.numbering.now.rows.items grouping.groups.now n c.loop-number.tables.items inv.tables
+      tables = tables_skip net (g.F.RowFamily.rows_of f net) (g.F.RowFamily.rows_used f net) bids c.args.own.now.node grouping.numbering.now.rows.items grouping.groups.now n c.loop-number.tables.items inv.tables
           (λ bid table bid_at table_at. c.requires.others n bid table untold bid_at (sym (brought.left n (omega arith)) ∙ table_at));
-      brought = brought_skip n c.args.told.now.items told c.args.tables.now.items c.loop-number.tables.items brought;
+      brought = brought_skip n c.args.told.now.items told c.args.tables.now.items c.loop-number.tables.items (here ∙ ap Some c.if-not-index.true) brought;
     }
 
 pub allow_bid-requires-clause-table : goal.allow_bid-requires-clause-table
@@ -77,7 +77,7 @@ loop-number-preserved g c =
     let one = c.in_ok-told.ensures in
     record {
       decided = one.decided;
-      tables = tables_more net (g.F.RowFamily.rows_of f net) (g.F.RowFamily.rows_used f net) bids c.args.summary.now.node grouping.numbering.now.rows.items grouping.groups.now n tables bid.0 table c.allow_bid.new.table mixed bid.1 at one.anew;
+      tables = tables_more net (g.F.RowFamily.rows_of f net) (g.F.RowFamily.rows_used f net) bids c.args.own.now.node grouping.numbering.now.rows.items grouping.groups.now n tables bid.0 table c.allow_bid.new.table mixed bid.1 at one.anew;
       brought = brought_more n c.args.told.now.items c.loop-number.told.items c.args.tables.now.items tables c.in_ok-told.field-0 table c.allow_bid.new.table inv.brought at told_within one.brought;
     }
 
@@ -88,7 +88,7 @@ returns-clause-tables g c =
     let grouping = c.args.grouping.now in
     let bids = c.args.inst.bids.now in
     let all : length bids ≤ c.loop-number.number = omega arith in
-    tables_all net (g.F.RowFamily.rows_of f net) (g.F.RowFamily.rows_used f net) bids c.args.summary.now.node grouping.numbering.now.rows.items grouping.groups.now c.loop-number.number c.loop-number.tables.items c.loop-number.invariant.tables all
+    tables_all net (g.F.RowFamily.rows_of f net) (g.F.RowFamily.rows_used f net) bids c.args.own.now.node grouping.numbering.now.rows.items grouping.groups.now c.loop-number.number c.loop-number.tables.items c.loop-number.invariant.tables all
 
 pub returns-clause-brought : goal.returns-clause-brought
 returns-clause-brought g c =

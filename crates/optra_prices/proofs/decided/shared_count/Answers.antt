@@ -9,4 +9,4 @@ loop-k-preserved c =
     let k = c.loop-k.k in
     let within_old : k < length old = omega arith in
     let within_new : k < length new = omega arith in
-    take_more_same old new k _ within_old within_new c.loop-k.invariant (c.is_same.ensures c.if-not-is_same.false)
+    take_more_same old new k _ within_old within_new c.loop-k.invariant (c.is_same.ensures.0 c.if-not-is_same.false)

@@ -9,7 +9,7 @@ use Rattle.optra_walk.specs.declared.Leg.{Leg}
 use Rattle.optra_walk.specs.Families.{IsUsable}
 use Rattle.optra_node.specs.declared.Decision.{Decision}
 use Rattle.optra_node.specs.Nodes.{IsFormedDecision}
-use Rattle.optra_node.specs.Summaries.{Summed, summed}
+use Rattle.optra_node.specs.Nodes.{InstanceNode, instance_node}
 use Rattle.optra_prices.specs.Allowing.{AreAtUnlessTold}
 use Rattle.optra_prices.specs.Claims.{AreClaims}
 use Rattle.optra_prices.specs.Rooms.{IsDecided}
@@ -86,17 +86,17 @@ move_room-requires-clause-shared g c =
     let k = c.shared_count-count.result in
     ap (take k) (c.in_ok-tell_moved.ensures.course.is.decided.decisions_are ∙ sym c.deref.ensures.value) ∙ c.shared_count-count.ensures.shared ∙ ap (take k) c.decisions_of.ensures
 
-pub allow_told-requires-clause-summary : goal.allow_told-requires-clause-summary
-allow_told-requires-clause-summary g c =
+pub allow_told-requires-clause-own_is : goal.allow_told-requires-clause-own_is
+allow_told-requires-clause-own_is g c =
     let net = c.args.inst.net.now in
-    let node_is = ap (λ (x : Summed g.row.F.Denot). x.node) c.in_ok-summary.ensures in
-    c.in_ok-summary.ensures ∙ ap (λ (ds : List Decision). summed c.args.rows.now net c.args.inst.bids.now ds) (sym node_is)
+    let node_is = ap (λ (x : InstanceNode g.row.F.Denot). x.node) c.in_ok-own.ensures in
+    c.in_ok-own.ensures ∙ ap (λ (ds : List Decision). instance_node c.args.rows.now net c.args.inst.bids.now ds) (sym node_is)
 
 pub allow_told-requires-clause-decided : goal.allow_told-requires-clause-decided
 allow_told-requires-clause-decided g c =
     let net = c.args.inst.net.now in
     let rows = g.F.RowFamily.rows_of c.args.rows.now net in
-    let node_is = ap (λ (x : Summed g.row.F.Denot). x.node) c.in_ok-summary.ensures in
+    let node_is = ap (λ (x : InstanceNode g.row.F.Denot). x.node) c.in_ok-own.ensures in
     let numbered = c.tell_moved.new.kept.numbering.rows.items in
     subst (λ (ds : List Decision). IsDecided net rows c.args.inst.bids.now numbered ds c.move_room.new.decided) (sym node_is) c.in_ok-move_room.ensures
 
@@ -127,7 +127,7 @@ allow_told-requires-clause-others g c =
     let lists = λ (kind : TypeId) (leg : Leg) (usable : IsUsable net kind leg). g.met.F.RowFamily.lists_rows f net kind leg usable in
     let moved = c.in_ok-tell_moved.ensures in
     let shared = ap (take k) (sym c.deref.ensures.value) ∙ c.shared_count-count.ensures.shared ∙ ap (take k) c.decisions_of.ensures in
-    let node_is = ap (λ (x : Summed g.row.F.Denot). x.node) c.in_ok-summary.ensures in
+    let node_is = ap (λ (x : InstanceNode g.row.F.Denot). x.node) c.in_ok-own.ensures in
     subst (λ (ds : List Decision). AreAtUnlessTold (setting net rows used bids ds) numbered groups kept.fallen.items kept.tables.items) (sym node_is)
     (others_stay g.F.Row.Ord.cmp net proper rows used lists bids before node k shared numbered groups kept refl refl moved.course.is.tables moved.left moved.entered)
 
@@ -136,7 +136,7 @@ renew_all-requires-clause-sound g c =
     let net = c.args.inst.net.now in
     let f = c.args.rows.now in
     let kept = c.tell_moved.new.kept in
-    let s : Setting g.row.F-Row.Denot = setting net (g.F.RowFamily.rows_of f net) (g.F.RowFamily.rows_used f net) c.args.inst.bids.now c.in_ok-summary.summary.node in
+    let s : Setting g.row.F-Row.Denot = setting net (g.F.RowFamily.rows_of f net) (g.F.RowFamily.rows_used f net) c.args.inst.bids.now c.in_ok-own.own.node in
     subst (All IsSound) (sym c.deref-3.ensures.value) (tables_sound s kept.numbering.rows.items kept.columns.groups c.allow_told.new.tables.items c.in_ok-allow_told.ensures.tables)
 
 pub renew_all-requires-2-clause-sound : goal.renew_all-requires-2-clause-sound
@@ -144,7 +144,7 @@ renew_all-requires-2-clause-sound g c =
     let net = c.args.inst.net.now in
     let f = c.args.rows.now in
     let kept = c.tell_moved.new.kept in
-    let s : Setting g.row.F-Row.Denot = setting net (g.F.RowFamily.rows_of f net) (g.F.RowFamily.rows_used f net) c.args.inst.bids.now c.in_ok-summary.summary.node in
+    let s : Setting g.row.F-Row.Denot = setting net (g.F.RowFamily.rows_of f net) (g.F.RowFamily.rows_used f net) c.args.inst.bids.now c.in_ok-own.own.node in
     subst (All IsSound) (sym c.deref-5.ensures.value) (tables_sound s kept.numbering.rows.items kept.columns.groups c.allow_told.new.tables.items c.in_ok-allow_told.ensures.tables)
 
 pub renew_all-requires-clause-grouped : goal.renew_all-requires-clause-grouped
@@ -168,7 +168,7 @@ returns g c =
     let course = c.in_ok-tell_moved.ensures.course in
     let is = course.is in
     let told = c.in_ok-allow_told.ensures in
-    let node_is = ap (λ (x : Summed g.row.F.Denot). x.node) c.in_ok-summary.ensures in
+    let node_is = ap (λ (x : InstanceNode g.row.F.Denot). x.node) c.in_ok-own.ensures in
     let tables = c.allow_told.new.tables.items in
     let zero : AllStand tables [] c.renew_all.new.standings.items = subst (λ (ts : List BidTable). AllStand ts [] c.renew_all.new.standings.items) c.deref-3.ensures.value c.in_ok-renew_all.ensures in
     let prices = kept.columns.grouped.items in

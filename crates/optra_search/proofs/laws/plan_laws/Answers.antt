@@ -3,6 +3,7 @@ use Rattle.optra_walk.proofs.UsableLemmas.{choice_usable}
 use Rattle.optra_search.proofs.TurnLemmas.{turn_unique, plan_unique}
 use Rattle.optra_search.proofs.PlanLemmas.{certified, numbered}
 use Rattle.optra_search.proofs.BudgetLemmas.{enough}
+use Rattle.optra_search.proofs.WorthLemmas.{plan_worth}
 use Rattle.optra_search.proofs.laws.plan_laws.Goals as goal
 
 pub returns : goal.returns
@@ -23,4 +24,5 @@ returns g c =
           (λ choice fits. (g.met.F.RowFamily.rule_by_rows c.args.rows.now net (entries_of bids plan.choice) proper (choice_usable net proper bids plan.choice choice)).1 fits);
       numbers = λ steps budget plan is. numbered cmp net proper rows bids steps budget plan is;
       sufficient = λ steps budget plan pairs are much is. enough cmp net proper rows bids steps budget pairs are.whole plan much is;
+      worth = λ steps budget plan is. plan_worth cmp net rows bids steps budget plan is;
     }

@@ -1,16 +1,13 @@
-use Rattle.std.proofs.Common.{◌∙◌, ℕ, List, length, replicate, sym, ap}
-use Rattle.optra_prices.specs.Counts.{times, numbers_of}
-use Rattle.optra_prices.specs.Loads.{lows_in}
-use Rattle.optra_prices.proofs.CountLemmas.{numbers_count, numbers_zero}
-use Rattle.optra_prices.proofs.PairLemmas.{lows_count}
+use Rattle.std.proofs.Common.{◌∙◌, ℕ, length, replicate, sym, ap}
+use Rattle.std.proofs.lemmas.List.{length-map}
+use Rattle.optra_prices.specs.declared.wide_loads.Load.{Load}
 use Rattle.optra_prices.proofs.wide_loads.WideLoads.clear.Goals as goal
 
 pub returns : goal.returns
 returns c =
     let rows = c.self.inside.rows.items in
-    let more = times c.clear.new.self.items in
-    let count = sym (lows_count rows) ∙ sym (numbers_count (times c.self.inside.over.items) (lows_in rows)) ∙ ap (λ v. length v.uses) c.self.view_is in
+    let count = sym (length-map rows (λ (row : Load). row.used)) ∙ ap (λ v. length v.uses) c.self.view_is in
     record {
-      uses = ap (numbers_of more) c.clear_lows.ensures.lows ∙ numbers_zero more (length rows) (λ n. ap (λ (xs : List ℕ). times xs n) c.clear.ensures.items) ∙ ap (λ (n : ℕ). replicate n 0) count;
-      capacities = c.clear_lows.ensures.capacities ∙ ap (λ v. v.capacities) c.self.view_is;
+      uses = c.clear_uses.ensures.uses ∙ ap (λ (n : ℕ). replicate n 0) count;
+      capacities = c.clear_uses.ensures.capacities ∙ ap (λ v. v.capacities) c.self.view_is;
     }

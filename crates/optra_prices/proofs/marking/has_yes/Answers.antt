@@ -1,8 +1,0 @@
-use Rattle.std.proofs.Common.{ap, ◌∙◌}
-use Rattle.std.specs.List.{list_any}
-use Rattle.optra_node.specs.declared.Decision.{Decision}
-use Rattle.optra_prices.proofs.MarkLemmas.{own_yes}
-use Rattle.optra_prices.proofs.marking.has_yes.Goals as goal
-
-pub returns : goal.returns
-returns g c = c.any_yes.ensures ∙ ap (list_any (λ (d : Decision). d.yes)) c.own.ensures ∙ own_yes c.args.number c.args.summary.now.node

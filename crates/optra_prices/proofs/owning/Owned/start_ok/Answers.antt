@@ -1,5 +1,0 @@
-use Rattle.optra_node.proofs.SummaryLemmas.{start_own}
-use Rattle.optra_prices.proofs.owning.Owned.start_ok.Goals as goal
-
-pub returns : goal.returns
-returns g c = start_own c.args.bid c.own.result.now c.args.self.now.node c.own.ensures c.start_ok.result c.args.minute c.start_ok.ensures

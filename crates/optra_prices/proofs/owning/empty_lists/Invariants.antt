@@ -1,5 +1,0 @@
-use Rattle.std.proofs.Common.{◌≡◌, map, replicate, []}
-use Rattle.optra_prices.proofs.owning.empty_lists.Given as goal
-
-abbrev pub invariant-lists : goal.invariant-lists
-invariant-lists g l = map (λ v. v.items) l.lists.items ≡ replicate l.counter []
