@@ -1,21 +1,22 @@
 -- What every auction keeps, through each action and through the close of a round.
-use Rattle.std.proofs.Common.{◌≡◌, ◌<◌, ◌≤◌, ◌+◌, ◌++◌, ℕ, zero, suc, Bool, true, false, List, [], ◌∷◌, length, map, take, drop, set, slice_get, Option, Some, None, option_map, is_some, refl, sym, ap, ◌∙◌, subst, arith, ℤ, pos, All, remove, IsTrue, bytes_eq}
-use Rattle.std.specs.Prelude.{nat_le, if◌then◌else◌, int_lt, ◌+ℤ◌, ◌≤ℤ◌}
+use Rattle.std.proofs.Common.{◌≡◌, ◌<◌, ◌≤◌, ◌+◌, ◌++◌, ℕ, zero, suc, Bool, true, false, List, [], ◌∷◌, length, map, take, drop, set, get_or, slice_get, Option, Some, None, option_map, is_some, refl, sym, ap, ◌∙◌, subst, arith, ℤ, pos, All, remove, IsTrue, bytes_eq}
+use Rattle.std.specs.Prelude.{nat_le, if◌then◌else◌, int_lt, ◌+ℤ◌, ◌≤ℤ◌, Contains}
 use Rattle.std.proofs.lemmas.Bool.{leb-false}
 use Rattle.std.proofs.lemmas.Int.{ints}
-use Rattle.std.proofs.lemmas.List.{length-append, length-map, map_push, take_more}
+use Rattle.std.proofs.lemmas.List.{get_or-map, length-append, length-map, map_push, take_more}
 use Rattle.std.proofs.lemmas.List.Edits.{length-remove}
-use Rattle.std.proofs.lemmas.List.Elements.{All-append, All-cons, All-drop, All-head, All-map, All-nil, All-push, All-set, All-tail, All-take, All-weaker}
+use Rattle.std.proofs.lemmas.List.Elements.{All-append, All-cons, All-contains, All-contains_itself, All-drop, All-head, All-map, All-nil, All-push, All-set, All-tail, All-take, All-weaker}
 use Rattle.std.proofs.lemmas.List.Quantifiers.{all_pairs_remove, position-Some}
-use Rattle.std.proofs.lemmas.Option.{get_or_from_slice_get, none-some, same_Some}
+use Rattle.std.proofs.lemmas.Option.{get_or_from_slice_get, none-some, same_Some, slice_get-map}
 use Rattle.std.specs.Option.{option_and_then, option_map_or}
-use Rattle.optra_bid.specs.Specs.{IsPathOn}
+use Rattle.optra_bid.specs.Specs.{Path}
 use Rattle.optra_network.specs.Names.{AreNames, is_name, place_of}
 use Rattle.optra_network.specs.Refusals.{first_of}
 use Rattle.optra_network.proofs.NamesLemmas.{AreNames-push}
 use Rattle.optra_bid.specs.declared.bids.Bid.{Bid}
 use Rattle.optra_auction.specs.declared.Refusal.TheVariants.{A2, A3, A6, A10}
-use Rattle.optra_auction.specs.Machine.{ArePathsOfSpecs, Offer, offer_of, offer_on, planned_of, IsAmount, IsAuction, IsOn, Standing, State, amend_refusal, amend_table, amended_bid, is_below, is_below_raise, is_full, is_last_round, least_raise_of, opened_bid, opening_refusal, opening_table, place_named, raise_refusal, raise_table, raised_bid, reserve_at, reserve_named, rested, spec_named, spec_names, standing_is, standing_names, state_of, valued, with_change, with_values}
+use Rattle.optra_bid.specs.Offers.{Offer, offer_of}
+use Rattle.optra_auction.specs.Machine.{ArePathsOfSpecs, offer_on, planned_of, IsAmount, IsAuction, IsOn, Standing, State, amend_refusal, amend_table, amended_bid, is_below, is_below_raise, is_full, is_last_round, least_raise_of, opened_bid, opening_refusal, opening_table, paths_of, place_named, raise_refusal, raise_table, raised_bid, reserve_at, reserve_named, rested, spec_named, spec_names, standing_is, standing_names, state_of, valued, with_change, with_values}
 use Rattle.optra_auction.proofs.MachineLemmas.{All-slice_get, IsAmount-least_raise_of, IsAmount-share_of, some_at, with_change-at}
 use Rattle.optra_auction.proofs.KeptLemmas.{map-remove}
 use Rattle.optra_auction.proofs.RefusalLemmas.{standing-named}
@@ -233,18 +234,29 @@ planned-names specs (b ∷ standing) (x ∷ bids) e =
     let name = ap (λ (o : Offer). o.name) on.1.1 in
     λ j. name j ∷ same j
 
--- planned bids are on each network on which the specifications are
+-- planned bids are for paths of the specifications
 pub planned-paths : (specs : List Bid) (standing : List Standing) (bids : List Bid) → map (λ (bid : Bid). Some (offer_of bid)) bids ≡ map (planned_of specs) standing → ArePathsOfSpecs specs bids
-planned-paths specs [] [] e net all = All-nil (λ (bid : Bid). IsPathOn net bid.path)
-planned-paths specs [] (x ∷ bids) e net all = cc
-planned-paths specs (b ∷ standing) [] e net all = cc
-planned-paths specs (b ∷ standing) (x ∷ bids) e net all =
+planned-paths specs [] [] e = All-nil (Contains (paths_of specs))
+planned-paths specs [] (x ∷ bids) e = cc
+planned-paths specs (b ∷ standing) [] e = cc
+planned-paths specs (b ∷ standing) (x ∷ bids) e =
     let head : Some (offer_of x) ≡ planned_of specs b = cc in
     let tail : map (λ (bid : Bid). Some (offer_of bid)) bids ≡ map (planned_of specs) standing = cc in
     let on = planned-on specs b (offer_of x) head in
-    All-cons (λ (bid : Bid). IsPathOn net bid.path) x bids
-    (subst (IsPathOn net) (sym (ap (λ (o : Offer). o.path) on.1.1)) (All-slice_get (λ (bid : Bid). IsPathOn net bid.path) specs b.spec on.0 all on.1.0))
-    (planned-paths specs standing bids tail net all)
+    let same : on.0.path ≡ x.path = sym (ap (λ (o : Offer). o.path) on.1.1) in
+    let path : slice_get (paths_of specs) b.spec ≡ Some x.path =
+    slice_get-map (λ (spec : Bid). spec.path) specs b.spec ∙ ap (option_map (λ (spec : Bid). spec.path)) on.1.0 ∙ ap (λ (p : Path). Some p) same in
+    All-cons (Contains (paths_of specs)) x.path (paths_of bids)
+    (All-slice_get (Contains (paths_of specs)) (paths_of specs) b.spec x.path (All-contains_itself (paths_of specs)) path)
+    (planned-paths specs standing bids tail)
+
+-- what the path of each specification has, that of each bid has
+pub paths_hold : (P : Path → Type 0) (specs bids : List Bid) → ArePathsOfSpecs specs bids → All (λ (spec : Bid). P spec.path) specs → All (λ (bid : Bid). P bid.path) bids
+paths_hold P specs bids paths all =
+    let each : All P (paths_of specs) = All-map P (λ (spec : Bid). spec.path) specs all in
+    λ i d within.
+    let long : i < length (paths_of bids) = omega (arith, within, length-map bids (λ (bid : Bid). bid.path)) in
+    subst P (get_or-map (λ (bid : Bid). bid.path) bids i d d.path within) (All-contains P (paths_of specs) (get_or (paths_of bids) i d.path) each (paths i d.path long))
 
 -- one more planned bid
 pub planned-more : (specs : List Bid) (standing : List Standing) (bids more : List Bid) (i : ℕ) (bid : Bid) → map (λ (x : Bid). Some (offer_of x)) bids ≡ map (planned_of specs) (take i standing)

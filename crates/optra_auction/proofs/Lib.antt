@@ -3,3 +3,4 @@ pub mod KeptLemmas
 pub mod MachineLemmas
 pub mod RefusalLemmas
 pub mod AuctionLemmas
+pub mod ActLemmas

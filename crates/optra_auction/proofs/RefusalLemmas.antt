@@ -7,7 +7,8 @@ use Rattle.optra_bid.specs.declared.bids.Bid.{Bid}
 use Rattle.optra_auction.specs.declared.Refusal.{Refusal}
 use Rattle.optra_auction.specs.declared.Refusal.TheVariants.{A1, A2, A3, A4, A5, A6, A7, A8, A9, A10}
 use Rattle.optra_auction.specs.declared.Rules.{Rules}
-use Rattle.optra_auction.specs.Machine.{Standing, State, amend_refusal, amend_tests, has_acted, is_anothers, is_below, is_below_raise, is_full, is_winning, opening_refusal, place_named, raise_refusal, raise_tests, reserve_at, reserve_named, spec_named, standing_named, withdraw_refusal, withdraw_tests}
+use Rattle.optra_auction.specs.Tests.{amend_tests, raise_tests, withdraw_tests}
+use Rattle.optra_auction.specs.Machine.{Standing, State, amend_refusal, has_acted, is_anothers, is_below, is_below_raise, is_full, is_winning, opening_refusal, place_named, raise_refusal, reserve_at, reserve_named, spec_named, standing_named, withdraw_refusal}
 
 -- the standing bid of a name that has a place
 pub standing-named : (s : State) (bid : List ℕ) (i : ℕ) (b : Standing) → place_named s bid ≡ Some i → slice_get s.standing i ≡ Some b → standing_named s bid ≡ Some b

@@ -1,13 +1,12 @@
 -- The auction machine: what stands, which actions are refused, what an accepted one changes, and what the close of a round leaves.
-use Rattle.std.specs.Prelude.{◌≡◌, ℕ, ◌+◌, ◌≤◌, not, Bool, true, false, List, [], ◌∷◌, ◌++◌, length, map, slice_get, slice_set, remove, nat_le, bytes_eq, All, Option, None, Some, is_some, is_none, option_map, Result, MatchResult, if◌then◌else◌, ⊤}
+use Rattle.std.specs.Prelude.{◌≡◌, ℕ, ◌+◌, ◌≤◌, not, Bool, true, false, List, [], ◌∷◌, ◌++◌, length, map, slice_get, slice_set, remove, nat_le, bytes_eq, All, Contains, Option, None, Some, is_some, is_none, option_map, Result, MatchResult, if◌then◌else◌, ⊤}
 use Rattle.std.specs.Prelude.{ℤ, pos, int_lt, ◌≤ℤ◌, ◌+ℤ◌, ◌*ℤ◌}
 use Rattle.std.specs.Int.{int_div_euclid, int_max}
 use Rattle.std.specs.Option.{option_map_or, option_and_then}
 use Rattle.optra_network.specs.Names.{AllDiffer, AreNames, place_of}
 use Rattle.optra_network.specs.Refusals.{first_of}
-use Rattle.optra_network.specs.Net.{Net}
-use Rattle.optra_bid.specs.Specs.{IsBetween, IsPathOn, Path}
-use Rattle.optra_bid.specs.declared.Money.{Money}
+use Rattle.optra_bid.specs.Specs.{IsBetween, Path}
+pub use Rattle.optra_bid.specs.Offers.{Offer, offer_of}
 use Rattle.optra_bid.specs.declared.bids.Bid.{Bid}
 use Rattle.optra_auction.specs.declared.Act.{Act}
 use Rattle.optra_auction.specs.declared.Act.TheVariants.{Opening, Raise, Amend, Withdraw}
@@ -181,30 +180,6 @@ refusal_of s (Raise bidder bid amount) = raise_refusal s bidder bid amount
 refusal_of s (Amend bidder bid spec) = amend_refusal s bidder bid spec
 refusal_of s (Withdraw bidder bid) = withdraw_refusal s bidder bid
 
--- the tests of a standing bid by which its own bidder is refused
-abbrev pub own_tests : Standing → Option Refusal
-own_tests b = first_of ((is_winning b, A7) ∷ (has_acted b, A8) ∷ [])
-
--- the tests of the standing bid that is to be raised
-abbrev pub raise_tests : Rules → List ℕ → ℤ → Standing → Option Refusal
-raise_tests rules bidder amount b = first_of ((is_anothers bidder b, A5) ∷ (is_below_raise rules amount b, A6) ∷ (is_winning b, A7) ∷ (has_acted b, A8) ∷ [])
-
--- the tests of the standing bid that is to be amended
-abbrev pub amend_tests : List ℕ → ℤ → Standing → Option Refusal
-amend_tests bidder reserve b = first_of ((is_anothers bidder b, A5) ∷ (is_winning b, A7) ∷ (has_acted b, A8) ∷ (is_below reserve b, A3) ∷ [])
-
--- the tests of the standing bid that is to be withdrawn
-abbrev pub withdraw_tests : List ℕ → Standing → Option Refusal
-withdraw_tests bidder b = first_of ((is_anothers bidder b, A5) ∷ (is_winning b, A7) ∷ (has_acted b, A8) ∷ [])
-
--- the place that a name has, where nothing refuses, or the refusal
-abbrev pub FindsPlace : Option Refusal → Option ℕ → Result ℕ Refusal → Type 0
-FindsPlace refusal place result = MatchResult result (λ found. (refusal ≡ None) × (place ≡ Some found)) (λ why. refusal ≡ Some why)
-
--- the places that two names have, where nothing refuses, or the refusal
-abbrev pub FindsPlaces : Option Refusal → Option ℕ → Option ℕ → Result (ℕ × ℕ) Refusal → Type 0
-FindsPlaces refusal first second result = MatchResult result (λ found. (refusal ≡ None) × (first ≡ Some found.0) × (second ≡ Some found.1)) (λ why. refusal ≡ Some why)
-
 -- ---- what an accepted action changes
 
 -- a list of standing bids with a change of the one at a place
@@ -245,14 +220,37 @@ pub record IsAccepted (old : State) (act : Act) (new : State) : Type 0 where
   pub after : new ≡ after_act old act
 
 -- an action is refused for the first reason, handed back as it was, and changes nothing
-pub record IsRefused (old : State) (act : Act) (refused : Refused) (new : State) : Type 0 where
+pub record IsHandedBack (old : State) (act : Act) (refused : Refused) (new : State) : Type 0 where
   pub why : refusal_of old act ≡ Some refused.why
   pub back : refused.action ≡ act
   pub same : new ≡ old
 
 -- the answer to an action, and the auction after it: it is accepted, or refused
 abbrev pub IsStep : {T : Type 0} → State → Act → State → Result T Refused → Type 0
-IsStep old act new result = MatchResult result (λ _. IsAccepted old act new) (λ refused. IsRefused old act refused new)
+IsStep old act new result = MatchResult result (λ _. IsAccepted old act new) (λ refused. IsHandedBack old act refused new)
+
+-- ---- actions, one after another
+
+-- the auction after an action, which is accepted or refused
+abbrev pub after_any : State → Act → State
+after_any s act = option_map_or (λ _. s) (refusal_of s act) (after_act s act)
+
+-- the auction after all of these actions
+abbrev pub after_all : State → List Act → State
+after_all s [] = s
+after_all s (act ∷ acts) = after_all (after_any s act) acts
+
+-- what becomes of each of them: why it is refused, if it is
+abbrev pub refusals_of : State → List Act → List (Option Refusal)
+refusals_of s [] = []
+refusals_of s (act ∷ acts) = refusal_of s act ∷ refusals_of (after_any s act) acts
+
+-- what no action changes: the specifications and the rules, the round, and whether the auction is closed
+pub record IsSameRound (old new : State) : Type 0 where
+  pub specs : new.specs ≡ old.specs
+  pub rules : new.rules ≡ old.rules
+  pub round : new.round ≡ old.round
+  pub closed : new.closed ≡ old.closed
 
 -- ---- the close of a round
 
@@ -283,16 +281,6 @@ after_round s values =
 
 -- ---- the bids that are planned
 
--- a bid by its names, its path and its money; the bounds that it keeps follow from these
-pub record Offer : Type 0 where
-  pub name : List ℕ
-  pub bidder : List ℕ
-  pub path : Path
-  pub money : Money
-
-abbrev pub offer_of : Bid → Offer
-offer_of bid = record { name = bid.name; bidder = bid.bidder; path = bid.path; money = bid.money }
-
 -- a standing bid on a specification as it is planned: the specification with the standing bid's own name and bidder, and with
 -- its amount as base
 abbrev pub offer_on : Bid → Standing → Offer
@@ -306,9 +294,13 @@ planned_of specs b = option_map (λ (spec : Bid). offer_on spec b) (slice_get sp
 abbrev pub ArePlanned : State → List Bid → Type 0
 ArePlanned s bids = map (λ (bid : Bid). Some (offer_of bid)) bids ≡ map (planned_of s.specs) s.standing
 
--- wherever all specifications are on a network, the bids are on it too
+-- the paths of bids
+abbrev pub paths_of : List Bid → List Path
+paths_of bids = map (λ (bid : Bid). bid.path) bids
+
+-- each bid is for the path of a specification, so that it has what all of these have
 abbrev pub ArePathsOfSpecs : List Bid → List Bid → Type 0
-ArePathsOfSpecs specs bids = (net : Net) → All (λ (spec : Bid). IsPathOn net spec.path) specs → All (λ (bid : Bid). IsPathOn net bid.path) bids
+ArePathsOfSpecs specs bids = All (Contains (paths_of specs)) (paths_of bids)
 
 -- ---- what every auction keeps
 

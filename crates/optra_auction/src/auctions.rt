@@ -3,7 +3,9 @@ ghost use Rattle.std.specs.Prelude.{◌≡◌, ◌<◌, ◌≤◌, length, slice
 ghost use Rattle.std.specs.Option.{option_and_then};
 ghost use Rattle.optra_network.specs.Names.{AllDiffer, is_name};
 ghost use Rattle.optra_auction.specs.declared.Act.TheVariants.{Opening, Raise, Amend, Withdraw};
-ghost use Rattle.optra_auction.specs.Machine.{ArePathsOfSpecs, ArePlanned, AreRules, AreSpecs, FindsPlace, FindsPlaces, HasAmount, IsAmount, IsAuction, IsStep, after_round, amend_refusal, is_last_round, least_raise_of, offer_of, opened, opening_refusal, place_named, planned_of, raise_refusal, spec_named, spec_names, withdraw_refusal};
+ghost use Rattle.optra_auction.specs.Tests.{FindsPlace, FindsPlaces};
+ghost use Rattle.optra_bid.specs.Offers.{offer_of};
+ghost use Rattle.optra_auction.specs.Machine.{ArePathsOfSpecs, ArePlanned, AreRules, AreSpecs, HasAmount, IsAmount, IsAuction, IsStep, after_round, amend_refusal, is_last_round, least_raise_of, opened, opening_refusal, place_named, planned_of, raise_refusal, spec_named, spec_names, withdraw_refusal};
 
 use crate::planning::planned;
 use crate::spec_list::SpecList;

@@ -14,9 +14,11 @@ mod auctions;
 mod planning;
 mod spec_list;
 mod standing_bids;
+mod steps;
 mod terms;
 
 pub use auctions::Auction;
+pub use steps::{take_act, take_acts};
 
 /// The rules of an auction.
 #[derive(Clone, Copy, Debug, PartialEq, Eq)]

@@ -2,7 +2,8 @@
 ghost use Rattle.std.specs.Prelude.{◌≡◌, IfOk, true};
 ghost use Rattle.optra_network.specs.Names.{is_name};
 ghost use Rattle.optra_auction.specs.Kept.{named};
-ghost use Rattle.optra_auction.specs.Machine.{IsAmount, offer_of, offer_on};
+ghost use Rattle.optra_bid.specs.Offers.{offer_of};
+ghost use Rattle.optra_auction.specs.Machine.{IsAmount, offer_on};
 
 use crate::terms::Terms;
 use optra_bid::{Bid, Money, Name, PathSpec};

@@ -1,6 +1,7 @@
 //! What is known of a standing bid beside its name, and why an action on it is refused.
 ghost use Rattle.std.specs.Prelude.{◌≡◌, []};
-ghost use Rattle.optra_auction.specs.Machine.{AreRules, IsAmount, amend_tests, is_below_raise, own_tests, raise_tests, withdraw_tests};
+ghost use Rattle.optra_auction.specs.Tests.{amend_tests, own_tests, raise_tests, withdraw_tests};
+ghost use Rattle.optra_auction.specs.Machine.{AreRules, IsAmount, is_below_raise};
 ghost use Rattle.optra_auction.specs.Kept.{named};
 
 use crate::{Refusal, Rules};

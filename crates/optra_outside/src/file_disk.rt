@@ -1,9 +1,11 @@
 //! A real file.
-use crate::streams::write_whole;
+use crate::streams::{read_piece, write_whole};
 use crate::{Disk, DiskError, DiskFailed};
 use std::alloc::Global;
+use std::fs;
 use std::fs::{OpenFile, OpenOptions};
-use std::io::{Read, Seek, SeekFrom, Write};
+use std::io::{ErrorKind, Read, Seek, SeekFrom, Write};
+use std::path::Path;
 use std::rt::Files;
 
 /// The most bytes that one read asks for.
@@ -52,7 +54,8 @@ impl<'a, R: Files> Disk for FileDisk<'a, R> {
 
     ghost state = { file_state };
 
-    /// Opens the file, and makes it where it isn't there. What it holds stays.
+    /// Opens the file, and makes it where it isn't there. What it holds stays. Where it makes the file it also syncs the folder of
+    /// its path, so that no crash takes the file away; that this fails is a fault.
     fn choose(&mut self, name: &str) -> Result<(), DiskFailed>
         ensures leaves { Leaves (file_state self.old) (file_state self.new) }
         ensures cause { OnErr result (HasCause (file_state self.old) (file_state self.new)) }
@@ -63,14 +66,12 @@ impl<'a, R: Files> Disk for FileDisk<'a, R> {
         ensures file { KeepsFile (file_state self.old) (file_state self.new) }
         ensures counts { file_state self.new ≡ after_choose (file_state self.old) result }
     {
-        let mut how = OpenOptions::new();
-        how.read(true).write(true).create(true);
-        match how.open(self.rt, name) {
-            Ok(file) => {
+        match open_or_make(self.rt, name) {
+            Some(file) => {
                 self.file = Some(file);
                 Ok(())
             }
-            Err(_) => {
+            None => {
                 self.count_fault();
                 Err(DiskFailed)
             }
@@ -157,6 +158,40 @@ impl<'a, R: Files> Disk for FileDisk<'a, R> {
     }
 }
 
+/// Opens a file for reads and writes. It makes the file where it isn't there, and then syncs the folder.
+fn open_or_make<R: Files>(rt: &R, name: &str) -> Option<R::File> {
+    let mut how = OpenOptions::new();
+    how.read(true).write(true).create_new(true);
+    match how.open(rt, name) {
+        Ok(file) if sync_folder(rt, name) => Some(file),
+        Err(error) if error.kind() == ErrorKind::AlreadyExists => open_there(rt, name),
+        _ => None,
+    }
+}
+
+/// Opens a file that is there. One that a link names and that isn't there is made.
+fn open_there<R: Files>(rt: &R, name: &str) -> Option<R::File> {
+    let mut how = OpenOptions::new();
+    how.read(true).write(true).create(true);
+    how.open(rt, name).ok()
+}
+
+/// Whether the folder of a path was synced.
+fn sync_folder<R: Files>(rt: &R, name: &str) -> bool {
+    match fs::open(rt, folder_of(name)) {
+        Ok(folder) => folder.sync_all().is_ok(),
+        Err(_) => false,
+    }
+}
+
+/// The folder of a path.
+fn folder_of(name: &str) -> &str {
+    match Path::new(name).parent() {
+        Some(folder) if !folder.as_str().is_empty() => folder.as_str(),
+        _ => ".",
+    }
+}
+
 /// Reads so many bytes from a place on.
 fn read_range<F: Read + Seek>(
     alloc: Global,
@@ -172,7 +207,7 @@ fn read_range<F: Read + Seek>(
     let mut rest = count;
     while rest > 0 {
         let most = rest.min(PIECE as u64) as usize;
-        match file.read(&mut piece[..most]) {
+        match read_piece(file, &mut piece[..most]) {
             Ok(0) | Err(_) => return Err(DiskError::Failed),
             Ok(n) => {
                 bytes.extend_from_slice(&piece[..n])?;

@@ -4,7 +4,7 @@ use Rattle.std.proofs.lemmas.Bool.{cases_lt}
 use Rattle.std.proofs.lemmas.List.{take_more, map-append}
 use Rattle.std.proofs.lemmas.Option.{slice_get-get_or, slice_get_cases, slice_get_past}
 use Rattle.optra_auction.specs.Machine.{IsAuction, Standing, State}
-use Rattle.optra_rounds.specs.Rounds.{specs_of}
+use Rattle.optra_rounds.specs.Rounds.{standing_specs}
 
 -- the standing bid at a place, where something is told of it
 pub found : {X : Type 0} (standing : List Standing) (i : ℕ) (f : Standing → X) (r : X) → option_map f (slice_get standing i) ≡ Some r → (b : Standing) × (i < length standing) × (get_or standing i b ≡ b) × (f b ≡ r)
@@ -26,7 +26,7 @@ spec-within s auction i k h =
 
 -- one more name
 pub next-spec : (names : List (List ℕ)) (standing : List Standing) (i spec : ℕ) (here name : List ℕ) (old new : List (List ℕ)) → option_map (λ (b : Standing). b.spec) (slice_get standing i) ≡ Some spec → spec < length names
-    → here ≡ get_or names spec here → name ≡ here → new ≡ old ++ name ∷ [] → old ≡ specs_of names (take i standing) → new ≡ specs_of names (take (i + 1) standing)
+    → here ≡ get_or names spec here → name ≡ here → new ≡ old ++ name ∷ [] → old ≡ standing_specs names (take i standing) → new ≡ standing_specs names (take (i + 1) standing)
 next-spec names standing i spec here name old new h within is same pushed e =
     let b = found standing i (λ (b : Standing). b.spec) spec h in
     let name_of = λ (x : Standing). unwrap_or (slice_get names x.spec) [] in

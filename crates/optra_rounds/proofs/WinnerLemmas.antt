@@ -5,7 +5,8 @@ use Rattle.std.proofs.lemmas.List.{append-nil, take_more, get_or-map, length-map
 use Rattle.std.proofs.lemmas.List.Elements.{filter_map-append}
 use Rattle.std.specs.List.{filter_map}
 use Rattle.optra_bid.specs.declared.bids.Bid.{Bid}
-use Rattle.optra_auction.specs.Machine.{Offer, Standing, offer_of, offer_on, planned_of}
+use Rattle.optra_bid.specs.Offers.{Offer, offer_of}
+use Rattle.optra_auction.specs.Machine.{Standing, offer_on, planned_of}
 use Rattle.optra_rounds.specs.Rounds.{award_of, awards_of}
 use Rattle.optra_rounds.proofs.SpecLemmas.{found}
 

@@ -1,31 +1,33 @@
 -- What becomes of actions, one after another, and what is known of the bids that stand after them.
 use Rattle.std.specs.Prelude.{ℕ, ℤ, nat_eq, nat_lt, not, List, [], ◌∷◌, filter, map, Option, option_map, slice_get, unwrap_or}
-use Rattle.std.specs.List.{filter_map}
-use Rattle.std.specs.Option.{option_map_or}
+use Rattle.std.specs.List.{filter_map, zip}
 use Rattle.optra_network.specs.Net.{Net}
 use Rattle.optra_bid.specs.declared.bids.Bid.{Bid}
 use Rattle.optra_walk.specs.declared.Leg.{Leg}
 use Rattle.optra_walk.specs.Values.{value_of}
-use Rattle.optra_auction.specs.Machine.{Standing, State, after_act, refusal_of}
+use Rattle.optra_auction.specs.Machine.{Standing, State, after_all, refusals_of}
+pub use Rattle.optra_auction.specs.Machine.{after_any}
 use Rattle.optra_auction.specs.declared.Act.{Act}
 use Rattle.optra_auction.specs.declared.Refusal.{Refusal}
 use Rattle.optra_tables.specs.declared.TimedAct.{TimedAct}
 
 -- ---- actions
 
--- the auction after an action, which is accepted or refused
-abbrev pub after_any : State → Act → State
-after_any s act = option_map_or (λ _. s) (refusal_of s act) (after_act s act)
+-- what actions ask for, without their rounds and rows
+abbrev pub asked_of : List TimedAct → List Act
+asked_of actions = map (λ (a : TimedAct). a.act) actions
+
+-- the rows of actions
+abbrev pub rows_of : List TimedAct → List ℕ
+rows_of actions = map (λ (a : TimedAct). a.row) actions
 
 -- the auction after actions, one after another
 abbrev pub after_acts : State → List TimedAct → State
-after_acts s [] = s
-after_acts s (a ∷ actions) = after_acts (after_any s a.act) actions
+after_acts s actions = after_all s (asked_of actions)
 
 -- what became of actions, one after another: the row of each, and why it was refused, if it was
 abbrev pub outcomes : State → List TimedAct → List (ℕ × Option Refusal)
-outcomes s [] = []
-outcomes s (a ∷ actions) = (a.row, refusal_of s a.act) ∷ outcomes (after_any s a.act) actions
+outcomes s actions = zip (rows_of actions) (refusals_of s (asked_of actions))
 
 -- the actions of a round, in their order
 abbrev pub acts_of : ℕ → List TimedAct → List TimedAct
@@ -42,8 +44,8 @@ acts_after round actions = filter (λ a. nat_lt round a.round) actions
 -- ---- the bids that stand
 
 -- the name of the specification of each
-abbrev pub specs_of : List (List ℕ) → List Standing → List (List ℕ)
-specs_of names standing = map (λ (b : Standing). unwrap_or (slice_get names b.spec) []) standing
+abbrev pub standing_specs : List (List ℕ) → List Standing → List (List ℕ)
+standing_specs names standing = map (λ (b : Standing). unwrap_or (slice_get names b.spec) []) standing
 
 -- the value of each bid's walk, where it is served
 abbrev pub values_of : Net → List Bid → List (Option (List Leg)) → List (Option ℤ)

@@ -1,9 +1,9 @@
 //! The actions of a round.
-ghost use Rattle.std.specs.Prelude.{◌≡◌, ◌++◌, [], ◌∷◌, map, All, IfOk, OnOk};
-ghost use Rattle.optra_auction.specs.Machine.{HasAmount, IsAuction, refusal_of};
-ghost use Rattle.optra_rounds.specs.Rounds.{acts_of, after_acts, after_any, other_acts, outcomes};
+ghost use Rattle.std.specs.Prelude.{◌≡◌, ◌++◌, [], ◌∷◌, All, IfOk, OnOk};
+ghost use Rattle.optra_auction.specs.Machine.{HasAmount, IsAuction};
+ghost use Rattle.optra_rounds.specs.Rounds.{acts_after, acts_of, after_acts, asked_of, other_acts, outcomes, rows_of};
 
-use optra_auction::{Act, Auction, Refusal};
+use optra_auction::{Act, Auction, Refusal, take_act};
 use optra_network::NoMemory;
 use optra_tables::TimedAct;
 use std::alloc::Global;
@@ -37,7 +37,7 @@ pub fn take_actions(
     'actions: for action in actions {
         if action.round == round {
             let TimedAct { row, round: _, act } = action;
-            let refusal = take_action(auction, act);
+            let refusal = take_act(auction, act);
             outcomes.push((row, refusal))?;
         } else {
             later.push(action)?;
@@ -46,21 +46,65 @@ pub fn take_actions(
     Ok(Taken { outcomes, later })
 }
 
-/// Takes an action, and answers why it is refused, if it is.
-fn take_action(auction: &mut Auction, act: Act) -> Option<Refusal>
-    requires { HasAmount act }
-    ensures refusal { result ≡ refusal_of auction.old act }
-    ensures after { auction.new ≡ after_any auction.old act }
-{
-    match auction.act(act) {
-        Ok(()) => None,
-        Err(refused) => Some(refused.why),
+/// The actions of one round, and the rows of those of later rounds, each in their order.
+#[derive(Drop)]
+pub struct RoundActions {
+    /// The row of each action of the round.
+    pub rows: Vec<u32>,
+    /// What each of them asks for.
+    pub acts: Vec<Act>,
+    /// The row of each action of a later round.
+    pub later: Vec<u32>,
+}
+
+impl RoundActions {
+    /// Of no action.
+    fn new(alloc: Global) -> RoundActions
+        ensures rows { result.rows.items ≡ [] }
+        ensures acts { result.acts.items ≡ [] }
+        ensures later { result.later.items ≡ [] }
+    {
+        RoundActions {
+            rows: Vec::new(alloc),
+            acts: Vec::new(alloc),
+            later: Vec::new(alloc),
+        }
     }
+}
+
+/// The actions of a round apart, to be taken later, and the rows of those of later rounds. Actions of earlier rounds are left out.
+pub fn round_actions(
+    alloc: Global,
+    round: u16,
+    actions: Vec<TimedAct>,
+) -> Result<RoundActions, NoMemory>
+    requires { All (λ a. HasAmount a.act) actions.items }
+    ensures rows { IfOk result (λ parts. parts.rows.items ≡ rows_of (acts_of round actions.items)) }
+    ensures acts { IfOk result (λ parts. parts.acts.items ≡ asked_of (acts_of round actions.items)) }
+    ensures later { IfOk result (λ parts. parts.later.items
+        ≡ rows_of (acts_after round actions.items)) }
+    ensures amounts { IfOk result (λ parts. All HasAmount parts.acts.items) }
+{
+    let mut parts = RoundActions::new(alloc);
+    'actions: for action in actions {
+        let TimedAct {
+            row,
+            round: own,
+            act,
+        } = action;
+        if own == round {
+            parts.rows.push(row)?;
+            parts.acts.push(act)?;
+        } else if own > round {
+            parts.later.push(row)?;
+        }
+    }
+    Ok(parts)
 }
 
 /// The rows of actions.
 pub fn rows_of(alloc: Global, actions: &[TimedAct]) -> Result<Vec<u32>, NoMemory>
-    ensures { IfOk result (λ rows. rows.items ≡ map (λ a. a.row) actions.now) }
+    ensures { IfOk result (λ rows. rows.items ≡ rows_of actions.now) }
 {
     let mut rows = Vec::with_capacity(alloc, actions.len())?;
     'actions: for action in actions {

@@ -5,6 +5,6 @@ mod actions;
 mod standing;
 mod winners;
 
-pub use actions::{Taken, rows_of, take_actions};
-pub use standing::{names_of, spec_names, values_of};
+pub use actions::{RoundActions, Taken, round_actions, rows_of, take_actions};
+pub use standing::{spec_names, standing_specs, values_of};
 pub use winners::close_of;

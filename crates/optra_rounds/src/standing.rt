@@ -4,7 +4,7 @@ ghost use Rattle.optra_walk.specs.Choices.{IsChoice};
 ghost use Rattle.optra_walk.specs.Walks.{IsWalk};
 ghost use Rattle.optra_walk.specs.Values.{value_of};
 ghost use Rattle.optra_auction.specs.Machine.{spec_names};
-ghost use Rattle.optra_rounds.specs.Rounds.{specs_of, values_of};
+ghost use Rattle.optra_rounds.specs.Rounds.{standing_specs, values_of};
 
 use optra_auction::Auction;
 use optra_bid::{Bid, Name};
@@ -13,7 +13,7 @@ use optra_walk::{Choice, Walk, value};
 use std::alloc::Global;
 
 /// The names of specifications, in memory of their own.
-pub fn names_of(alloc: Global, specs: &[Bid]) -> Result<Vec<Name>, NoMemory>
+pub fn spec_names(alloc: Global, specs: &[Bid]) -> Result<Vec<Name>, NoMemory>
     ensures { IfOk result (λ names. names.items ≡ spec_names specs.now) }
 {
     let mut names = Vec::with_capacity(alloc, specs.len())?;
@@ -25,9 +25,13 @@ pub fn names_of(alloc: Global, specs: &[Bid]) -> Result<Vec<Name>, NoMemory>
 }
 
 /// The name of each standing bid's specification, where these are the names of the auction's specifications.
-pub fn spec_names(alloc: Global, auction: &Auction, names: &[Name]) -> Result<Vec<Name>, NoMemory>
+pub fn standing_specs(
+    alloc: Global,
+    auction: &Auction,
+    names: &[Name],
+) -> Result<Vec<Name>, NoMemory>
     requires { names.now ≡ spec_names auction.now.specs }
-    ensures { IfOk result (λ specs. specs.items ≡ specs_of names.now auction.now.standing) }
+    ensures { IfOk result (λ specs. specs.items ≡ standing_specs names.now auction.now.standing) }
 {
     let count = auction.count();
     let mut specs = Vec::with_capacity(alloc, count as usize)?;

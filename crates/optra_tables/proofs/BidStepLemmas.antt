@@ -12,7 +12,8 @@ use Rattle.optra_bid.specs.declared.BidRefusal.TheVariants as why
 use Rattle.optra_bid.specs.declared.RawStop.{RawStop}
 use Rattle.optra_bid.specs.declared.Stop.{Stop}
 use Rattle.optra_records.specs.Reading.{Record}
-use Rattle.optra_tables.specs.Bids.{Parts, bid_row, made_of, names_of, raw_at, told_at}
+use Rattle.optra_bid.specs.Offers.{Offer}
+use Rattle.optra_tables.specs.Bids.{bid_row, made_of, names_of, raw_at, told_at}
 use Rattle.optra_tables.specs.Fields.{name_at, number_at, shaped, two_at}
 use Rattle.optra_tables.specs.Outcomes.{bid_outcome, guard, or_fault}
 use Rattle.optra_tables.specs.Room.{stops_room}
@@ -39,14 +40,14 @@ from_ok x y e = cc e
 
 -- ---- bids
 
-bids_more : (bids new : List Parts) (bid : Parts) → nat_lt (length bids) 1000 ≡ true → bids ++ bid ∷ [] ≡ new → (length new ≤ 1000) × ((1000 - length new) + 1 ≤ 1000 - length bids)
+bids_more : (bids new : List Offer) (bid : Offer) → nat_lt (length bids) 1000 ≡ true → bids ++ bid ∷ [] ≡ new → (length new ≤ 1000) × ((1000 - length new) + 1 ≤ 1000 - length bids)
 bids_more bids new bid few same =
     let low = ltb-true (length bids) 1000 few in
     let len : length new ≡ length bids + 1 = ap length (sym same) ∙ length-append bids (bid ∷ []) in
     (omega (arith, low, len), omega (arith, low, len))
 
 -- a bid that is accepted takes one of the places
-pub bid_step : (net : Net) (bids new : List Parts) (row : ℕ) (fields : Record) → bid_row net bids row fields ≡ Ok new → (length new ≤ 1000) × ((1000 - length new) + 1 ≤ 1000 - length bids)
+pub bid_step : (net : Net) (bids new : List Offer) (row : ℕ) (fields : Record) → bid_row net bids row fields ≡ Ok new → (length new ≤ 1000) × ((1000 - length new) + 1 ≤ 1000 - length bids)
 unfolding bid_row
 bid_step net bids new row fields e =
     let told = from_bind (told_at row fields) _ new e in
@@ -58,24 +59,24 @@ bid_step net bids new row fields e =
 
 -- ---- stops
 
-pub stops_room_few : (bids : List Parts) → stops_room bids ≤ 8 * length bids
+pub stops_room_few : (bids : List Offer) → stops_room bids ≤ 8 * length bids
 unfolding stops_room
 stops_room_few [] = omega arith
 stops_room_few (bid ∷ bids) = let more = stops_room_few bids in omega (arith, more)
 
-stop_more : (bid : Parts) (stop : Stop) → length bid.path.stops < 8 → (8 - length (with_stop bid stop).path.stops) + 1 ≤ 8 - length bid.path.stops
+stop_more : (bid : Offer) (stop : Stop) → length bid.path.stops < 8 → (8 - length (with_stop bid stop).path.stops) + 1 ≤ 8 - length bid.path.stops
 stop_more bid stop few = let len = length-append bid.path.stops (stop ∷ []) in omega (arith, few, len)
 
-stops_more : (bids : List Parts) (i : ℕ) (bid : Parts) (stop : Stop) → slice_get bids i ≡ Some bid → length bid.path.stops < 8 → stops_room (set bids i (with_stop bid stop)) + 1 ≤ stops_room bids
+stops_more : (bids : List Offer) (i : ℕ) (bid : Offer) (stop : Stop) → slice_get bids i ≡ Some bid → length bid.path.stops < 8 → stops_room (set bids i (with_stop bid stop)) + 1 ≤ stops_room bids
 unfolding stops_room
 stops_more [] i bid stop there few = absurd (cc there)
 stops_more (b ∷ bids) zero bid stop there few =
     let same : b ≡ bid = cc there in
-    subst (λ (c : Parts). (8 - length (with_stop bid stop).path.stops) + stops_room bids + 1 ≤ (8 - length c.path.stops) + stops_room bids) (sym same)
+    subst (λ (c : Offer). (8 - length (with_stop bid stop).path.stops) + stops_room bids + 1 ≤ (8 - length c.path.stops) + stops_room bids) (sym same)
     (let more = stop_more bid stop few in omega (arith, more))
 stops_more (b ∷ bids) (suc i) bid stop there few = let more = stops_more bids i bid stop there few in omega (arith, more)
 
-length_set : (bids : List Parts) (i : ℕ) (bid : Parts) → length (set bids i bid) ≡ length bids
+length_set : (bids : List Offer) (i : ℕ) (bid : Offer) → length (set bids i bid) ≡ length bids
 length_set [] i bid = refl
 length_set (b ∷ bids) zero bid = refl
 length_set (b ∷ bids) (suc i) bid = ap suc (length_set bids i bid)
@@ -100,16 +101,16 @@ stops_below path raw e =
     (or_left (nat_le 8 (length path.stops)) (nat_lt raw.max_dwell raw.min_dwell)
     (or_left (nat_le 8 (length path.stops) || nat_lt raw.max_dwell raw.min_dwell) (nat_lt 30 (raw.max_dwell - raw.min_dwell)) free))
 
-stop_added : (row : ℕ) (bids new : List Parts) (place : ℕ) (bid : Parts) (raw : RawStop) → slice_get bids place ≡ Some bid → stop_outcome row bids place bid raw ≡ Ok new
+stop_added : (row : ℕ) (bids new : List Offer) (place : ℕ) (bid : Offer) (raw : RawStop) → slice_get bids place ≡ Some bid → stop_outcome row bids place bid raw ≡ Ok new
     → (length new ≡ length bids) × (stops_room new + 1 ≤ stops_room bids)
 stop_added row bids new place bid raw there e =
     let c = from_bid_outcome Stops row (stop_refusal bid.path raw) (set bids place (with_stop bid (stop_of raw))) new e in (
       sym (ap length c.1) ∙ length_set bids place (with_stop bid (stop_of raw)),
-      subst (λ (l : List Parts). stops_room l + 1 ≤ stops_room bids) c.1 (stops_more bids place bid (stop_of raw) there (stops_below bid.path raw c.0)),
+      subst (λ (l : List Offer). stops_room l + 1 ≤ stops_room bids) c.1 (stops_more bids place bid (stop_of raw) there (stops_below bid.path raw c.0)),
     )
 
 -- a stop that is accepted takes one of the places of its bid
-pub stop_step : (net : Net) (bids new : List Parts) (row : ℕ) (fields : Record) → stop_row net bids row fields ≡ Ok new → (length new ≡ length bids) × (stops_room new + 1 ≤ stops_room bids)
+pub stop_step : (net : Net) (bids new : List Offer) (row : ℕ) (fields : Record) → stop_row net bids row fields ≡ Ok new → (length new ≡ length bids) × (stops_room new + 1 ≤ stops_room bids)
 unfolding stop_row
 stop_step net bids new row fields e =
     let form = from_bind (shaped Stops row 6 fields) _ new e in
@@ -125,9 +126,9 @@ stop_step net bids new row fields e =
 
 -- ---- how many rows there can be
 
-pub stop_rows_few : (bids : List Parts) → length bids ≤ 1000 → stops_room bids < 2 ^ 31
+pub stop_rows_few : (bids : List Offer) → length bids ≤ 1000 → stops_room bids < 2 ^ 31
 stop_rows_few bids few = let most = stops_room_few bids in omega (arith, few, most)
 
-pub stop_takes_room : (net : Net) (bids new : List Parts) (row : ℕ) (fields : Record) → stop_row net bids row fields ≡ Ok new → length bids ≤ 1000
+pub stop_takes_room : (net : Net) (bids new : List Offer) (row : ℕ) (fields : Record) → stop_row net bids row fields ≡ Ok new → length bids ≤ 1000
     → (length new ≤ 1000) × (stops_room new + 1 ≤ stops_room bids)
 stop_takes_room net bids new row fields e few = let step = stop_step net bids new row fields e in (omega (arith, few, step.0), step.1)

@@ -22,7 +22,8 @@ use Rattle.optra_bid.specs.declared.RawStop.{RawStop}
 use Rattle.optra_bid.specs.declared.Stop.{Stop}
 use Rattle.optra_bid.specs.declared.bids.Bid.{Bid}
 use Rattle.optra_records.specs.Reading.{Field, Record, table_records}
-use Rattle.optra_tables.specs.Bids.{Parts, Told, bid_row, bids_header, made_of, names_of, parts_of, raw_at, raw_of, told_at}
+use Rattle.optra_bid.specs.Offers.{Offer, offer_of}
+use Rattle.optra_tables.specs.Bids.{Told, bid_row, bids_header, made_of, names_of, raw_at, raw_of, told_at}
 use Rattle.optra_tables.specs.Fields.{name_at, number_at, shaped, two_at}
 use Rattle.optra_tables.specs.Outcomes.{bid_outcome, guard, or_fault}
 use Rattle.optra_records.specs.Tables.{rows_from, table_of}
@@ -35,7 +36,7 @@ use Rattle.optra_tables.proofs.BidStepLemmas.{bid_step, from_bid_outcome, from_g
 use Rattle.optra_tables.proofs.StepLemmas.{from_bind, place_within}
 
 -- at most 1,000 bids with different names, each for a path on the network
-pub record AreKept (net : Net) (bids : List Parts) : Type 0 where
+pub record AreKept (net : Net) (bids : List Offer) : Type 0 where
   pub few : length bids ≤ 1000
   pub paths : All (λ bid. IsPathOn net bid.path) bids
   pub differ : AllDiffer (names_of bids)
@@ -80,21 +81,21 @@ some_not : {X : Type 0} (o : Option X) → is_none o ≡ true → is_some o ≡ 
 some_not None e = refl
 some_not (Some x) e = absurd (cc e)
 
-bid_added : (net : Net) (bids new : List Parts) (told : Told) (raw : RawBid) → AreKept net bids → nat_lt (length bids) 1000 ≡ true → is_none (place_of told.name (names_of bids)) ≡ true
+bid_added : (net : Net) (bids new : List Offer) (told : Told) (raw : RawBid) → AreKept net bids → nat_lt (length bids) 1000 ≡ true → is_none (place_of told.name (names_of bids)) ≡ true
     → IsPathOn net (path_of raw) → length new ≤ 1000 → bids ++ made_of told raw ∷ [] ≡ new → AreKept net new
 bid_added net bids new told raw kept few fresh on len same =
     let absent : list_any (bytes_eq told.name) (names_of bids) ≡ false =
     sym (list_any-position (bytes_eq told.name) (names_of bids)) ∙ some_not (place_of told.name (names_of bids)) fresh in
     record {
       few = len;
-      paths = subst (λ (l : List Parts). All (λ (bid : Parts). IsPathOn net bid.path) l) same (All-push (λ (bid : Parts). IsPathOn net bid.path) bids (made_of told raw) kept.paths on);
+      paths = subst (λ (l : List Offer). All (λ (bid : Offer). IsPathOn net bid.path) l) same (All-push (λ (bid : Offer). IsPathOn net bid.path) bids (made_of told raw) kept.paths on);
       differ =
-          subst (λ (l : List Parts). AllDiffer (names_of l)) same
-          (subst (λ (l : List Field). AllDiffer l) (sym (map_push (λ (bid : Parts). bid.name) bids (made_of told raw)))
+          subst (λ (l : List Offer). AllDiffer (names_of l)) same
+          (subst (λ (l : List Field). AllDiffer l) (sym (map_push (λ (bid : Offer). bid.name) bids (made_of told raw)))
           (AllDiffer-push bytes_eq (λ n. (bytes_eq-Decides n n).1 refl) (names_of bids) told.name kept.differ absent));
     }
 
-bid_kept : (net : Net) (bids : List Parts) (row : ℕ) (fields : Record) (new : List Parts) → bid_row net bids row fields ≡ Ok new → AreKept net bids → AreKept net new
+bid_kept : (net : Net) (bids : List Offer) (row : ℕ) (fields : Record) (new : List Offer) → bid_row net bids row fields ≡ Ok new → AreKept net bids → AreKept net new
 unfolding bid_row
 bid_kept net bids row fields new e kept =
     let told = from_bind (told_at row fields) _ new e in
@@ -105,11 +106,11 @@ bid_kept net bids row fields new e kept =
     let made = from_bid_outcome Bids row (bid_refusal raw.0) (made_of told.0 raw.0) bid.0 bid.1 in
     bid_added net bids new told.0 raw.0 kept (from_guard _ (nat_lt (length bids) 1000) few.0 few.1) (from_guard _ (is_none (place_of told.0.name (names_of bids))) fresh.0 fresh.1)
     (raw_on net row told.0 raw.0 raw.1) (bid_step net bids new row fields e).0
-    (ap (λ (p : Parts). bids ++ p ∷ []) made.1 ∙ from_ok (bids ++ bid.0 ∷ []) new bid.2)
+    (ap (λ (p : Offer). bids ++ p ∷ []) made.1 ∙ from_ok (bids ++ bid.0 ∷ []) new bid.2)
 
 -- ---- a stop
 
-stop_on : (net : Net) (bid : Parts) (stop : Stop) → IsPathOn net bid.path → IsStation net stop.station → IsPathOn net (with_stop bid stop).path
+stop_on : (net : Net) (bid : Offer) (stop : Stop) → IsPathOn net bid.path → IsStation net stop.station → IsPathOn net (with_stop bid stop).path
 stop_on net bid stop on there = record {
   kind = on.kind;
   origin = on.origin;
@@ -117,31 +118,31 @@ stop_on net bid stop on there = record {
   stops = All-push (λ (s : Stop). IsStation net s.station) bid.path.stops stop on.stops there;
 }
 
-length_set : (bids : List Parts) (i : ℕ) (bid : Parts) → length (set bids i bid) ≡ length bids
+length_set : (bids : List Offer) (i : ℕ) (bid : Offer) → length (set bids i bid) ≡ length bids
 length_set [] i bid = refl
 length_set (b ∷ bids) zero bid = refl
 length_set (b ∷ bids) (suc i) bid = ap suc (length_set bids i bid)
 
-stop_added : (net : Net) (row : ℕ) (bids new : List Parts) (place : ℕ) (bid : Parts) (raw : RawStop) → AreKept net bids → slice_get bids place ≡ Some bid → IsStation net raw.station
+stop_added : (net : Net) (row : ℕ) (bids new : List Offer) (place : ℕ) (bid : Offer) (raw : RawStop) → AreKept net bids → slice_get bids place ≡ Some bid → IsStation net raw.station
     → stop_outcome row bids place bid raw ≡ Ok new → AreKept net new
 stop_added net row bids new place bid raw kept there on e =
     let c = from_bid_outcome Stops row (stop_refusal bid.path raw) (set bids place (with_stop bid (stop_of raw))) new e in
     let here : get_or bids place bid ≡ bid = get_or_from_slice_get bids place bid bid there in
-    let was : IsPathOn net bid.path = subst (λ (p : Parts). IsPathOn net p.path) here (kept.paths place bid (slice_get_within bids place bid there)) in
-    subst (λ (l : List Parts). AreKept net l) c.1 (record {
+    let was : IsPathOn net bid.path = subst (λ (p : Offer). IsPathOn net p.path) here (kept.paths place bid (slice_get_within bids place bid there)) in
+    subst (λ (l : List Offer). AreKept net l) c.1 (record {
       few = rw (length_set bids place (with_stop bid (stop_of raw))) kept.few;
-      paths = All-set (λ (p : Parts). IsPathOn net p.path) bids place (with_stop bid (stop_of raw)) (stop_on net bid (stop_of raw) was on) kept.paths;
+      paths = All-set (λ (p : Offer). IsPathOn net p.path) bids place (with_stop bid (stop_of raw)) (stop_on net bid (stop_of raw) was on) kept.paths;
       differ =
-          subst (λ (l : List Field). AllDiffer l) (sym (map-set_same (λ (p : Parts). p.name) bids place (with_stop bid (stop_of raw)) bid (ap (λ (p : Parts). p.name) (sym here)))) kept.differ;
+          subst (λ (l : List Field). AllDiffer l) (sym (map-set_same (λ (p : Offer). p.name) bids place (with_stop bid (stop_of raw)) bid (ap (λ (p : Offer). p.name) (sym here)))) kept.differ;
     })
 
-station_found : (net : Net) (bids : List Parts) (row : ℕ) (name station : Field) (found : ℕ × StationId) → found_at net bids row name station ≡ Ok found → IsStation net found.1
+station_found : (net : Net) (bids : List Offer) (row : ℕ) (name station : Field) (found : ℕ × StationId) → found_at net bids row name station ≡ Ok found → IsStation net found.1
 station_found net bids row name station found e =
     let place = from_bind (or_fault _ (place_of name (names_of bids))) _ found e in
     let id = from_bind (or_fault _ (station_named net station)) _ found place.2 in
     subst (λ (p : ℕ × StationId). IsStation net p.1) (from_ok (place.0, id.0) found id.2) (station_there net _ station id.0 id.1)
 
-stop_kept : (net : Net) (bids : List Parts) (row : ℕ) (fields : Record) (new : List Parts) → stop_row net bids row fields ≡ Ok new → AreKept net bids → AreKept net new
+stop_kept : (net : Net) (bids : List Offer) (row : ℕ) (fields : Record) (new : List Offer) → stop_row net bids row fields ≡ Ok new → AreKept net bids → AreKept net new
 unfolding stop_row
 stop_kept net bids row fields new e kept =
     let form = from_bind (shaped Stops row 6 fields) _ new e in
@@ -180,32 +181,32 @@ none_kept net = record {
 }
 
 -- bids that were read keep this
-both_kept : (net : Net) (named done : List Parts) (bids stops : List ℕ) → table_read (bid_row net) Bids bids_header [] bids ≡ Ok named → table_read (stop_row net) Stops stops_header named stops ≡ Ok done
+both_kept : (net : Net) (named done : List Offer) (bids stops : List ℕ) → table_read (bid_row net) Bids bids_header [] bids ≡ Ok named → table_read (stop_row net) Stops stops_header named stops ≡ Ok done
     → AreKept net done
 both_kept net named done bids stops e f =
     table_keep (stop_row net) (AreKept net) (stop_kept net) Stops stops_header named stops done f
     (table_keep (bid_row net) (AreKept net) (bid_kept net) Bids bids_header [] bids named e (none_kept net))
 
--- bids whose parts were read are an instance
-pub instance_read : (net : Net) (named done : List Parts) (bids stops : List ℕ) (items : List Bid) → table_read (bid_row net) Bids bids_header [] bids ≡ Ok named
-    → table_read (stop_row net) Stops stops_header named stops ≡ Ok done → map parts_of items ≡ done → IsInstance net items
+-- bids whose offers were read are an instance
+pub instance_read : (net : Net) (named done : List Offer) (bids stops : List ℕ) (items : List Bid) → table_read (bid_row net) Bids bids_header [] bids ≡ Ok named
+    → table_read (stop_row net) Stops stops_header named stops ≡ Ok done → map offer_of items ≡ done → IsInstance net items
 instance_read net named done bids stops items e f same =
-    let kept : AreKept net (map parts_of items) = subst (λ (l : List Parts). AreKept net l) (sym same) (both_kept net named done bids stops e f) in
+    let kept : AreKept net (map offer_of items) = subst (λ (l : List Offer). AreKept net l) (sym same) (both_kept net named done bids stops e f) in
     let few = kept.few in
-    let len = length-map items parts_of in
+    let len = length-map items offer_of in
     record {
       few = omega (arith, few, len);
       paths = λ k d h.
-          subst (λ (p : Parts). IsPathOn net p.path) (get_or-map parts_of items k d (parts_of d) h) (kept.paths k (parts_of d) (omega (arith, h, len)));
+          subst (λ (p : Offer). IsPathOn net p.path) (get_or-map offer_of items k d (offer_of d) h) (kept.paths k (offer_of d) (omega (arith, h, len)));
     }
 
-names_twice : (items : List Bid) → map (λ bid. bid.name) items ≡ names_of (map parts_of items)
+names_twice : (items : List Bid) → map (λ bid. bid.name) items ≡ names_of (map offer_of items)
 names_twice [] = refl
 names_twice (b ∷ items) = ap (λ (l : List Field). b.name ∷ l) (names_twice items)
 
 -- and their names differ
-pub names_differ : (net : Net) (named done : List Parts) (bids stops : List ℕ) (items : List Bid) → table_read (bid_row net) Bids bids_header [] bids ≡ Ok named
-    → table_read (stop_row net) Stops stops_header named stops ≡ Ok done → map parts_of items ≡ done → AllDiffer (map (λ bid. bid.name) items)
+pub names_differ : (net : Net) (named done : List Offer) (bids stops : List ℕ) (items : List Bid) → table_read (bid_row net) Bids bids_header [] bids ≡ Ok named
+    → table_read (stop_row net) Stops stops_header named stops ≡ Ok done → map offer_of items ≡ done → AllDiffer (map (λ bid. bid.name) items)
 names_differ net named done bids stops items e f same =
     let kept = both_kept net named done bids stops e f in
     subst (λ (l : List Field). AllDiffer l) (sym (names_twice items ∙ ap names_of same)) kept.differ

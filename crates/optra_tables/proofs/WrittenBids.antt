@@ -16,7 +16,8 @@ use Rattle.optra_bid.specs.declared.Money.{Money}
 use Rattle.optra_bid.specs.declared.RawBid.{RawBid}
 use Rattle.optra_bid.specs.declared.Window.{Window}
 use Rattle.optra_records.specs.Reading.{Record}
-use Rattle.optra_tables.specs.Bids.{Parts, Told, bid_row, made_of, names_of, raw_at, told_at}
+use Rattle.optra_bid.specs.Offers.{Offer}
+use Rattle.optra_tables.specs.Bids.{Told, bid_row, made_of, names_of, raw_at, told_at}
 use Rattle.optra_records.specs.Tables.{field, is_row}
 use Rattle.optra_tables.specs.Fields.{name_at, number_at, six_at, three_at}
 use Rattle.optra_tables.specs.Written.{IsSound, bid_record, money_fields, name_fields, named, window_fields}
@@ -74,7 +75,7 @@ abbrev rates_of : Money → List ℕ
 rates_of money =
     cents money.early_depart ∷ cents money.late_depart ∷ cents money.early_arrive ∷ cents money.late_arrive ∷ cents money.travel ∷ cents money.wait ∷ []
 
-told_of : Net → Parts → Told
+told_of : Net → Offer → Told
 told_of net bid = record {
   name = bid.name;
   bidder = bid.bidder;
@@ -88,7 +89,7 @@ told_of net bid = record {
   wait_max = bid.path.wait_max;
 }
 
-raw_of_bid : Parts → RawBid
+raw_of_bid : Offer → RawBid
 raw_of_bid bid = record {
   kind = bid.path.kind;
   origin = bid.path.origin;
@@ -138,7 +139,7 @@ both_utf8 a b ha hb = list_all-append is_utf8 a b ∙ (rw (ha, hb) refl)
 signed_utf8 : (top : ℕ) (z : ℤ) → IsAmount top z → top < 10 ^ 10 → is_utf8 (signed_decimal z) ≡ true
 signed_utf8 top z a small = rw a.text (decimal_utf8 (cents z) (omega (arith, a.few)))
 
-names_utf8 : (net : Net) (bid : Parts) → IsProper net → IsPathOn net bid.path → IsSound bid → list_all is_utf8 (name_fields net bid) ≡ true
+names_utf8 : (net : Net) (bid : Offer) → IsProper net → IsPathOn net bid.path → IsSound bid → list_all is_utf8 (name_fields net bid) ≡ true
 names_utf8 net bid proper on sound =
     rw (
       name_utf8 bid.name sound.name,
@@ -171,7 +172,7 @@ money_utf8 money a =
 wait_utf8 : (n : ℕ) → n ≤ 30 → list_all is_utf8 (decimal n ∷ []) ≡ true
 wait_utf8 n h = rw (decimal_utf8 n (omega (arith, h))) refl
 
-form_written : (net : Net) (bid : Parts) → IsProper net → IsPathOn net bid.path → IsSound bid → AreAmounts bid.money → is_row 19 (bid_record net bid) ≡ true
+form_written : (net : Net) (bid : Offer) → IsProper net → IsPathOn net bid.path → IsSound bid → AreAmounts bid.money → is_row 19 (bid_record net bid) ≡ true
 unfolding bid_record
 form_written net bid proper on sound a =
     let n = names_utf8 net bid proper on sound in
@@ -195,7 +196,7 @@ early_small window h = (omega (arith, h.early, h.late, h.day), omega (arith, h.l
 amount_small : (top : ℕ) (z : ℤ) → IsAmount top z → top < 10 ^ 10 → cents z < 10 ^ 10
 amount_small top z a small = omega (arith, a.few)
 
-told_written : (net : Net) (bid : Parts) (row : ℕ) → IsProper net → IsPathOn net bid.path → IsSound bid → AreAmounts bid.money → told_at row (bid_record net bid) ≡ Ok (told_of net bid)
+told_written : (net : Net) (bid : Offer) (row : ℕ) → IsProper net → IsPathOn net bid.path → IsSound bid → AreAmounts bid.money → told_at row (bid_record net bid) ≡ Ok (told_of net bid)
 unfolding bid_record told_of
 told_written net bid row proper on sound a =
     let fields = bid_record net bid in
@@ -219,7 +220,7 @@ told_written net bid row proper on sound a =
     )
     (number_read Bids row fields 18 bid.path.wait_max refl (omega (arith, sound.bounds.wait_max)))
 
-raw_written : (net : Net) (bid : Parts) (row : ℕ) → IsProper net → IsPathOn net bid.path → raw_at net row (told_of net bid) ≡ Ok (raw_of_bid bid)
+raw_written : (net : Net) (bid : Offer) (row : ℕ) → IsProper net → IsPathOn net bid.path → raw_at net row (told_of net bid) ≡ Ok (raw_of_bid bid)
 unfolding raw_at told_of raw_of_bid
 raw_written net bid row proper on =
     rw (type_found net bid.path.kind proper on.kind, station_found net bid.path.origin proper on.origin, station_found net bid.path.destination proper on.destination) refl
@@ -244,7 +245,7 @@ rates_kept money a =
       le-leb (cents money.wait) 1000000 a.wait.few,
     ) refl
 
-not_refused : (bid : Parts) → AreBounds bid.path bid.money → AreAmounts bid.money → bid_refusal (raw_of_bid bid) ≡ None
+not_refused : (bid : Offer) → AreBounds bid.path bid.money → AreAmounts bid.money → bid_refusal (raw_of_bid bid) ≡ None
 unfolding raw_of_bid
 not_refused bid h a =
     rw (
@@ -261,7 +262,7 @@ not_refused bid h a =
 -- ---- the bids
 
 -- a bid without its stops
-abbrev pub bare : Parts → Parts
+abbrev pub bare : Offer → Offer
 bare bid = record bid { path = record bid.path { stops = [] } }
 
 money_same : (money : Money) → AreAmounts money → money_from (cents money.base) (rates_of money) ≡ money
@@ -275,30 +276,30 @@ money_same money a = λ i. record {
   wait = sym a.wait.same i;
 }
 
-made_same : (net : Net) (bid : Parts) → AreAmounts bid.money → made_of (told_of net bid) (raw_of_bid bid) ≡ bare bid
+made_same : (net : Net) (bid : Offer) → AreAmounts bid.money → made_of (told_of net bid) (raw_of_bid bid) ≡ bare bid
 unfolding told_of raw_of_bid
-made_same net bid a = ap (λ (money : Money). let p : Parts = record { name = bid.name; bidder = bid.bidder; path = record bid.path { stops = [] }; money = money } in p) (money_same bid.money a)
+made_same net bid a = ap (λ (money : Money). let p : Offer = record { name = bid.name; bidder = bid.bidder; path = record bid.path { stops = [] }; money = money } in p) (money_same bid.money a)
 
-pub names-bare : (bids : List Parts) → names_of (map bare bids) ≡ names_of bids
+pub names-bare : (bids : List Offer) → names_of (map bare bids) ≡ names_of bids
 names-bare [] = refl
 names-bare (bid ∷ bids) = ap (λ names. bid.name ∷ names) (names-bare bids)
 
-name_told : (net : Net) (bid : Parts) → (told_of net bid).name ≡ bid.name
+name_told : (net : Net) (bid : Offer) → (told_of net bid).name ≡ bid.name
 unfolding told_of
 name_told net bid = refl
 
 -- what is known of the bids that are written
-pub record AreWritten (net : Net) (bids : List Parts) : Type 0 where
+pub record AreWritten (net : Net) (bids : List Offer) : Type 0 where
   pub few : length bids ≤ 1000
-  pub sound : (before after : List Parts) (bid : Parts) → before ++ bid ∷ after ≡ bids → IsSound bid × IsPathOn net bid.path
+  pub sound : (before after : List Offer) (bid : Offer) → before ++ bid ∷ after ≡ bids → IsSound bid × IsPathOn net bid.path
   pub differ : AllDiffer (names_of bids)
 
-name_free : (before after : List Parts) (bid : Parts) → AllDiffer (names_of (before ++ bid ∷ after)) → place_of bid.name (names_of (map bare before)) ≡ None
+name_free : (before after : List Offer) (bid : Offer) → AllDiffer (names_of (before ++ bid ∷ after)) → place_of bid.name (names_of (map bare before)) ≡ None
 name_free before after bid differ =
     rw (names-bare before)
-    (place_none bid.name (names_of before) (λ k l. differs_before (names_of before) (names_of after) bid.name (rw (map-append (λ (b : Parts). b.name) before (bid ∷ after)) at differ) k l))
+    (place_none bid.name (names_of before) (λ k l. differs_before (names_of before) (names_of after) bid.name (rw (map-append (λ (b : Offer). b.name) before (bid ∷ after)) at differ) k l))
 
-pub bid_read : (net : Net) (before after bids : List Parts) (bid : Parts) (row : ℕ) → IsProper net → AreWritten net bids → before ++ bid ∷ after ≡ bids
+pub bid_read : (net : Net) (before after bids : List Offer) (bid : Offer) (row : ℕ) → IsProper net → AreWritten net bids → before ++ bid ∷ after ≡ bids
     → bid_row net (map bare before) row (bid_record net bid) ≡ Ok (map bare (before ++ bid ∷ []))
 unfolding bid_row
 bid_read net before after bids bid row proper h e =
@@ -307,5 +308,5 @@ bid_read net before after bids bid row proper h e =
     let count = length-append before (bid ∷ after) in
     let total : length (before ++ bid ∷ after) ≡ length bids = ap length e in
     let few : nat_lt (length (map bare before)) 1000 ≡ true = rw (length-map before bare) (lt-ltb (length before) 1000 (omega (arith, h.few, count, total))) in
-    let free : place_of (told_of net bid).name (names_of (map bare before)) ≡ None = rw (name_told net bid) (name_free before after bid (subst (λ (all : List Parts). AllDiffer (names_of all)) (sym e) h.differ)) in
+    let free : place_of (told_of net bid).name (names_of (map bare before)) ≡ None = rw (name_told net bid) (name_free before after bid (subst (λ (all : List Offer). AllDiffer (names_of all)) (sym e) h.differ)) in
     rw (told_written net bid row proper s.1 s.0 a, few, free, raw_written net bid row proper s.1, not_refused bid s.0.bounds a, made_same net bid a, map-append bare before (bid ∷ [])) refl

@@ -15,7 +15,8 @@ use Rattle.optra_bid.specs.Specs.{IsStop, Path}
 use Rattle.optra_bid.specs.declared.RawStop.{RawStop}
 use Rattle.optra_bid.specs.declared.Stop.{Stop}
 use Rattle.optra_records.specs.Reading.{Field, Record}
-use Rattle.optra_tables.specs.Bids.{Parts, names_of}
+use Rattle.optra_bid.specs.Offers.{Offer}
+use Rattle.optra_tables.specs.Bids.{names_of}
 use Rattle.optra_records.specs.Tables.{field, is_row, rows_from}
 use Rattle.optra_tables.specs.Fields.{name_at, number_at, two_at}
 use Rattle.optra_tables.specs.Stops.{stop_outcome, stop_row}
@@ -27,7 +28,7 @@ use Rattle.optra_tables.proofs.WrittenBids.{AreWritten, bare, names-bare}
 use Rattle.optra_tables.proofs.WrittenLemmas.{at_middle, decimal_utf8, get_middle, in_middle, is_name-named, name_read, name_utf8, number_read, place_middle, station_found}
 
 -- a bid with these stops
-abbrev pub with_stops : Parts → List Stop → Parts
+abbrev pub with_stops : Offer → List Stop → Offer
 with_stops bid stops = record bid { path = record bid.path { stops = stops } }
 
 -- the stop as it is read
@@ -40,7 +41,7 @@ raw_of_stop stop = record {
 }
 
 -- a record of a stop that tells all, of a bid that is there, gives what becomes of the stop
-stop_read : (net : Net) (bids : List Parts) (row : ℕ) (fields : Record) (name station : Field) (place : ℕ) (bid : Parts) (stop : Stop) → is_row 6 fields ≡ true
+stop_read : (net : Net) (bids : List Offer) (row : ℕ) (fields : Record) (name station : Field) (place : ℕ) (bid : Offer) (stop : Stop) → is_row 6 fields ≡ true
     → name_at Stops row fields 0 ≡ Ok name → name_at Stops row fields 1 ≡ Ok station → number_at Stops row fields 2 ≡ Ok stop.min_dwell → number_at Stops row fields 3 ≡ Ok stop.max_dwell
     → two_at Stops row fields 4 ≡ Ok (stop.arrive.from ∷ stop.arrive.to ∷ []) → place_of name (names_of bids) ≡ Some place → slice_get bids place ≡ Some bid
     → station_named net station ≡ Some stop.station → stop_row net bids row fields ≡ stop_outcome row bids place bid (raw_of_stop stop)
@@ -94,30 +95,30 @@ not_refused path stop h few =
     ) refl
 
 -- the bids while the stops of one are read: those before it have all of theirs, and those after it none
-abbrev pub halfway : List Parts → Parts → List Stop → List Parts → List Parts
+abbrev pub halfway : List Offer → Offer → List Stop → List Offer → List Offer
 halfway before bid stops after = before ++ with_stops bid stops ∷ map bare after
 
-names-halfway : (before after : List Parts) (bid : Parts) (stops : List Stop) → names_of (halfway before bid stops after) ≡ names_of before ++ bid.name ∷ names_of after
+names-halfway : (before after : List Offer) (bid : Offer) (stops : List Stop) → names_of (halfway before bid stops after) ≡ names_of before ++ bid.name ∷ names_of after
 names-halfway before after bid stops =
-    map-append (λ (b : Parts). b.name) before (with_stops bid stops ∷ map bare after) ∙ ap (λ names. names_of before ++ bid.name ∷ names) (names-bare after)
+    map-append (λ (b : Offer). b.name) before (with_stops bid stops ∷ map bare after) ∙ ap (λ names. names_of before ++ bid.name ∷ names) (names-bare after)
 
-length-names : (bids : List Parts) → length (names_of bids) ≡ length bids
+length-names : (bids : List Offer) → length (names_of bids) ≡ length bids
 length-names bids = length-map bids (λ bid. bid.name)
 
-accepted : (before after : List Parts) (bid : Parts) (some : List Stop) (stop : Stop) (row : ℕ) → IsStop stop → length some < 8
+accepted : (before after : List Offer) (bid : Offer) (some : List Stop) (stop : Stop) (row : ℕ) → IsStop stop → length some < 8
     → stop_outcome row (halfway before bid some after) (length before) (with_stops bid some) (raw_of_stop stop) ≡ Ok (halfway before bid (some ++ stop ∷ []) after)
 accepted before after bid some stop row h few =
     rw (not_refused (with_stops bid some).path stop h few, set-append_seam before (with_stops bid some) (map bare after) (with_stops bid (some ++ stop ∷ []))) refl
 
 -- the record of a stop gives its bid the stop
-stop_added : (net : Net) (before after : List Parts) (bid : Parts) (some : List Stop) (stop : Stop) (row : ℕ) → IsProper net → IsSound bid → AllDiffer (names_of (before ++ bid ∷ after))
+stop_added : (net : Net) (before after : List Offer) (bid : Offer) (some : List Stop) (stop : Stop) (row : ℕ) → IsProper net → IsSound bid → AllDiffer (names_of (before ++ bid ∷ after))
     → IsStop stop → IsStation net stop.station → length some < 8
     → stop_row net (halfway before bid some after) row (stop_record net bid.name stop) ≡ Ok (halfway before bid (some ++ stop ∷ []) after)
 unfolding stop_record
 stop_added net before after bid some stop row proper sound differ is on few =
     let fields = stop_record net bid.name stop in
     let small = are_small stop is in
-    let apart : AllDiffer (names_of before ++ bid.name ∷ names_of after) = rw (map-append (λ (b : Parts). b.name) before (bid ∷ after)) at differ in
+    let apart : AllDiffer (names_of before ++ bid.name ∷ names_of after) = rw (map-append (λ (b : Offer). b.name) before (bid ∷ after)) at differ in
     let place : place_of bid.name (names_of (halfway before bid some after)) ≡ Some (length before) =
     rw (names-halfway before after bid some) (place_middle (names_of before) (names_of after) bid.name apart ∙ ap (λ n. Some n) (length-names before)) in
     stop_read net (halfway before bid some after) row fields bid.name (named net.stations stop.station.0) (length before) (with_stops bid some) stop
@@ -142,8 +143,8 @@ at_seam : {X : Type 0} (some more all : List X) (x : X) → some ++ x ∷ more �
 at_seam some more all x e = rw append_assoc e
 
 -- the records of the stops of a bid give it the rest of its stops
-stops_added : (net : Net) (before after : List Parts) (bid : Parts) → IsProper net → IsSound bid → AllDiffer (names_of (before ++ bid ∷ after)) → AreStops net bid.path.stops
-    → (some more : List Stop) (row : ℕ) (rest : List Record) (whole : List Parts) → some ++ more ≡ bid.path.stops
+stops_added : (net : Net) (before after : List Offer) (bid : Offer) → IsProper net → IsSound bid → AllDiffer (names_of (before ++ bid ∷ after)) → AreStops net bid.path.stops
+    → (some more : List Stop) (row : ℕ) (rest : List Record) (whole : List Offer) → some ++ more ≡ bid.path.stops
     → ((later : ℕ) → rows_from (stop_row net) (halfway before bid bid.path.stops after) later rest ≡ Ok whole)
     → rows_from (stop_row net) (halfway before bid some after) row (map (stop_record net bid.name) more ++ rest) ≡ Ok whole
 unfolding rows_from
@@ -157,7 +158,7 @@ stops_added net before after bid proper sound differ are some (stop ∷ more) ro
     rw (stop_added net before after bid some stop row proper sound differ one.0 one.1 (omega (arith, are.few, count, total)))
     (stops_added net before after bid proper sound differ are (some ++ stop ∷ []) more (row + 1) rest whole (at_seam some more bid.path.stops stop e) goes)
 
-all_stops : (net : Net) (bid : Parts) → IsSound bid → ((some more : List Stop) (stop : Stop) → some ++ stop ∷ more ≡ bid.path.stops → IsStop stop × IsStation net stop.station) → AreStops net bid.path.stops
+all_stops : (net : Net) (bid : Offer) → IsSound bid → ((some more : List Stop) (stop : Stop) → some ++ stop ∷ more ≡ bid.path.stops → IsStop stop × IsStation net stop.station) → AreStops net bid.path.stops
 all_stops net bid sound each = record { few = sound.bounds.few; each = each }
 
 -- ---- the stops of all bids
@@ -170,15 +171,15 @@ at_place P all some more x h e =
     subst P (ap (λ xs. get_or xs (length some) x) (sym e) ∙ at_middle some more x x) (h (length some) x (omega (arith, within, total)))
 
 -- the records of the stops of the bids give each bid its own
-pub stops_read : (net : Net) (bids : List Parts) → IsProper net → AreWritten net bids → (before after : List Parts) (row : ℕ) → before ++ after ≡ bids
+pub stops_read : (net : Net) (bids : List Offer) → IsProper net → AreWritten net bids → (before after : List Offer) (row : ℕ) → before ++ after ≡ bids
     → rows_from (stop_row net) (before ++ map bare after) row (flat_map (stop_records net) after) ≡ Ok bids
 unfolding rows_from
-stops_read net bids proper h before [] row e = ap (λ (xs : List Parts). let r : Result (List Parts) TableFault = Ok xs in r) e
+stops_read net bids proper h before [] row e = ap (λ (xs : List Offer). let r : Result (List Offer) TableFault = Ok xs in r) e
 stops_read net bids proper h before (bid ∷ after) row e =
     let s = h.sound before after bid e in
     let are = all_stops net bid s.0 (λ some more stop f.
     (at_place IsStop bid.path.stops some more stop s.0.bounds.stops f, at_place (λ (t : Stop). IsStation net t.station) bid.path.stops some more stop s.1.stops f)) in
     let seam : (before ++ bid ∷ []) ++ map bare after ≡ before ++ bid ∷ map bare after = rw append_assoc refl in
     let rest = flat_map (stop_records net) after in
-    stops_added net before after bid proper s.0 (subst (λ (all : List Parts). AllDiffer (names_of all)) (sym e) h.differ) are [] bid.path.stops row rest bids refl
-    (λ later. subst (λ (known : List Parts). rows_from (stop_row net) known later rest ≡ Ok bids) seam (stops_read net bids proper h (before ++ bid ∷ []) after later (at_seam before after bids bid e)))
+    stops_added net before after bid proper s.0 (subst (λ (all : List Offer). AllDiffer (names_of all)) (sym e) h.differ) are [] bid.path.stops row rest bids refl
+    (λ later. subst (λ (known : List Offer). rows_from (stop_row net) known later rest ≡ Ok bids) seam (stops_read net bids proper h (before ++ bid ∷ []) after later (at_seam before after bids bid e)))

@@ -7,11 +7,10 @@ use Rattle.optra_network.specs.declared.NetRefusal.TheVariants.{TakenName, TooMa
 use Rattle.optra_network.specs.declared.StationId.{StationId}
 use Rattle.optra_network.specs.declared.TypeId.{TypeId}
 use Rattle.optra_bid.specs.Bids.{bid_refusal, money_of, path_of}
-use Rattle.optra_bid.specs.Specs.{Path}
+use Rattle.optra_bid.specs.Offers.{Offer}
 use Rattle.optra_bid.specs.declared.BidRefusal.TheVariants.{UnknownName}
-use Rattle.optra_bid.specs.declared.Money.{Money}
 use Rattle.optra_bid.specs.declared.RawBid.{RawBid}
-use Rattle.optra_bid.specs.declared.bids.Bid.{Bid}
+pub use Rattle.optra_bid.specs.Offers.{Offer as Parts, offer_of as parts_of}
 use Rattle.optra_records.specs.Reading.{Field, Record}
 use Rattle.optra_tables.specs.Fields.{name_at, number_at, shaped, six_at, three_at}
 use Rattle.optra_tables.specs.Outcomes.{◌>>=◌, bid_outcome, fault, guard, or_fault}
@@ -20,17 +19,7 @@ use Rattle.optra_tables.specs.declared.Kind.TheVariants as kinds
 use Rattle.optra_tables.specs.declared.Table.TheVariants.{Bids}
 use Rattle.optra_tables.specs.declared.TableFault.{TableFault}
 
--- a bid by its names, its path and its money; the bounds that it keeps follow from these
-pub record Parts : Type 0 where
-  pub name : Field
-  pub bidder : Field
-  pub path : Path
-  pub money : Money
-
-abbrev pub parts_of : Bid → Parts
-parts_of bid = record { name = bid.name; bidder = bid.bidder; path = bid.path; money = bid.money }
-
-abbrev pub names_of : List Parts → List Field
+abbrev pub names_of : List Offer → List Field
 names_of bids = map (λ bid. bid.name) bids
 
 abbrev pub bids_header : Record
@@ -116,11 +105,11 @@ raw_at net row told = do
   Ok (raw_of told kind origin destination)
 
 -- a bid of its names and its raw numbers, at first with no stop
-abbrev pub made_of : Told → RawBid → Parts
+abbrev pub made_of : Told → RawBid → Offer
 made_of told raw = record { name = told.name; bidder = told.bidder; path = path_of raw; money = money_of raw }
 
 -- the bids and one more: there are 1,000 already, one has the name, something that is named isn't there, or the bid is refused
-unfoldable pub bid_row : Net → List Parts → ℕ → Record → Result (List Parts) TableFault
+unfoldable pub bid_row : Net → List Offer → ℕ → Record → Result (List Offer) TableFault
 bid_row net bids row fields = do
   told ← told_at row fields
   few ← guard (fault Bids row (kinds.Net TooMany)) (nat_lt (length bids) 1000)

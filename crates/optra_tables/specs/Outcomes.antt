@@ -1,12 +1,13 @@
 -- A value, or the first fault of a table.
-use Rattle.std.specs.Prelude.{◌≡◌, ℕ, Bool, Option, None, Some, Result, Ok, Err, if◌then◌else◌}
+use Rattle.std.specs.Prelude.{◌≡◌, ℕ, Option, None, Some, Result, Ok, Err}
 use Rattle.optra_network.specs.declared.NetRefusal.{NetRefusal}
 use Rattle.optra_network.specs.declared.NetFault.{NetFault}
 use Rattle.optra_network.specs.declared.NetFault.TheVariants as net_faults
 use Rattle.optra_bid.specs.declared.BidRefusal.{BidRefusal}
 use Rattle.optra_bid.specs.declared.BidFault.{BidFault}
 use Rattle.optra_bid.specs.declared.BidFault.TheVariants as bid_faults
-use Rattle.optra_records.specs.Tables.{and_then, or_else}
+use Rattle.optra_records.specs.Tables.{or_else}
+pub use Rattle.optra_records.specs.Tables.{◌>>=◌, guard}
 use Rattle.optra_records.specs.declared.TableError.{TableError}
 use Rattle.optra_records.specs.declared.TableError.TheVariants as unread
 use Rattle.optra_tables.specs.declared.Kind.{Kind}
@@ -15,11 +16,6 @@ use Rattle.optra_tables.specs.declared.ReadError.{ReadError}
 use Rattle.optra_tables.specs.declared.ReadError.TheVariants as errors
 use Rattle.optra_tables.specs.declared.Table.{Table}
 use Rattle.optra_tables.specs.declared.TableFault.{TableFault}
-
--- go on with the value, or keep the fault
-infixl 10 ◌>>=◌
-abbrev pub ◌>>=◌ : {A B : Type 0} → Result A TableFault → (A → Result B TableFault) → Result B TableFault
-read >>= f = and_then read f
 
 -- a fault of a call is the fault of the table, or want of memory, which says nothing
 abbrev pub Fails : {Y : Type 0} → ReadError → Result Y TableFault → Type 0
@@ -34,10 +30,6 @@ Gives view (Err e) read = Fails e read
 -- the fault of a row of a table
 abbrev pub fault : Table → ℕ → Kind → TableFault
 fault table row kind = record { table = table; row = row; kind = kind }
-
--- a fault, where a test fails
-abbrev pub guard : TableFault → Bool → Result (Unit {0}) TableFault
-guard f passes = if passes then Ok tt else Err f
 
 -- a value that is there, or a fault
 abbrev pub or_fault : {A : Type 0} → TableFault → Option A → Result A TableFault

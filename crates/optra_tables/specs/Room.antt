@@ -2,7 +2,7 @@
 use Rattle.std.specs.Prelude.{ℕ, ◌+◌, ◌-◌, ◌/◌, ◌%◌, zero, suc, Bool, List, [], ◌∷◌, length, is_some, if◌then◌else◌}
 use Rattle.std.specs.Map.{lookup}
 use Rattle.optra_network.specs.Net.{Net, CrossingKey, same_pair, same_quadruple, same_triple}
-use Rattle.optra_tables.specs.Bids.{Parts}
+use Rattle.optra_bid.specs.Offers.{Offer}
 use Rattle.optra_tables.specs.declared.TimedAct.{TimedAct}
 
 -- how many numbers below n aren't taken
@@ -35,11 +35,11 @@ quadruple_at n = (n / 256000, n % 256000 / 256, n % 256 / 16, n % 16)
 unfoldable pub crossings_room : Net → ℕ
 crossings_room net = free_below (λ n. is_some (lookup (same_quadruple (quadruple_at n)) net.crossings)) 256000000
 
-abbrev pub bids_room : List Parts → ℕ
+abbrev pub bids_room : List Offer → ℕ
 bids_room bids = 1000 - length bids
 
 -- how many more stops the bids may have
-unfoldable pub stops_room : List Parts → ℕ
+unfoldable pub stops_room : List Offer → ℕ
 stops_room [] = 0
 stops_room (bid ∷ bids) = (8 - length bid.path.stops) + stops_room bids
 

@@ -8,10 +8,11 @@ use Rattle.optra_bid.specs.Specs.{AreBounds}
 use Rattle.optra_bid.specs.declared.Money.{Money}
 use Rattle.optra_bid.specs.declared.Stop.{Stop}
 use Rattle.optra_bid.specs.declared.Window.{Window}
-use Rattle.optra_bid.specs.declared.bids.Bid.{Bid}
 use Rattle.optra_records.specs.Reading.{Field, Record}
 use Rattle.optra_records.specs.Texts.{records_text}
-use Rattle.optra_tables.specs.Bids.{Parts, bids_header, parts_of}
+use Rattle.optra_bid.specs.Offers.{Offer}
+pub use Rattle.optra_bid.specs.Offers.{offers_of as parts}
+use Rattle.optra_tables.specs.Bids.{bids_header}
 use Rattle.optra_tables.specs.Stops.{bids_of, stops_header}
 
 -- the name at a place of a list of names
@@ -19,7 +20,7 @@ abbrev pub named : List Field → ℕ → Field
 named names place = unwrap_or (slice_get names place) []
 
 -- the names of a bid: its own, its bidder's, its type's and those of its ends
-abbrev pub name_fields : Net → Parts → Record
+abbrev pub name_fields : Net → Offer → Record
 name_fields net bid =
     bid.name ∷ bid.bidder ∷ named net.types bid.path.kind.0
     ∷ named net.stations bid.path.origin.0 ∷ named net.stations bid.path.destination.0 ∷ []
@@ -37,7 +38,7 @@ money_fields money =
     ∷ signed_decimal money.travel ∷ signed_decimal money.wait ∷ []
 
 -- the record of a bid
-unfoldable pub bid_record : Net → Parts → Record
+unfoldable pub bid_record : Net → Offer → Record
 bid_record net bid =
     name_fields net bid
     ++ window_fields bid.path.depart ++ window_fields bid.path.arrive
@@ -50,31 +51,27 @@ stop_record net name stop =
     ∷ decimal stop.min_dwell ∷ decimal stop.max_dwell ∷ decimal stop.arrive.from ∷ decimal stop.arrive.to ∷ []
 
 -- the records of a bid's stops, in their order
-abbrev pub stop_records : Net → Parts → List Record
+abbrev pub stop_records : Net → Offer → List Record
 stop_records net bid = map (stop_record net bid.name) bid.path.stops
 
 -- the records of the stops of the bids, bid by bid
-abbrev pub all_stop_records : Net → List Parts → List Record
+abbrev pub all_stop_records : Net → List Offer → List Record
 all_stop_records net bids = flat_map (stop_records net) bids
 
 -- The table of the bids: its header, and a record for each bid.
-unfoldable pub bids_table : Net → List Parts → List ℕ
+unfoldable pub bids_table : Net → List Offer → List ℕ
 bids_table net bids = records_text (bids_header ∷ map (bid_record net) bids)
 
 -- The table of the stops: its header, and the records of each bid's stops in order.
-unfoldable pub stops_table : Net → List Parts → List ℕ
+unfoldable pub stops_table : Net → List Offer → List ℕ
 stops_table net bids = records_text (stops_header ∷ all_stop_records net bids)
 
--- each bid by its names, its path and its money
-abbrev pub parts : List Bid → List Parts
-parts bids = map parts_of bids
-
 -- what every bid keeps: its two names are names, and its bounds
-pub record IsSound (bid : Parts) : Type 0 where
+pub record IsSound (bid : Offer) : Type 0 where
   pub name : is_name bid.name ≡ true
   pub bidder : is_name bid.bidder ≡ true
   pub bounds : AreBounds bid.path bid.money
 
 -- The two tables mean exactly these bids on the network.
-abbrev pub Mean : Net → List ℕ → List ℕ → List Parts → Type 0
+abbrev pub Mean : Net → List ℕ → List ℕ → List Offer → Type 0
 Mean net bids_bytes stops_bytes bids = bids_of net bids_bytes stops_bytes ≡ Ok bids

@@ -21,6 +21,9 @@ use optra_network::{Cents, NetRefusal};
 use optra_records::{TableError, TableRows, is_cell};
 use std::alloc::Global;
 
+/// How many fields a record has.
+const FIELDS: usize = 6;
+
 /// The most actions of a table.
 const MOST_ACTIONS: usize = 100_000;
 
@@ -113,7 +116,7 @@ fn asked_at(
 fn told_at(alloc: Global, row: u32, cells: &ByteRecord) -> Result<(u64, Option<Act>), ReadError>
     ensures { Gives (λ told. (told.0, told.1)) result (told_at row (fields_of cells.now)) }
 {
-    shaped(Table::Actions, row, 6, cells)?;
+    shaped(Table::Actions, row, FIELDS, cells)?;
     let round = number_at(Table::Actions, row, cells, 0)?;
     let bidder = name_in(alloc, row, cells, 1)?;
     let bid = name_in(alloc, row, cells, 3)?;

@@ -19,18 +19,20 @@ pub struct BidList {
 impl Model for BidList {
     ghost use Rattle.std.specs.Prelude.{◌≡◌, List, map};
     ghost use Rattle.optra_network.specs.Names.{texts};
-    ghost use Rattle.optra_tables.specs.Bids.{Parts, names_of, parts_of};
+    ghost use Rattle.optra_bid.specs.Offers.{Offer, offer_of};
+    ghost use Rattle.optra_tables.specs.Bids.{names_of};
 
-    ghost Value = { List Parts };
+    ghost Value = { List Offer };
 
-    ghost view = { λ a. map parts_of a.bids.items };
+    ghost view = { λ a. map offer_of a.bids.items };
 
-    ghost invariant = { λ a. texts a.names.keys ≡ names_of (map parts_of a.bids.items) };
+    ghost invariant = { λ a. texts a.names.keys ≡ names_of (map offer_of a.bids.items) };
 }
 
 impl BidList {
     ghost use Rattle.optra_bid.specs.Bids.{FollowsBidRule, stop_of, stop_refusal};
-    ghost use Rattle.optra_tables.specs.Bids.{names_of, parts_of};
+    ghost use Rattle.optra_bid.specs.Offers.{offer_of};
+    ghost use Rattle.optra_tables.specs.Bids.{names_of};
     ghost use Rattle.optra_tables.specs.Stops.{with_stop};
 
     /// No bid yet.
@@ -61,7 +63,7 @@ impl BidList {
     /// Adds a bid, whose name is a new one.
     pub fn push(&mut self, bid: Bid) -> Result<(), NoMemory>
         requires { place_of bid.name (names_of self.old) ≡ None }
-        ensures { OnOk result (self.new ≡ self.old ++ parts_of bid ∷ []) }
+        ensures { OnOk result (self.new ≡ self.old ++ offer_of bid ∷ []) }
     {
         self.bids.reserve(1)?;
         let alloc = *self.names.allocator();
@@ -85,7 +87,7 @@ impl BidList {
 
     /// The bids.
     pub fn into_bids(self) -> Vec<Bid>
-        ensures { map parts_of result.items ≡ self }
+        ensures { map offer_of result.items ≡ self }
     {
         self.bids
     }

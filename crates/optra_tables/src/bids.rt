@@ -4,7 +4,8 @@ ghost use Rattle.std.specs.Prelude.{◌≡◌, ◌<◌, ◌≤◌, length, IfOk,
 ghost use Rattle.csv.specs.Records.{fields_of};
 ghost use Rattle.optra_network.specs.Names.{is_name};
 ghost use Rattle.optra_bid.specs.Bids.{bid_refusal};
-ghost use Rattle.optra_tables.specs.Bids.{bid_row, bids_header, made_of, parts_of, raw_at, told_at, told_of};
+ghost use Rattle.optra_bid.specs.Offers.{offer_of};
+ghost use Rattle.optra_tables.specs.Bids.{bid_row, bids_header, made_of, raw_at, told_at, told_of};
 ghost use Rattle.optra_tables.specs.Outcomes.{Gives, bid_outcome};
 ghost use Rattle.optra_tables.specs.Rows.{table_read};
 ghost use Rattle.optra_tables.specs.declared.Table.TheVariants.{Bids};
@@ -19,6 +20,12 @@ use optra_bid::{Bid, Name, RawBid};
 use optra_network::{NetRefusal, Network, NoMemory};
 use optra_records::{TableError, TableRows};
 use std::alloc::Global;
+
+/// How many fields a record has.
+const FIELDS: usize = 19;
+
+/// The most bids of a table.
+const MOST_BIDS: usize = 1_000;
 
 /// What a record of the bids says, before it is looked up and tested.
 #[derive(Clone, Copy)]
@@ -42,7 +49,7 @@ fn told_at<'a>(row: u32, cells: &'a ByteRecord) -> Result<ToldBid<'a>, ReadError
     ensures name { IfOk result (λ told. IsTrue (is_name told.name.now)) }
     ensures bidder { IfOk result (λ told. IsTrue (is_name told.bidder.now)) }
 {
-    shaped(Table::Bids, row, 19, cells)?;
+    shaped(Table::Bids, row, FIELDS, cells)?;
     let name = name_at(Table::Bids, row, cells, 0)?;
     let bidder = name_at(Table::Bids, row, cells, 1)?;
     let kind = name_at(Table::Bids, row, cells, 2)?;
@@ -102,7 +109,7 @@ pub fn name_from(alloc: Global, text: &str) -> Result<Name, NoMemory>
 fn made(alloc: Global, row: u32, told: &ToldBid<'_>, raw: &RawBid) -> Result<Bid, ReadError>
     requires name { IsTrue (is_name told.now.name.now) }
     requires bidder { IsTrue (is_name told.now.bidder.now) }
-    ensures { Gives parts_of result (bid_outcome Bids row (bid_refusal raw.now)
+    ensures { Gives offer_of result (bid_outcome Bids row (bid_refusal raw.now)
         (made_of (told_of told.now) raw.now)) }
 {
     let name = name_from(alloc, told.name)?;
@@ -123,7 +130,7 @@ fn read_row(
     ensures { Gives (λ _. bids.new) result (bid_row net.now bids.old row (fields_of cells.now)) }
 {
     let told = told_at(row, cells)?;
-    if bids.len() >= 1000 {
+    if bids.len() >= MOST_BIDS {
         return fails(Table::Bids, row, Kind::Net(NetRefusal::TooMany));
     }
     if bids.place(told.name).is_some() {

@@ -16,6 +16,9 @@ use optra_network::Builder;
 use optra_records::{TableError, TableRows};
 use std::alloc::Global;
 
+/// How many fields a record has.
+const FIELDS: usize = 5;
+
 /// Adds what a record says, or tells why the network refuses it.
 fn add(
     net: &mut Builder,
@@ -39,7 +42,7 @@ fn add(
 fn read_row(net: &mut Builder, row: u32, cells: &ByteRecord) -> Result<(), ReadError>
     ensures { Gives (λ _. net.new) result (crossing_row net.old row (fields_of cells.now)) }
 {
-    shaped(Table::Crossings, row, 5, cells)?;
+    shaped(Table::Crossings, row, FIELDS, cells)?;
     let first_track = name_at(Table::Crossings, row, cells, 0)?;
     let second_track = name_at(Table::Crossings, row, cells, 1)?;
     let first = name_at(Table::Crossings, row, cells, 2)?;

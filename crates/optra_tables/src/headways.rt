@@ -17,6 +17,9 @@ use optra_network::Builder;
 use optra_records::{TableError, TableRows};
 use std::alloc::Global;
 
+/// How many fields a record has.
+const FIELDS: usize = 4;
+
 /// Adds what a record says, or tells why the network refuses it.
 fn add(
     net: &mut Builder,
@@ -40,7 +43,7 @@ fn add(
 fn read_row(net: &mut Builder, row: u32, cells: &ByteRecord) -> Result<(), ReadError>
     ensures { Gives (λ _. net.new) result (headway_row net.old row (fields_of cells.now)) }
 {
-    shaped(Table::Headways, row, 4, cells)?;
+    shaped(Table::Headways, row, FIELDS, cells)?;
     let track = name_at(Table::Headways, row, cells, 0)?;
     let first = name_at(Table::Headways, row, cells, 1)?;
     let second = name_at(Table::Headways, row, cells, 2)?;

@@ -17,6 +17,9 @@ use optra_network::Builder;
 use optra_records::{TableError, TableRows};
 use std::alloc::Global;
 
+/// How many fields a record has.
+const FIELDS: usize = 2;
+
 /// Adds what a record says, or tells why the network refuses it.
 fn add(net: &mut Builder, row: u32, name: &str, halt_max: u64) -> Result<(), ReadError>
     requires { IsTrue (is_name name.now) }
@@ -32,7 +35,7 @@ fn add(net: &mut Builder, row: u32, name: &str, halt_max: u64) -> Result<(), Rea
 fn read_row(net: &mut Builder, row: u32, cells: &ByteRecord) -> Result<(), ReadError>
     ensures { Gives (λ _. net.new) result (limited_station_row net.old row (fields_of cells.now)) }
 {
-    shaped(Table::Stations, row, 2, cells)?;
+    shaped(Table::Stations, row, FIELDS, cells)?;
     let name = name_at(Table::Stations, row, cells, 0)?;
     let halt_max = number_at(Table::Stations, row, cells, 1)?;
     add(net, row, name, halt_max)

@@ -15,6 +15,9 @@ use optra_network::NetRefusal;
 use optra_records::{Records, under_header};
 use std::alloc::Global;
 
+/// How many fields a record has.
+const FIELDS: usize = 3;
+
 /// Whether numbers are rules: a least increment of 1 to 1,000,000,000 cents, at most 1,000 thousandths, and 1 to 100
 /// rounds.
 fn are_rules(min_increment: u64, permille: u64, rounds: u64) -> bool
@@ -32,7 +35,7 @@ fn are_rules(min_increment: u64, permille: u64, rounds: u64) -> bool
 fn rules_at(row: u32, cells: &ByteRecord) -> Result<Rules, ReadError>
     ensures { Gives (λ rules. rules) result (rules_at row (fields_of cells.now)) }
 {
-    shaped(Table::Rules, row, 3, cells)?;
+    shaped(Table::Rules, row, FIELDS, cells)?;
     let min_increment = number_at(Table::Rules, row, cells, 0)?;
     let permille = number_at(Table::Rules, row, cells, 1)?;
     let rounds = number_at(Table::Rules, row, cells, 2)?;

@@ -17,6 +17,9 @@ use optra_network::Builder;
 use optra_records::{TableError, TableRows};
 use std::alloc::Global;
 
+/// How many fields a record has.
+const FIELDS: usize = 6;
+
 /// Adds what a record says, or tells why the network refuses it.
 fn add(
     net: &mut Builder,
@@ -39,7 +42,7 @@ fn add(
 fn read_row(net: &mut Builder, row: u32, cells: &ByteRecord) -> Result<(), ReadError>
     ensures { Gives (λ _. net.new) result (running_row net.old row (fields_of cells.now)) }
 {
-    shaped(Table::Running, row, 6, cells)?;
+    shaped(Table::Running, row, FIELDS, cells)?;
     let track = name_at(Table::Running, row, cells, 0)?;
     let kind = name_at(Table::Running, row, cells, 1)?;
     let times = four_at(Table::Running, row, cells, 2)?;

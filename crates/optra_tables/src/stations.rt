@@ -18,6 +18,9 @@ use optra_network::Builder;
 use optra_records::{TableError, TableRows};
 use std::alloc::Global;
 
+/// How many fields a record has.
+const FIELDS: usize = 1;
+
 /// Adds what a record says, or tells why the network refuses it.
 fn add(net: &mut Builder, row: u32, name: &str) -> Result<(), ReadError>
     requires { IsTrue (is_name name.now) }
@@ -35,7 +38,7 @@ fn add(net: &mut Builder, row: u32, name: &str) -> Result<(), ReadError>
 fn read_row(net: &mut Builder, row: u32, cells: &ByteRecord) -> Result<(), ReadError>
     ensures { Gives (λ _. net.new) result (station_row net.old row (fields_of cells.now)) }
 {
-    shaped(Table::Stations, row, 1, cells)?;
+    shaped(Table::Stations, row, FIELDS, cells)?;
     let name = name_at(Table::Stations, row, cells, 0)?;
     add(net, row, name)
 }

@@ -4,7 +4,7 @@ ghost use Rattle.std.specs.Prelude.{◌≡◌, ◌<◌, ◌≤◌, length, map, 
 ghost use Rattle.csv.specs.Records.{fields_of};
 ghost use Rattle.optra_network.specs.Names.{AllDiffer};
 ghost use Rattle.optra_bid.specs.Instances.{IsInstance};
-ghost use Rattle.optra_tables.specs.Bids.{parts_of};
+ghost use Rattle.optra_bid.specs.Offers.{offer_of};
 ghost use Rattle.optra_tables.specs.Outcomes.{Gives};
 ghost use Rattle.optra_tables.specs.Rows.{table_read};
 ghost use Rattle.optra_tables.specs.Stops.{bids_of, found_at, stop_outcome, stop_row, stops_header};
@@ -21,6 +21,9 @@ use optra_bid::{Bid, BidRefusal, RawStop};
 use optra_network::{Network, StationId};
 use optra_records::{TableError, TableRows};
 use std::alloc::Global;
+
+/// How many fields a record has.
+const FIELDS: usize = 6;
 
 /// Adds a stop to the bid at a place, or tells why the bid refuses it.
 fn add(bids: &mut BidList, row: u32, place: usize, raw: &RawStop) -> Result<(), ReadError>
@@ -61,7 +64,7 @@ fn read_row(
 ) -> Result<(), ReadError>
     ensures { Gives (λ _. bids.new) result (stop_row net.now bids.old row (fields_of cells.now)) }
 {
-    shaped(Table::Stops, row, 6, cells)?;
+    shaped(Table::Stops, row, FIELDS, cells)?;
     let name = name_at(Table::Stops, row, cells, 0)?;
     let station = name_at(Table::Stops, row, cells, 1)?;
     let min_dwell = number_at(Table::Stops, row, cells, 2)?;
@@ -151,7 +154,7 @@ pub fn read_bids(
     bids: &[u8],
     stops: &[u8],
 ) -> Result<Vec<Bid>, ReadError>
-    ensures gives { Gives (λ bids. map parts_of bids.items) result (bids_of net.now bids.now
+    ensures gives { Gives (λ bids. map offer_of bids.items) result (bids_of net.now bids.now
         stops.now) }
     ensures instance { IfOk result (λ bids. IsInstance net.now bids.items) }
     ensures names { IfOk result (λ bids. AllDiffer (map (λ bid. bid.name) bids.items)) }

@@ -18,6 +18,9 @@ use optra_network::Builder;
 use optra_records::{TableError, TableRows};
 use std::alloc::Global;
 
+/// How many fields a record has.
+const FIELDS: usize = 3;
+
 /// Adds what a record says, or tells why the network refuses it.
 fn add(net: &mut Builder, row: u32, name: &str, from: &str, to: &str) -> Result<(), ReadError>
     requires { IsTrue (is_name name.now) }
@@ -34,7 +37,7 @@ fn add(net: &mut Builder, row: u32, name: &str, from: &str, to: &str) -> Result<
 fn read_row(net: &mut Builder, row: u32, cells: &ByteRecord) -> Result<(), ReadError>
     ensures { Gives (λ _. net.new) result (track_row net.old row (fields_of cells.now)) }
 {
-    shaped(Table::Tracks, row, 3, cells)?;
+    shaped(Table::Tracks, row, FIELDS, cells)?;
     let name = name_at(Table::Tracks, row, cells, 0)?;
     let from = name_at(Table::Tracks, row, cells, 1)?;
     let to = name_at(Table::Tracks, row, cells, 2)?;

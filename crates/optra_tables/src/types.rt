@@ -18,6 +18,9 @@ use optra_network::Builder;
 use optra_records::{TableError, TableRows};
 use std::alloc::Global;
 
+/// How many fields a record has.
+const FIELDS: usize = 1;
+
 /// Adds what a record says, or tells why the network refuses it.
 fn add(net: &mut Builder, row: u32, name: &str) -> Result<(), ReadError>
     requires { IsTrue (is_name name.now) }
@@ -34,7 +37,7 @@ fn add(net: &mut Builder, row: u32, name: &str) -> Result<(), ReadError>
 fn read_row(net: &mut Builder, row: u32, cells: &ByteRecord) -> Result<(), ReadError>
     ensures { Gives (λ _. net.new) result (type_row net.old row (fields_of cells.now)) }
 {
-    shaped(Table::Types, row, 1, cells)?;
+    shaped(Table::Types, row, FIELDS, cells)?;
     let name = name_at(Table::Types, row, cells, 0)?;
     add(net, row, name)
 }

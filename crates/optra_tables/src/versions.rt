@@ -9,7 +9,8 @@ use optra_records::{Records, TableError, under_header};
 use std::alloc::{AllocError, Global};
 
 /// The version of tables whose stations are these bytes: 2 exactly where the first record, behind a byte-order mark that is
-/// dropped, is `station,halt_max`, else 1. No further record is read.
+/// dropped, is `station,halt_max`, else 1. No further record is read, but the first one is read whole, however long it is: ask once for
+/// a file, and hand the answer on.
 pub fn version(alloc: Global, stations: &[u8]) -> Result<u8, NoMemory>
     ensures { IfOk result (λ version. version ≡ version_of stations.now) }
 {

@@ -7,9 +7,10 @@ ghost use Rattle.optra_network.specs.Net.{IsStation};
 ghost use Rattle.optra_bid.specs.Instances.{IsInstance};
 ghost use Rattle.optra_bid.specs.Specs.{IsPathOn};
 ghost use Rattle.optra_records.specs.Texts.{record_text, records_text};
-ghost use Rattle.optra_tables.specs.Bids.{bids_header, parts_of};
+ghost use Rattle.optra_bid.specs.Offers.{offer_of, offers_of};
+ghost use Rattle.optra_tables.specs.Bids.{bids_header};
 ghost use Rattle.optra_tables.specs.Stops.{stops_header};
-ghost use Rattle.optra_tables.specs.Written.{IsSound, Mean, all_stop_records, bids_table, parts, stops_table};
+ghost use Rattle.optra_tables.specs.Written.{IsSound, Mean, all_stop_records, bids_table, stops_table};
 ghost use Rattle.optra_tables.specs.Written.{bid_record, money_fields, name_fields, stop_record, window_fields};
 
 use crate::bids::BIDS_HEADER;
@@ -24,9 +25,9 @@ use std::alloc::Global;
 pub fn bids_text(alloc: Global, net: &Network, bids: &[Bid]) -> Result<Vec<u8>, NoMemory>
     requires instance { IsInstance net.now bids.now }
     requires differ { AllDiffer (map (λ bid. bid.name) bids.now) }
-    ensures text { IfOk result (λ text. text.items ≡ bids_table net.now (parts bids.now)) }
+    ensures text { IfOk result (λ text. text.items ≡ bids_table net.now (offers_of bids.now)) }
     ensures again { IfOk result (λ text. Mean net.now text.items
-        (stops_table net.now (parts bids.now)) (parts bids.now)) }
+        (stops_table net.now (offers_of bids.now)) (offers_of bids.now)) }
 {
     net.laws();
     let mut printer = Printer::new(alloc);
@@ -41,9 +42,9 @@ pub fn bids_text(alloc: Global, net: &Network, bids: &[Bid]) -> Result<Vec<u8>, 
 pub fn stops_text(alloc: Global, net: &Network, bids: &[Bid]) -> Result<Vec<u8>, NoMemory>
     requires instance { IsInstance net.now bids.now }
     requires differ { AllDiffer (map (λ bid. bid.name) bids.now) }
-    ensures text { IfOk result (λ text. text.items ≡ stops_table net.now (parts bids.now)) }
-    ensures again { IfOk result (λ text. Mean net.now (bids_table net.now (parts bids.now))
-        text.items (parts bids.now)) }
+    ensures text { IfOk result (λ text. text.items ≡ stops_table net.now (offers_of bids.now)) }
+    ensures again { IfOk result (λ text. Mean net.now (bids_table net.now (offers_of bids.now))
+        text.items (offers_of bids.now)) }
 {
     net.laws();
     let mut printer = Printer::new(alloc);
@@ -56,7 +57,7 @@ pub fn stops_text(alloc: Global, net: &Network, bids: &[Bid]) -> Result<Vec<u8>,
 /// The name of a bid, with what every bid keeps.
 fn name(bid: &Bid) -> &str
     ensures text { result.now ≡ bid.now.name }
-    ensures sound { IsSound (parts_of bid.now) }
+    ensures sound { IsSound (offer_of bid.now) }
 {
     let _bidder = bid.bidder.text();
     bid.name.text()
@@ -81,7 +82,7 @@ fn print_stops_header(printer: &mut Printer, fields: &mut Fields) -> Result<(), 
 /// Adds the names of a bid.
 fn put_names(fields: &mut Fields, net: &Network, bid: &Bid) -> Result<(), NoMemory>
     requires { IsPathOn net.now bid.now.path }
-    ensures { OnOk result (fields.new ≡ fields.old ++ name_fields net.now (parts_of bid.now)) }
+    ensures { OnOk result (fields.new ≡ fields.old ++ name_fields net.now (offer_of bid.now)) }
 {
     fields.text(bid.name.text())?;
     fields.text(bid.bidder.text())?;
@@ -122,7 +123,7 @@ fn put_money(fields: &mut Fields, money: Money) -> Result<(), NoMemory>
 #[tactic(auto, unfolding(crate::specs::Written::bid_record))]
 fn put_bid(fields: &mut Fields, net: &Network, bid: &Bid) -> Result<(), NoMemory>
     requires { IsPathOn net.now bid.now.path }
-    ensures { OnOk result (fields.new ≡ bid_record net.now (parts_of bid.now)) }
+    ensures { OnOk result (fields.new ≡ bid_record net.now (offer_of bid.now)) }
 {
     fields.clear();
     put_names(fields, net, bid)?;
@@ -142,8 +143,8 @@ fn print_bid(
 ) -> Result<(), NoMemory>
     requires { IsPathOn net.now bid.now.path }
     ensures text { OnOk result (printer.new ≡ printer.old
-        ++ record_text (bid_record net.now (parts_of bid.now))) }
-    ensures sound { IsSound (parts_of bid.now) }
+        ++ record_text (bid_record net.now (offer_of bid.now))) }
+    ensures sound { IsSound (offer_of bid.now) }
 {
     let _sound = name(bid);
     put_bid(fields, net, bid)?;
@@ -159,8 +160,8 @@ fn print_bids(
 ) -> Result<(), NoMemory>
     requires { All (λ bid. IsPathOn net.now bid.path) bids.now }
     ensures text { OnOk result (printer.new ≡ printer.old
-        ++ records_text (map (bid_record net.now) (parts bids.now))) }
-    ensures sound { OnOk result (All (λ bid. IsSound (parts_of bid)) bids.now) }
+        ++ records_text (map (bid_record net.now) (offers_of bids.now))) }
+    ensures sound { OnOk result (All (λ bid. IsSound (offer_of bid)) bids.now) }
 {
     'bids: for bid in bids {
         print_bid(printer, fields, net, bid)?;
@@ -212,8 +213,8 @@ fn print_stops(
 ) -> Result<(), NoMemory>
     requires { All (λ bid. IsPathOn net.now bid.path) bids.now }
     ensures text { OnOk result (printer.new ≡ printer.old
-        ++ records_text (all_stop_records net.now (parts bids.now))) }
-    ensures sound { OnOk result (All (λ bid. IsSound (parts_of bid)) bids.now) }
+        ++ records_text (all_stop_records net.now (offers_of bids.now))) }
+    ensures sound { OnOk result (All (λ bid. IsSound (offer_of bid)) bids.now) }
 {
     'bids: for bid in bids {
         print_stops_of(printer, fields, net, name(bid), &bid.path.stops)?;

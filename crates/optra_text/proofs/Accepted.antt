@@ -10,7 +10,7 @@ use Rattle.clap.proofs.OnLiterals.{clap_on_literals}
 use Rattle.optra_text.specs.declared.words.WordsError.{WordsError}
 use Rattle.optra_text.specs.declared.words.WordsError.TheVariants as errors
 use Rattle.optra_text.specs.CommandForms.{IsSimple, Word, auction_app, check_app, plan_app, rows_given, demo_app}
-use Rattle.optra_text.specs.Words.{IsRefusal, IsUsage}
+use Rattle.optra_text.specs.Words.{IsErrorOf, IsUsage}
 
 pub plan_is_simple : IsSimple plan_app
 unfolding clap_on_literals
@@ -41,7 +41,7 @@ some_kind k [] h = absurd h
 some_kind k (x ∷ xs) h = ne_eqb (suc (length xs)) 0 (λ e. let f : suc (length xs) ≡ 0 = e in absurd (omega arith))
 
 -- each kind but want of memory is a refusal of the words
-pub refused : (app : App) (words : List Word) (e : Error) (r : WordsError) → IsSimple app → (is_simple_and_free app ≡ true → HasKind (fault_of app words) e) → IsRefusal (kind_of e) r → IsUsage r (rows_given app words)
+pub refused : (app : App) (words : List Word) (e : Error) (r : WordsError) → IsSimple app → (is_simple_and_free app ≡ true → HasKind (fault_of app words) e) → IsErrorOf (kind_of e) r → IsUsage r (rows_given app words)
 unfolding rows_given
 refused app words e errors.NoMemory simple kinds is = tt
 refused app words e errors.Usage simple kinds is =

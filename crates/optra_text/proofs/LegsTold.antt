@@ -18,7 +18,8 @@ use Rattle.optra_walk.specs.declared.Leg.{Leg}
 use Rattle.optra_walk.specs.Legs.{is_pass, dwell_of}
 use Rattle.optra_walk.specs.Walks.{IsNext, IsWalk}
 use Rattle.optra_records.specs.Reading.{Record}
-use Rattle.optra_text.specs.PlanTexts.{action_word, leg_record, track_text}
+use Rattle.optra_text.specs.PlanTexts.{leg_record, track_text}
+use Rattle.optra_walk.specs.Words.{action_word}
 
 -- a name tells its place
 place_told : (names : List (List ℕ)) (i j : ℕ) → AllDiffer names → i < length names → j < length names → get_or names i [] ≡ get_or names j [] → i ≡ j

@@ -60,12 +60,20 @@ kind_code (Net why) = net_code why
 kind_code (Bid why) = bid_code why
 
 -- refused: <table> row <row> <code>
-abbrev pub refusal_line : TableFault → List ℕ
-refusal_line fault =
-    codes "refused: " ++ table_word fault.table ++ codes " row " ++ decimal fault.row ++ codes " " ++ line (kind_code fault.kind)
+abbrev pub row_line : List ℕ → ℕ → List ℕ → List ℕ
+row_line table row code = codes "refused: " ++ table ++ codes " row " ++ decimal row ++ codes " " ++ line code
 
-abbrev pub usage_line : List ℕ
-usage_line = line (codes "usage: optra plan|check|auction|demo")
+-- the line of a table's first fault
+abbrev pub refusal_line : TableFault → List ℕ
+refusal_line fault = row_line (table_word fault.table) fault.row (kind_code fault.kind)
+
+-- usage: <forms>
+abbrev pub usage_line : List ℕ → List ℕ
+usage_line forms = codes "usage: " ++ line forms
+
+-- journal: <code>
+abbrev pub journal_line : List ℕ → List ℕ
+journal_line code = codes "journal: " ++ line code
 
 abbrev pub read_line : List ℕ → List ℕ
 read_line name = codes "read fault: " ++ line name
@@ -79,15 +87,21 @@ too_long_line name = codes "too long: " ++ line name
 abbrev pub write_line : List ℕ
 write_line = line (codes "write fault")
 
+abbrev pub disk_line : List ℕ
+disk_line = line (codes "disk fault")
+
 abbrev pub memory_line : List ℕ
 memory_line = line (codes "no memory")
 
 -- the line of a fault
 abbrev pub fault_line : FaultView → List ℕ
-fault_line view.Usage = usage_line
+fault_line (view.Usage forms) = usage_line forms.now
 fault_line (view.Table fault) = refusal_line fault
+fault_line (view.Coded table row code) = row_line table.now row code.now
+fault_line (view.Journal code) = journal_line code.now
 fault_line (view.Read name) = read_line name.now
 fault_line (view.Absent name) = absent_line name.now
 fault_line (view.TooLong name) = too_long_line name.now
 fault_line view.Write = write_line
+fault_line view.Disk = disk_line
 fault_line view.NoMemory = memory_line

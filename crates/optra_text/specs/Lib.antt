@@ -5,6 +5,7 @@ pub mod PlanLaws
 pub mod RoundTexts
 pub mod RoundViews
 pub mod CommandForms
+pub mod Ranges
 pub mod Words
 pub mod VerdictTexts
 pub mod DemoTexts

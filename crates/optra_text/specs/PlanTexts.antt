@@ -6,12 +6,11 @@ use Rattle.optra_network.specs.declared.StationId.{StationId}
 use Rattle.optra_network.specs.declared.TrackId.{TrackId}
 use Rattle.optra_network.specs.declared.TypeId.{TypeId}
 use Rattle.optra_bid.specs.declared.bids.Bid.{Bid}
-use Rattle.optra_walk.specs.declared.Action.{Action}
-use Rattle.optra_walk.specs.declared.Action.TheVariants.{Pass, Halt, Wait, Finish}
 use Rattle.optra_walk.specs.declared.Leg.{Leg}
 use Rattle.optra_walk.specs.Legs.{arrival_of, dwell_of}
 use Rattle.optra_walk.specs.Walks.{tail_of, head_of}
 use Rattle.optra_walk.specs.Values.{value_of}
+use Rattle.optra_walk.specs.Words.{action_word}
 use Rattle.optra_records.specs.Reading.{Record}
 use Rattle.optra_records.specs.Texts.{records_text}
 
@@ -23,13 +22,6 @@ track_text net track = unwrap_or (slice_get net.track_names track.0) []
 abbrev pub station_text : Net → Option StationId → List ℕ
 station_text net None = []
 station_text net (Some station) = unwrap_or (slice_get net.stations station.0) []
-
--- the word of an action
-abbrev pub action_word : Action → List ℕ
-action_word Pass = codes "pass"
-action_word (Halt dwell) = codes "halt"
-action_word (Wait dwell) = codes "wait"
-action_word Finish = codes "finish"
 
 -- leg,<track>,<tail>,<departure>,<head>,<arrival>,<action>,<dwell>
 abbrev pub leg_record : Net → TypeId → Leg → Record

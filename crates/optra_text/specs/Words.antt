@@ -1,11 +1,12 @@
 -- Which words are a command form, and what they ask for.
-use Rattle.std.specs.Prelude.{◌≡◌, ◌≤◌, ◌&&◌, ℕ, Bool, List, [], ◌∷◌, length, Option, Some, None, Result, Ok, Err, nat_le, codes, option_map, if◌then◌else◌, ⊤}
+use Rattle.std.specs.Prelude.{◌≡◌, ◌&&◌, ℕ, Bool, List, [], ◌∷◌, length, Option, Some, None, Result, Ok, Err, nat_le, codes, option_map, if◌then◌else◌}
 use Rattle.std.specs.Str.{bytes_eq}
 use Rattle.clap.specs.Words.{Row, first_of}
 use Rattle.clap.specs.declared.error.kind.ErrorKind.{ErrorKind}
 use Rattle.clap.specs.declared.error.kind.ErrorKind.TheVariants as kind
 use Rattle.optra_records.specs.Numbers.{number_of}
 use Rattle.optra_text.specs.CommandForms.{Word, rows_given, plan_app, check_app, auction_app, demo_app}
+pub use Rattle.optra_text.specs.Ranges.{HasRanges as HasBudget}
 use Rattle.optra_text.specs.declared.words.TablePaths.{TablePaths}
 use Rattle.optra_text.specs.declared.words.Words.{Words}
 use Rattle.optra_text.specs.declared.words.Words.TheVariants.{Plan, Check, Auction, Demo}
@@ -114,13 +115,6 @@ words_of (command ∷ words) =
     if bytes_eq command (codes "auction") then auction_words words else (
     if bytes_eq command (codes "demo") then demo_words words else None)))
 
--- a plan has a budget of at least one node, and a demo a size from 1 to 9
-abbrev pub HasBudget : Words → Type 0
-HasBudget (Plan net bids stops steps budget cert) = 1 ≤ budget
-HasBudget (Check net bids stops cert) = ⊤
-HasBudget (Auction net bids stops rules actions certs) = ⊤
-HasBudget (Demo seed size) = (1 ≤ size) × (size ≤ 9)
-
 -- ---- answers
 
 -- Usage comes where nothing is asked for. Want of memory is free.
@@ -134,6 +128,6 @@ Reads view (Ok x) read = read ≡ Some (view x)
 Reads view (Err e) read = IsUsage e read
 
 -- why words were not read, where `clap` gives this kind of fault
-abbrev pub IsRefusal : ErrorKind → WordsError → Type 0
-IsRefusal kind.OutOfMemory e = e ≡ errors.NoMemory
-IsRefusal _ e = e ≡ errors.Usage
+abbrev pub IsErrorOf : ErrorKind → WordsError → Type 0
+IsErrorOf kind.OutOfMemory e = e ≡ errors.NoMemory
+IsErrorOf _ e = e ≡ errors.Usage

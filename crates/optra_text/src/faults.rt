@@ -3,7 +3,7 @@
 ghost use Rattle.std.specs.Prelude.{◌≡◌};
 ghost use Rattle.std.specs.List.{flat_map};
 ghost use Rattle.optra_outside.specs.Pen.{Writes};
-ghost use Rattle.optra_text.specs.FaultLines.{bid_code, fault_line, kind_code, net_code, refusal_line, table_word};
+ghost use Rattle.optra_text.specs.FaultLines.{bid_code, fault_line, kind_code, net_code, row_line, table_word};
 
 use itoa::Buffer;
 use optra_bid::BidRefusal;
@@ -11,13 +11,27 @@ use optra_network::NetRefusal;
 use optra_outside::{Pen, PenFailed};
 use optra_tables::{Kind, Table, TableFault};
 
+/// The command forms of the program `optra`, as its usage line shows them.
+pub const FORMS: &str = "optra plan|check|auction|demo";
+
 /// What ended a command, as its line shows it.
 #[derive(Clone, Copy)]
 pub enum FaultView<'a> {
-    /// The words are no command.
-    Usage,
+    /// The words are no command of a program that has these forms.
+    Usage(&'a str),
     /// A table is refused, by its first fault.
     Table(TableFault),
+    /// A table that isn't among those of a network, its bids and an auction is refused, by its first fault.
+    Coded {
+        /// The table's name.
+        table: &'a str,
+        /// The record, from 1, which is the header; or 0 for a fault of the whole table.
+        row: u32,
+        /// What is wrong.
+        code: &'a str,
+    },
+    /// A journal is refused, for the reason of this code.
+    Journal(&'a str),
     /// The file of this name could not be read.
     Read(&'a str),
     /// The file of this name is not there.
@@ -26,6 +40,8 @@ pub enum FaultView<'a> {
     TooLong(&'a str),
     /// A file could not be put, or the output failed.
     Write,
+    /// A call of the disk failed.
+    Disk,
     /// Memory ran out.
     NoMemory,
 }
@@ -37,34 +53,33 @@ pub fn fault_text<P: Pen>(pen: &mut P, view: FaultView<'_>) -> Result<(), PenFai
     ensures { Writes (P.state pen.old) (P.state pen.new) (fault_line view.entry) result }
 {
     match view {
-        FaultView::Usage => pen.write(b"usage: optra plan|check|auction|demo\n"),
-        FaultView::Table(fault) => write_refusal(pen, fault),
+        FaultView::Usage(forms) => write_pieces(pen, &["usage: ", forms, "\n"]),
+        FaultView::Table(fault) => {
+            write_row(
+                pen,
+                table_word(fault.table),
+                fault.row,
+                kind_code(fault.kind),
+            )
+        }
+        FaultView::Coded { table, row, code } => write_row(pen, table, row, code),
+        FaultView::Journal(code) => write_pieces(pen, &["journal: ", code, "\n"]),
         FaultView::Read(name) => write_pieces(pen, &["read fault: ", name, "\n"]),
         FaultView::Absent(name) => write_pieces(pen, &["absent: ", name, "\n"]),
         FaultView::TooLong(name) => write_pieces(pen, &["too long: ", name, "\n"]),
         FaultView::Write => pen.write(b"write fault\n"),
+        FaultView::Disk => pen.write(b"disk fault\n"),
         FaultView::NoMemory => pen.write(b"no memory\n"),
     }
 }
 
-/// Writes the line of a table's first fault.
-fn write_refusal<P: Pen>(pen: &mut P, fault: TableFault) -> Result<(), PenFailed>
-    ensures { Writes (P.state pen.old) (P.state pen.new) (refusal_line fault) result }
+/// Writes the line of a table's first fault: the table, the row and the code.
+fn write_row<P: Pen>(pen: &mut P, table: &str, row: u32, code: &str) -> Result<(), PenFailed>
+    ensures { Writes (P.state pen.old) (P.state pen.new) (row_line table.now row code.now) result }
 {
     let mut buffer = Buffer::new();
-    let row = buffer.format(fault.row);
-    write_pieces(
-        pen,
-        &[
-            "refused: ",
-            table_word(fault.table),
-            " row ",
-            row,
-            " ",
-            kind_code(fault.kind),
-            "\n",
-        ],
-    )
+    let row = buffer.format(row);
+    write_pieces(pen, &["refused: ", table, " row ", row, " ", code, "\n"])
 }
 
 /// Writes texts one after another.

@@ -12,7 +12,7 @@ mod verdicts;
 mod words;
 
 pub use demos::demo_text;
-pub use faults::{FaultView, fault_text};
+pub use faults::{FORMS, FaultView, fault_text};
 pub use path_text::PathText;
 pub use plans::{PlanView, plan_text, text_tells_plan};
 pub use rounds::{Award, CloseView, RoundView, close_text, round_text};

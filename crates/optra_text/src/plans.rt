@@ -3,18 +3,17 @@
 ghost use Rattle.std.specs.Prelude.{◌≡◌, ℕ, ◌+◌, ◌<◌, ◌++◌, ◌∷◌, [], length, map, All, IfOk, IfSome, OnOk, codes};
 ghost use Rattle.std.specs.Fmt.{decimal, signed_decimal};
 ghost use Rattle.optra_network.specs.Net.{IsTrack};
-ghost use Rattle.optra_walk.specs.Legs.{dwell_of};
 ghost use Rattle.optra_walk.specs.Walks.{IsWalk, tail_of, head_of};
 ghost use Rattle.optra_walk.specs.Choices.{IsChoice};
 ghost use Rattle.optra_records.specs.Texts.{record_text, records_text};
 ghost use Rattle.optra_text.specs.PlanTexts.{plan_text_of, head_records, train_records, entry_records, train_record, leg_record};
-ghost use Rattle.optra_text.specs.PlanTexts.{status_word, track_text, station_text, action_word};
+ghost use Rattle.optra_text.specs.PlanTexts.{status_word, track_text, station_text};
 ghost use Rattle.optra_text.specs.PlanLaws.{TextTellsPlan};
 
 use optra_bid::Bid;
 use optra_network::{Cents, Network, NoMemory, TrackId, TypeId};
 use optra_records::{Fields, Printer};
-use optra_walk::{Action, Choice, Instance, Leg, Walk, arrival, value};
+use optra_walk::{Choice, Instance, Leg, Walk, arrival, value};
 use std::alloc::Global;
 
 /// A plan, as it is printed.
@@ -202,7 +201,7 @@ fn print_train(
 }
 
 /// Prints the records of legs.
-fn print_legs(
+pub(crate) fn print_legs(
     printer: &mut Printer,
     fields: &mut Fields,
     net: &Network,
@@ -220,7 +219,7 @@ fn print_legs(
 }
 
 /// Prints the record of a leg.
-fn print_leg(
+pub(crate) fn print_leg(
     printer: &mut Printer,
     fields: &mut Fields,
     net: &Network,
@@ -237,8 +236,8 @@ fn print_leg(
     fields.number(u64::from(leg.depart))?;
     fields.text(head_name(net, leg))?;
     fields.number(u64::from(arrival(net, kind, leg).unwrap_or(0)))?;
-    fields.text(action_word(leg.action))?;
-    fields.number(u64::from(dwell(leg.action)))?;
+    fields.text(leg.action.word())?;
+    fields.number(u64::from(leg.action.dwell()))?;
     printer.print(fields)
 }
 
@@ -267,26 +266,4 @@ fn head_name(net: &Network, leg: Leg) -> &str
 {
     net.laws();
     net.station_name(net.head(leg.track))
-}
-
-/// The word of an action.
-fn action_word(action: Action) -> &'static str
-    ensures { result.now ≡ action_word action }
-{
-    match action {
-        Action::Pass => "pass",
-        Action::Halt(_) => "halt",
-        Action::Wait(_) => "wait",
-        Action::Finish => "finish",
-    }
-}
-
-/// The minutes that a train stands after a leg.
-fn dwell(action: Action) -> u16
-    ensures { result ≡ dwell_of action }
-{
-    match action {
-        Action::Pass | Action::Finish => 0,
-        Action::Halt(dwell) | Action::Wait(dwell) => dwell,
-    }
 }

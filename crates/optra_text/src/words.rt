@@ -2,7 +2,8 @@
 ghost use Rattle.std.specs.Prelude.{◌≡◌, ◌≤◌, map, string_bytes, option_map, IfSome, IfOk};
 ghost use Rattle.clap.specs.Words.{app_of, first_of, found_of, rows_of};
 ghost use Rattle.optra_text.specs.CommandForms.{IsSimple, rows_given};
-ghost use Rattle.optra_text.specs.Words.{HasBudget, IsRefusal, Reads, auction_words, check_words, is_path, needed_path, number_or, number_within, optional_path, plan_words, tables_given, words_of, demo_words, needed_number};
+ghost use Rattle.optra_text.specs.Ranges.{HasRanges};
+ghost use Rattle.optra_text.specs.Words.{IsErrorOf, Reads, auction_words, check_words, is_path, needed_path, number_or, number_within, optional_path, plan_words, tables_given, words_of, demo_words, needed_number};
 ghost use Rattle.optra_text.specs.declared.words.WordsError.TheVariants.{NoMemory};
 
 use crate::command_forms::{auction_command, check_command, demo_command, plan_command};
@@ -105,7 +106,7 @@ impl From<AllocError> for WordsError {
 /// others, or a value isn't in its range.
 pub fn read_words(alloc: Global, words: &[String]) -> Result<Words, WordsError>
     ensures read { Reads (λ read. read) result (words_of (map string_bytes words.now)) }
-    ensures budget { IfOk result HasBudget }
+    ensures budget { IfOk result HasRanges }
 {
     let Some((command, options)) = words.split_first() else {
         return Err(WordsError::Usage);
@@ -123,7 +124,7 @@ pub fn read_words(alloc: Global, words: &[String]) -> Result<Words, WordsError>
 #[tactic(auto, unfolding(crate::specs::Words::plan_words))]
 fn read_plan(alloc: Global, words: &[String]) -> Result<Words, WordsError>
     ensures read { Reads (λ read. read) result (plan_words (map string_bytes words.now)) }
-    ensures budget { IfOk result HasBudget }
+    ensures budget { IfOk result HasRanges }
 {
     let matches = matches_of(plan_command(alloc)?, words)?;
     let TablePaths { net, bids, stops } = tables_given(alloc, &matches)?;
@@ -144,7 +145,7 @@ fn read_plan(alloc: Global, words: &[String]) -> Result<Words, WordsError>
 #[tactic(auto, unfolding(crate::specs::Words::check_words))]
 fn read_check(alloc: Global, words: &[String]) -> Result<Words, WordsError>
     ensures read { Reads (λ read. read) result (check_words (map string_bytes words.now)) }
-    ensures budget { IfOk result HasBudget }
+    ensures budget { IfOk result HasRanges }
 {
     let matches = matches_of(check_command(alloc)?, words)?;
     let TablePaths { net, bids, stops } = tables_given(alloc, &matches)?;
@@ -161,7 +162,7 @@ fn read_check(alloc: Global, words: &[String]) -> Result<Words, WordsError>
 #[tactic(auto, unfolding(crate::specs::Words::auction_words))]
 fn read_auction(alloc: Global, words: &[String]) -> Result<Words, WordsError>
     ensures read { Reads (λ read. read) result (auction_words (map string_bytes words.now)) }
-    ensures budget { IfOk result HasBudget }
+    ensures budget { IfOk result HasRanges }
 {
     let matches = matches_of(auction_command(alloc)?, words)?;
     let TablePaths { net, bids, stops } = tables_given(alloc, &matches)?;
@@ -182,7 +183,7 @@ fn read_auction(alloc: Global, words: &[String]) -> Result<Words, WordsError>
 #[tactic(auto, unfolding(crate::specs::Words::demo_words))]
 fn read_demo(alloc: Global, words: &[String]) -> Result<Words, WordsError>
     ensures read { Reads (λ read. read) result (demo_words (map string_bytes words.now)) }
-    ensures budget { IfOk result HasBudget }
+    ensures budget { IfOk result HasRanges }
 {
     let matches = matches_of(demo_command(alloc)?, words)?;
     let seed = number_of(0, MOST_SEED, given(&matches, "seed"))?;
@@ -225,7 +226,7 @@ fn matches_of<'a>(command: Command<'a>, words: &'a [String]) -> Result<ArgMatche
 
 /// Why the words weren't read, where `clap` gives this kind of fault.
 fn refusal(kind: ErrorKind) -> WordsError
-    ensures { IsRefusal kind result }
+    ensures { IsErrorOf kind result }
 {
     match kind {
         ErrorKind::OutOfMemory => WordsError::NoMemory,

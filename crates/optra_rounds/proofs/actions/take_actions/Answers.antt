@@ -17,11 +17,11 @@ actions-preserved-in-Continue-1 c =
     let split : left ≡ x ∷ rest = c.in-Some.ensures.steps.0 in
     let same : x.round ≡ round = c.if-action-round.true in
     record {
-      outcomes = taken-outcomes round x left rest c.actions.auction c.take_action-refusal.new.auction c.take_action-refusal.result c.actions.outcomes.items c.push.new.self.items
-          (outcomes c.args.auction.now (acts_of round c.args.actions.items)) split same c.take_action-refusal.ensures.refusal c.take_action-refusal.ensures.after c.in_ok-push.ensures.items c.actions.invariant.outcomes;
+      outcomes = taken-outcomes round x left rest c.actions.auction c.take_act-refusal.new.auction c.take_act-refusal.result c.actions.outcomes.items c.push.new.self.items
+          (outcomes c.args.auction.now (acts_of round c.args.actions.items)) split same c.take_act-refusal.ensures.refusal c.take_act-refusal.ensures.after c.in_ok-push.ensures.items c.actions.invariant.outcomes;
       later = ap (λ (l : List TimedAct). c.actions.later.items ++ l) (sym (others-same round x rest same) ∙ ap (other_acts round) (sym split)) ∙ c.actions.invariant.later;
-      after = taken-after round x left rest c.actions.auction c.take_action-refusal.new.auction (after_acts c.args.auction.now (acts_of round c.args.actions.items)) split same
-          c.take_action-refusal.ensures.after c.actions.invariant.after;
+      after = taken-after round x left rest c.actions.auction c.take_act-refusal.new.auction (after_acts c.args.auction.now (acts_of round c.args.actions.items)) split same
+          c.take_act-refusal.ensures.after c.actions.invariant.after;
       amounts = All-tail (λ (a : TimedAct). HasAmount a.act) x rest (subst (All (λ (a : TimedAct). HasAmount a.act)) split c.actions.invariant.amounts);
     }
 

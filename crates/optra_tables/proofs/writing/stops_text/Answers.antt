@@ -2,7 +2,7 @@
 use Rattle.std.proofs.Common.{◌≡◌, ◌++◌, ℕ, List, map, IfOk, ap, ◌∙◌, subst}
 use Rattle.optra_records.specs.Texts.{record_text, records_text}
 use Rattle.std.specs.List.{flat_map}
-use Rattle.optra_tables.specs.Bids.{parts_of}
+use Rattle.optra_bid.specs.Offers.{offer_of}
 use Rattle.optra_tables.specs.Stops.{stops_header}
 use Rattle.optra_tables.specs.Written.{stop_records, stops_table}
 use Rattle.optra_tables.proofs.WrittenLaw.{stops_mean}
@@ -13,8 +13,8 @@ pub returns-clause-text : goal.returns-clause-text
 unfolding stops_table
 returns-clause-text c =
     let header = c.in_ok-print_stops_header.ensures ∙ ap (λ (t : List ℕ). t ++ record_text stops_header) c.new-printer.ensures in
-    let same : c.print_stops.new.printer ≡ stops_table c.args.net.now (map parts_of c.args.bids.now) =
-    c.in_ok-print_stops.ensures.text ∙ ap (λ (t : List ℕ). t ++ records_text (flat_map (stop_records c.args.net.now) (map parts_of c.args.bids.now))) header in
+    let same : c.print_stops.new.printer ≡ stops_table c.args.net.now (map offer_of c.args.bids.now) =
+    c.in_ok-print_stops.ensures.text ∙ ap (λ (t : List ℕ). t ++ records_text (flat_map (stop_records c.args.net.now) (map offer_of c.args.bids.now))) header in
     subst (λ (all : List ℕ). IfOk c.finish.result (λ text. text.items ≡ all)) same c.finish.ensures
 
 pub returns-clause-again : goal.returns-clause-again

@@ -4,7 +4,8 @@ use Rattle.std.proofs.lemmas.Int.{to_z-of_z}
 use Rattle.std.specs.Int.RustNames.{FitsSigned}
 use Rattle.optra_network.specs.Names.{place_of}
 use Rattle.optra_auction.specs.Kept.{named}
-use Rattle.optra_auction.specs.Machine.{State, place_named, spec_named, spec_names, amend_refusal, amend_tests, standing_names, state_of}
+use Rattle.optra_auction.specs.Tests.{amend_tests}
+use Rattle.optra_auction.specs.Machine.{State, place_named, spec_named, spec_names, amend_refusal, standing_names, state_of}
 use Rattle.optra_auction.proofs.RefusalLemmas.{amend-closed, amend-no_spec, amend-tested, amend-unknown}
 use Rattle.optra_auction.proofs.auctions.Auction.amend_places.Goals as goal
 

@@ -4,7 +4,8 @@ use Rattle.std.proofs.lemmas.Int.{to_z-of_z}
 use Rattle.std.specs.Int.RustNames.{FitsSigned}
 use Rattle.optra_network.specs.Names.{place_of}
 use Rattle.optra_auction.specs.Kept.{named}
-use Rattle.optra_auction.specs.Machine.{IsOn, State, place_named, raise_refusal, raise_tests, standing_names, state_of}
+use Rattle.optra_auction.specs.Tests.{raise_tests}
+use Rattle.optra_auction.specs.Machine.{IsOn, State, place_named, raise_refusal, standing_names, state_of}
 use Rattle.optra_auction.proofs.MachineLemmas.{All-slice_get}
 use Rattle.optra_auction.proofs.RefusalLemmas.{raise-closed, raise-tested, raise-unknown}
 use Rattle.optra_auction.proofs.auctions.Auction.raise_place.Goals as goal

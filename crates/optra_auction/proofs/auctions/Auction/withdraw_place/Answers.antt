@@ -2,7 +2,8 @@
 use Rattle.std.proofs.Common.{◌∙◌, ℕ, List, ap, sym}
 use Rattle.optra_network.specs.Names.{place_of}
 use Rattle.optra_auction.specs.Kept.{named}
-use Rattle.optra_auction.specs.Machine.{State, place_named, withdraw_refusal, withdraw_tests, standing_names, state_of}
+use Rattle.optra_auction.specs.Tests.{withdraw_tests}
+use Rattle.optra_auction.specs.Machine.{State, place_named, withdraw_refusal, standing_names, state_of}
 use Rattle.optra_auction.proofs.RefusalLemmas.{withdraw-closed, withdraw-tested, withdraw-unknown}
 use Rattle.optra_auction.proofs.auctions.Auction.withdraw_place.Goals as goal
 

@@ -3,7 +3,7 @@ use Rattle.std.proofs.Common.{◌<◌, ◌∙◌, length, ap, arith}
 use Rattle.std.proofs.lemmas.List.{length-map}
 use Rattle.optra_bid.specs.declared.bids.Bid.{Bid}
 use Rattle.optra_rounds.proofs.SpecLemmas.{next-spec, spec-within}
-use Rattle.optra_rounds.proofs.standing.spec_names.Goals as goal
+use Rattle.optra_rounds.proofs.standing.standing_specs.Goals as goal
 
 pub bids-preserved : goal.bids-preserved
 bids-preserved c =
