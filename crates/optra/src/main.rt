@@ -4,12 +4,23 @@
 
 use optra_outside::{FileDisk, FolderShelf, Pen, StdPen};
 use std::alloc::Global;
-use std::env;
 use std::io::{Error, ErrorKind};
 use std::process::ExitCode;
 use std::rt::Env;
+use std::{env, fs};
+
+// A file that is always there and never holds anything.
+const NOTHING: &str = "/dev/null";
 
 fn main(rt: HostRuntime) -> ExitCode {
+    // A program may begin with some of the descriptors 0 to 2 closed, and then the next files that are opened get these. So files
+    // that can't be written are opened before all others: no text for standard output or standard error is ever written to a
+    // file, and a closed one fails as it is. Where they can't be opened, nothing is held.
+    let _held = [
+        fs::open(&rt, NOTHING),
+        fs::open(&rt, NOTHING),
+        fs::open(&rt, NOTHING),
+    ];
     let alloc = rt.alloc();
     let mut shelf = FolderShelf::new(&rt);
     let mut out = StdPen::new(rt.stdout());

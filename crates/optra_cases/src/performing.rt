@@ -9,7 +9,7 @@ use std::io::Write;
 
 /// Runs a case over a shelf and a disk of its own, and prints what came of each run.
 pub fn perform<W: Write>(alloc: Global, name: &str, case: &Case, to: &mut W) -> Result<()> {
-    let mut disk = MemoryDisk::new(alloc, 0, Vec::new(alloc))?;
+    let mut disk = MemoryDisk::new(alloc, AMPLE, Vec::new(alloc))?;
     perform_over(alloc, name, case, &mut disk, to)?;
     Ok(())
 }

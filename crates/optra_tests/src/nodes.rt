@@ -11,7 +11,7 @@ use crate::decisions::{AB, At, Decided, leg, node_of};
 use crate::instances::{Check, PAIRS, PLAIN, Rows, check_read};
 use optra_graph::{FreshGraphs, Graphs};
 use optra_network::{Minute, NoMemory, TypeId};
-use optra_node::{Node, Summary, is_formed_leg};
+use optra_node::{Node, is_formed_leg};
 use optra_prices::Dead;
 use optra_prices::deads::dead;
 use optra_rows::{HRow, HeadwayRows};
@@ -257,18 +257,9 @@ static DEADS: [DeadCase; 12] = [
     },
 ];
 
-/// The node and its summary answer of a leg as the case says.
-fn check_leg(
-    rt: &impl Abort,
-    inst: Instance<'_>,
-    node: &Node,
-    summary: &Summary<'_, HeadwayRows>,
-    name: &str,
-    case: LegCase,
-)
-    requires node { IsNode inst.net.now (length inst.bids.now) node.now }
-    requires net { summary.now.net ≡ inst.net.now }
-    requires bids { summary.now.bids ≡ inst.bids.now }
+/// The node answers of a leg as the case says.
+fn check_leg(rt: &impl Abort, inst: Instance<'_>, node: &Node, name: &str, case: LegCase)
+    requires { IsNode inst.net.now (length inst.bids.now) node.now }
 {
     let (bid, at, blocked, ok) = case;
     let leg = leg(at);
@@ -285,25 +276,11 @@ fn check_leg(
         ok,
         "{name}: bid {bid}, {at:?}"
     );
-    assert_eq!(rt;
-        summary.blocked(bid, leg),
-        blocked,
-        "{name}: bid {bid}, {at:?}"
-    );
-    assert_eq!(rt; summary.leg_ok(bid, leg), ok, "{name}: bid {bid}, {at:?}");
 }
 
-/// The node and its summary answer of a start as the case says.
-fn check_start(
-    rt: &impl Abort,
-    inst: Instance<'_>,
-    node: &Node,
-    summary: &Summary<'_, HeadwayRows>,
-    name: &str,
-    case: StartCase,
-)
-    requires node { IsNode inst.net.now (length inst.bids.now) node.now }
-    requires bids { summary.now.bids ≡ inst.bids.now }
+/// The node answers of a start as the case says.
+fn check_start(rt: &impl Abort, inst: Instance<'_>, node: &Node, name: &str, case: StartCase)
+    requires { IsNode inst.net.now (length inst.bids.now) node.now }
 {
     let (bid, minute, ok) = case;
     assert!(rt; (bid as usize) < inst.bids.len());
@@ -312,41 +289,21 @@ fn check_start(
         ok,
         "{name}: bid {bid}, {minute}"
     );
-    assert_eq!(rt;
-        summary.start_ok(bid, minute),
-        ok,
-        "{name}: bid {bid}, {minute}"
-    );
 }
 
-fn check_legs(
-    rt: &impl Abort,
-    inst: Instance<'_>,
-    node: &Node,
-    summary: &Summary<'_, HeadwayRows>,
-    case: &LetCase,
-)
-    requires node { IsNode inst.net.now (length inst.bids.now) node.now }
-    requires net { summary.now.net ≡ inst.net.now }
-    requires bids { summary.now.bids ≡ inst.bids.now }
+fn check_legs(rt: &impl Abort, inst: Instance<'_>, node: &Node, case: &LetCase)
+    requires { IsNode inst.net.now (length inst.bids.now) node.now }
 {
     for leg in case.legs {
-        check_leg(rt, inst, node, summary, case.name, *leg);
+        check_leg(rt, inst, node, case.name, *leg);
     }
 }
 
-fn check_starts(
-    rt: &impl Abort,
-    inst: Instance<'_>,
-    node: &Node,
-    summary: &Summary<'_, HeadwayRows>,
-    case: &LetCase,
-)
-    requires node { IsNode inst.net.now (length inst.bids.now) node.now }
-    requires bids { summary.now.bids ≡ inst.bids.now }
+fn check_starts(rt: &impl Abort, inst: Instance<'_>, node: &Node, case: &LetCase)
+    requires { IsNode inst.net.now (length inst.bids.now) node.now }
 {
     for start in case.starts {
-        check_start(rt, inst, node, summary, case.name, *start);
+        check_start(rt, inst, node, case.name, *start);
     }
 }
 
@@ -356,10 +313,8 @@ fn check_lets(
     case: &LetCase,
 ) -> Result<(), NoMemory> {
     let node = node_of(rt, inst, case.decisions)?;
-    let rows = HeadwayRows::new();
-    let summary = Summary::new(rt.alloc(), inst, &rows, &node)?;
-    check_legs(rt, inst, &node, &summary, case);
-    check_starts(rt, inst, &node, &summary, case);
+    check_legs(rt, inst, &node, case);
+    check_starts(rt, inst, &node, case);
     Ok(())
 }
 

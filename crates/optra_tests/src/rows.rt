@@ -276,7 +276,7 @@ fn fits(
 
 /// A load of x at 0 alone.
 fn loaded(rt: &impl Abort, alloc: Global, net: &Network) -> Result<Load<HeadwayRows>, NoMemory>
-    ensures { IfOk result (λ load. (row : HRow) → total_of row_cmp load.totals row
+    ensures { IfOk result (λ load. (row : HRow) → total_of row_cmp load.totals.sums row
         ≡ use_in net.now X AB 0 row) }
 {
     assert!(rt; net.run(AB, X, false, false).is_some());
@@ -288,7 +288,7 @@ fn loaded(rt: &impl Abort, alloc: Global, net: &Network) -> Result<Load<HeadwayR
 
 /// Takes x at 0 away again.
 fn unload(rt: &impl Abort, net: &Network, load: &mut Load<HeadwayRows>)
-    requires { (row : HRow) → total_of row_cmp load.old.totals row ≡ use_in net.now X AB 0 row }
+    requires { (row : HRow) → total_of row_cmp load.old.totals.sums row ≡ use_in net.now X AB 0 row }
 {
     assert!(rt; net.run(AB, X, false, false).is_some());
     net.laws();

@@ -9,8 +9,8 @@ use Rattle.optra_tables.specs.declared.ReadError.TheVariants as unread
 use Rattle.optra_tables.specs.declared.Table.TheVariants.{Rules, Actions}
 use Rattle.optra_tables.specs.declared.TimedAct.{TimedAct}
 use Rattle.optra_top.specs.AuctionCommand.{auction_of}
-use Rattle.optra_top.specs.Files.{Contents}
-use Rattle.optra_top.specs.TableFiles.{Tables, meaning_of, table_content}
+use Rattle.optra_frame.specs.Files.{Contents}
+use Rattle.optra_frame.specs.TableFiles.{Tables, meaning_of, table_content}
 
 -- a fault of the network or its bids
 pub Fails-tables : (contents : Contents) (error : ReadError) → Fails error (meaning_of contents) → Fails error (auction_of contents)

@@ -24,7 +24,7 @@ use Rattle.optra_top.specs.MadeTables.{made_net_files}
 use Rattle.optra_top.proofs.DemoBids.{are_written, bids_table_is, minutes_fit, parts_of, stops_table_is}
 use Rattle.optra_top.proofs.DemoNets.{Fits, demo_parts, demo_proper, headways_written, running_written, stations_written, tracks_written}
 use Rattle.optra_top.proofs.NetsWritten.{net_of, network_means, tables_of, tables_version}
-use Rattle.optra_top.specs.declared.versions.Version.TheVariants.{First}
+use Rattle.optra_frame.specs.declared.version.Version.TheVariants.{First}
 
 -- the network and the bids of a demo
 abbrev pub demo_net : ℕ → ℕ → Net

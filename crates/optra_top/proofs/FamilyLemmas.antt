@@ -14,8 +14,8 @@ use Rattle.optra_network.specs.Net.{Net}
 use Rattle.optra_walk.specs.Families.{Entry}
 use Rattle.optra_rows.specs.Headways.{KeepsHeadwayRule}
 use Rattle.optra_top.specs.Families.{AnyRow, FamilyOf, KeepsAllRules, OfVersion, all_family, any_cmp, headway_family}
-use Rattle.optra_top.specs.declared.versions.Version.{Version}
-use Rattle.optra_top.specs.declared.versions.Version.TheVariants as versions
+use Rattle.optra_frame.specs.declared.version.Version.{Version}
+use Rattle.optra_frame.specs.declared.version.Version.TheVariants as versions
 
 -- an order that compares rows of each family as that family does, and those of one family with a later one as less, is the order
 pub cmp_is : (cmp : AnyRow → AnyRow → Ordering)
@@ -63,3 +63,10 @@ pub of_version-map : (Says Follows : SaidOf) (version : Version) (net : Net)
     → OfVersion version net Says → OfVersion version net Follows
 of_version-map Says Follows versions.First net follow says = follow HRow (headway_family net) (KeepsHeadwayRule net) says
 of_version-map Says Follows versions.Second net follow says = follow AnyRow (all_family net) (KeepsAllRules net) says
+
+-- what follows of any family, and doesn't speak of it, follows
+pub of_version-then : (Says : SaidOf) (P : Type 0) (version : Version) (net : Net)
+    → ((R : Type 0) (family : FamilyOf R) (Keeps : List Entry → Type 0) → Says R family Keeps → P)
+    → OfVersion version net Says → P
+of_version-then Says P versions.First net follow says = follow HRow (headway_family net) (KeepsHeadwayRule net) says
+of_version-then Says P versions.Second net follow says = follow AnyRow (all_family net) (KeepsAllRules net) says

@@ -1,10 +1,6 @@
--- Lemmas on the files that a command gets, on how a run ends, on what its files mean, and on the plan.
-mod ContentLemmas
-pub mod GetLemmas
-mod PutLemmas
-mod RefusalLemmas
-mod EndingLemmas
-mod CompletionLemmas
+-- Lemmas on what the files of a command mean, on the plan, on the verdict and on the play.
+mod EntryLemmas
+mod StatusLemmas
 mod FamilyLemmas
 mod PlanLemmas
 mod DecidedFacts
@@ -13,6 +9,7 @@ mod PairLemmas
 mod BidLemmas
 mod TextLemmas
 mod VerdictLemmas
+mod OneVerdictLemmas
 pub mod AmountLemmas
 mod NetsWritten
 mod DemoNames

@@ -8,6 +8,7 @@ use Rattle.optra_bid.specs.declared.bids.Bid.{Bid}
 use Rattle.optra_bid.specs.Instances.{IsInstance}
 use Rattle.optra_bid.specs.Specs.{IsPathOn}
 use Rattle.optra_auction.specs.Machine.{ArePathsOfSpecs, ArePlanned, State, after_act, offer_of, planned_of, refusal_of}
+use Rattle.optra_auction.proofs.AuctionLemmas.{paths_hold}
 use Rattle.optra_auction.specs.declared.Act.{Act}
 use Rattle.optra_auction.specs.declared.Refusal.{Refusal}
 use Rattle.optra_rounds.specs.Rounds.{after_acts, after_any, values_of}
@@ -47,7 +48,7 @@ acts-same s (a ∷ acts) =
 
 -- the bids that stand are an instance, where the specifications are on the network
 standing-instance : (net : Net) (specs bids : List Bid) → length bids ≤ 500 → ArePathsOfSpecs specs bids → All (λ (spec : Bid). IsPathOn net spec.path) specs → IsInstance net bids
-standing-instance net specs bids few paths on = record { few = omega (arith, few); paths = paths net on }
+standing-instance net specs bids few paths on = record { few = omega (arith, few); paths = paths_hold (IsPathOn net) specs bids paths on }
 
 -- what an auction after actions has as it was
 pub specs-after : (old new : State) (acts : List TimedAct) → new ≡ after_acts old acts → new.specs ≡ old.specs

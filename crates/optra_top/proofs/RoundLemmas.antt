@@ -15,7 +15,7 @@ use Rattle.optra_auction.specs.declared.Rules.{Rules}
 use Rattle.optra_auction.proofs.AuctionLemmas.{not_last}
 use Rattle.optra_cert.specs.RowTexts.{RowTexts}
 use Rattle.optra_records.specs.Texts.{records_text}
-use Rattle.optra_rounds.specs.Rounds.{acts_after, acts_of, after_acts, awards_of, other_acts, outcomes, specs_of, values_of}
+use Rattle.optra_rounds.specs.Rounds.{acts_after, acts_of, after_acts, awards_of, other_acts, outcomes, standing_specs, values_of}
 use Rattle.optra_tables.specs.Actions.{AreActions, IsRound}
 use Rattle.optra_tables.specs.declared.TimedAct.{TimedAct}
 use Rattle.optra_text.specs.RoundTexts.{close_records, round_records}
@@ -24,10 +24,10 @@ use Rattle.optra_top.specs.Families.{FamilyOf}
 use Rattle.optra_top.specs.Play.{IsPlayStatus, IsPlayed, IsPlayedOut, Played, Plays, acted, acts_in, closed_by, paths_of, play_files, round_files, round_of, rounds_text, rows_late}
 use Rattle.optra_top.specs.Playing.{HasGap, IsBegun, IsFinished, IsPlayedSo, IsRoundPlayed, acts_from, acts_left, files_where, gap_after, play_status, rounds_left, seen_after}
 use Rattle.optra_top.specs.PlanCommand.{certificate_of}
-use Rattle.optra_top.specs.Puts.{texts_of}
-use Rattle.optra_top.specs.declared.files.FileText.{FileText}
+use Rattle.optra_frame.specs.Puts.{texts_of}
+use Rattle.optra_frame.specs.declared.files.FileText.{FileText}
 use Rattle.optra_top.specs.declared.playing.Playing.{Playing}
-use Rattle.optra_top.specs.declared.replies.Answer.{Answer}
+use Rattle.optra_frame.specs.declared.answer.Answer.{Answer}
 use Rattle.optra_top.proofs.PlayLemmas.{IsSameRound, acts-same}
 
 -- ---- the actions that are left
@@ -239,7 +239,7 @@ module _ {R : Type 0} (family : FamilyOf R) (Keeps : List Entry → Type 0) (net
     round = h.p.before.round;
     outcomes = outcomes h.p.before acts;
     bids = h.p.bids;
-    specs = specs_of (spec_names specs) (after_acts h.p.before acts).standing;
+    specs = standing_specs (spec_names specs) (after_acts h.p.before acts).standing;
     walks = h.p.plan.choice;
     revenue = h.p.plan.revenue;
     bound = h.p.plan.bound;

@@ -10,7 +10,7 @@ use Rattle.optra_top.specs.PlanCommand.{PlanAsked, PrintsPlan, IsStatusOf, certi
 use Rattle.optra_top.specs.PlanLaws.{HasOneText, OneText}
 use Rattle.optra_top.specs.Families.{FamilyOf, KeepsAllRules, all_family, headway_family}
 use Rattle.optra_rows.specs.Headways.{KeepsHeadwayRule}
-use Rattle.optra_top.specs.declared.versions.Version.TheVariants as versions
+use Rattle.optra_frame.specs.declared.version.Version.TheVariants as versions
 use Rattle.optra_tables.specs.Bids.{parts_of}
 use Rattle.optra_walk.specs.Families.{Entry}
 use Rattle.optra_top.proofs.BidLemmas.{bids-from_parts}

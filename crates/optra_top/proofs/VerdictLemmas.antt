@@ -5,9 +5,7 @@ use Rattle.optra_bid.specs.declared.bids.Bid.{Bid}
 use Rattle.optra_cert.specs.CertLaws.{IsTextOf, TextTellsCert, TextHasNoFault}
 use Rattle.optra_cert.specs.CertTexts.{cert_text}
 use Rattle.optra_cert.specs.Certs.{Cert, IsWritable}
-use Rattle.optra_checker.specs.Verdicts.{IsFirstReason, IsVerdict}
-use Rattle.optra_checker.specs.declared.Reason.{Reason}
-use Rattle.optra_checker.specs.declared.Reason.TheVariants.{Walk, Conflict, Revenue, Decision, DeadLeaf, Price, Bound}
+use Rattle.optra_checker.specs.Verdicts.{IsVerdict}
 use Rattle.optra_checker.specs.declared.Verdict.{Verdict}
 use Rattle.optra_checker.specs.declared.Verdict.TheVariants as verdicts
 use Rattle.optra_node.specs.Certificates.{IsValid}
@@ -15,12 +13,13 @@ use Rattle.optra_node.specs.Laws.{BoundHolds}
 use Rattle.optra_text.specs.VerdictTexts.{verdict_text_of}
 use Rattle.optra_text.specs.declared.verdicts.VerdictView.{VerdictView}
 use Rattle.optra_text.specs.declared.verdicts.VerdictView.TheVariants.{Yes, No, Unreadable}
-use Rattle.optra_walk.specs.Families.{Rows, Entry}
+use Rattle.optra_checker.proofs.VerdictLemmas.{no_reason}
+use Rattle.optra_walk.specs.Families.{Entry}
 use Rattle.optra_top.specs.CheckCommand.{IsVerdictOn, verdict_status, view_of}
 use Rattle.optra_top.specs.CheckLaws.{ConfirmsBy, ConfirmsPlan}
 use Rattle.optra_top.specs.Families.{FamilyOf, KeepsAllRules, all_family, headway_family}
 use Rattle.optra_rows.specs.Headways.{KeepsHeadwayRule}
-use Rattle.optra_top.specs.declared.versions.Version.TheVariants as versions
+use Rattle.optra_frame.specs.declared.version.Version.TheVariants as versions
 use Rattle.optra_top.specs.PlanCommand.{certificate_of, certificate_puts}
 use Rattle.optra_top.specs.Plans.{KeepsPromise, TellsConflicts}
 use Rattle.optra_top.proofs.PlanLemmas.{promise-from_valid}
@@ -47,17 +46,6 @@ verdict-told family net Keeps bids tells holds bytes cert (verdicts.No reason) t
   number_is = refl;
 }
 
--- a valid certificate has no reason against it
-pub valid-no_reason : {R : Type 0} (net : Net) (rows : Rows R) (Keeps : List Entry → Type 0) (bids : List Bid) (cert : Cert R) (reason : Reason)
-    → IsValid net rows Keeps bids cert.revenue cert.bound cert.choice cert.tree → IsFirstReason net rows Keeps bids cert reason → ⊥
-valid-no_reason net rows Keeps bids cert Walk valid fails = fails valid.walks
-valid-no_reason net rows Keeps bids cert Conflict valid fails = fails.1 valid.rule
-valid-no_reason net rows Keeps bids cert Revenue valid fails = fails.2 valid.revenue_is
-valid-no_reason net rows Keeps bids cert Decision valid fails = fails.1 valid.splits
-valid-no_reason net rows Keeps bids cert DeadLeaf valid fails = fails.2 valid.dead
-valid-no_reason net rows Keeps bids cert Price valid fails = fails.3 valid.prices
-valid-no_reason net rows Keeps bids cert Bound valid fails = fails.4 valid.bound_is
-
 module _ {R : Type 0} (family : FamilyOf R) (Keeps : List Entry → Type 0) (net : Net) (bids : List Bid) (tells : TextTellsCert family.cmp family.texts net (length bids)) (faultless : TextHasNoFault family.cmp family.texts net (length bids))
     (from : 1 ≤ family.texts.version) where
   abbrev pub ValidHere : Cert R → Type 0
@@ -73,7 +61,7 @@ module _ {R : Type 0} (family : FamilyOf R) (Keeps : List Entry → Type 0) (net
       λ i. Yes (r i) (b i)
   verdict-yes bytes cert (No number) text valid found =
       let same : cert ≡ found.cert = tells bytes cert found.cert text found.text in
-      absurd (valid-no_reason net family.rows Keeps bids found.cert found.reason (subst ValidHere same valid) found.fails)
+      absurd (no_reason net family.rows Keeps bids found.cert found.reason found.fails (subst ValidHere same valid))
   verdict-yes bytes cert (Unreadable row number) text valid found = absurd (faultless bytes cert found.fault text found.first)
 
   abbrev text_put : List (List ℕ × List ℕ) → List ℕ

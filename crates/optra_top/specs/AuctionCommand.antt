@@ -10,13 +10,13 @@ use Rattle.optra_tables.specs.Rules.{rules_of}
 use Rattle.optra_tables.specs.declared.Table.TheVariants.{Rules, Actions}
 use Rattle.optra_tables.specs.declared.TableFault.{TableFault}
 use Rattle.optra_tables.specs.declared.TimedAct.{TimedAct}
-use Rattle.optra_top.specs.declared.files.Role.TheVariants as roles
+use Rattle.optra_frame.specs.declared.files.Role.TheVariants as roles
 use Rattle.optra_top.specs.Families.{FamilyOf, OfVersion}
-use Rattle.optra_top.specs.Files.{Contents, File}
+use Rattle.optra_frame.specs.Files.{Contents, File}
 use Rattle.optra_top.specs.Play.{IsPlayedOut}
-use Rattle.optra_top.specs.Replies.{Reply}
-use Rattle.optra_top.specs.TableFiles.{ReplyTo, all_tables, meaning_of, next_table_file, table_content}
-use Rattle.optra_top.specs.declared.versions.Version.{Version}
+use Rattle.optra_frame.specs.Replies.{Reply}
+use Rattle.optra_frame.specs.TableFiles.{TablesReply, all_tables, meaning_of, next_table_file, table_content}
+use Rattle.optra_frame.specs.declared.version.Version.{Version}
 use Rattle.optra_walk.specs.Families.{Entry}
 
 -- ---- its files
@@ -69,4 +69,4 @@ PrintsTablesPlay certs tables status text puts =
 
 -- the reply to the contents of the files
 abbrev pub AuctionReplies : Option (List ℕ) → Contents → Reply → Type 0
-AuctionReplies certs contents reply = ReplyTo (PrintsTablesPlay certs) (auction_of contents) reply
+AuctionReplies certs contents reply = TablesReply (PrintsTablesPlay certs) (auction_of contents) reply

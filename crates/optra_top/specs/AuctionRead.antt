@@ -7,8 +7,8 @@ use Rattle.optra_tables.specs.Outcomes.{Gives}
 use Rattle.optra_tables.specs.declared.ReadError.{ReadError}
 use Rattle.optra_tables.specs.declared.TimedAct.{TimedAct}
 use Rattle.optra_top.specs.AuctionCommand as meaning
-use Rattle.optra_top.specs.Files.{Contents}
-use Rattle.optra_top.specs.TableFiles.{Tables, meaning_of}
+use Rattle.optra_frame.specs.Files.{Contents}
+use Rattle.optra_frame.specs.TableFiles.{Tables, meaning_of}
 use Rattle.optra_top.specs.declared.auction_command.AuctionTables.{AuctionTables}
 
 -- the version, the network, the specifications, the rules and the actions that were read

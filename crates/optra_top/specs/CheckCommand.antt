@@ -18,13 +18,13 @@ use Rattle.optra_tables.specs.Bids.{Parts, parts_of}
 use Rattle.optra_text.specs.VerdictTexts.{verdict_text_of}
 use Rattle.optra_text.specs.declared.verdicts.VerdictView.{VerdictView}
 use Rattle.optra_text.specs.declared.verdicts.VerdictView.TheVariants.{Yes, No, Unreadable}
-use Rattle.optra_top.specs.declared.files.Role.TheVariants.{Certificate}
+use Rattle.optra_frame.specs.declared.files.Role.TheVariants.{Certificate}
 use Rattle.optra_top.specs.Families.{FamilyOf, OfVersion}
-use Rattle.optra_top.specs.Files.{Contents, File, content_of}
+use Rattle.optra_frame.specs.Files.{Contents, File, content_of}
 use Rattle.optra_top.specs.Plans.{KeepsPromise}
-use Rattle.optra_top.specs.Replies.{Reply}
-use Rattle.optra_top.specs.Statuses.{valid_status, denied_status}
-use Rattle.optra_top.specs.TableFiles.{ReplyTo, Tables, all_tables, meaning_of, next_table_file}
+use Rattle.optra_frame.specs.Replies.{Reply}
+use Rattle.optra_frame.specs.Statuses.{valid_status, denied_status}
+use Rattle.optra_frame.specs.TableFiles.{TablesReply, Tables, all_tables, meaning_of, next_table_file}
 use Rattle.optra_walk.specs.Families.{Entry}
 
 -- ---- its files
@@ -125,4 +125,4 @@ PrintsTablesVerdict bytes tables status text puts =
 
 -- the reply to the contents of the files
 abbrev pub CheckReplies : Contents → Reply → Type 0
-CheckReplies contents reply = ReplyTo (PrintsTablesVerdict (certificate_in contents)) (meaning_of contents) reply
+CheckReplies contents reply = TablesReply (PrintsTablesVerdict (certificate_in contents)) (meaning_of contents) reply

@@ -9,8 +9,8 @@ use Rattle.optra_walk.specs.Families.{Entry}
 use Rattle.optra_top.specs.CheckCommand.{PrintsVerdict}
 use Rattle.optra_top.specs.Families.{FamilyOf, OfVersion}
 use Rattle.optra_top.specs.PlanCommand.{PlanAsked, PrintsPlan}
-use Rattle.optra_top.specs.Statuses.{valid_status}
-use Rattle.optra_top.specs.declared.versions.Version.{Version}
+use Rattle.optra_frame.specs.Statuses.{valid_status}
+use Rattle.optra_frame.specs.declared.version.Version.{Version}
 
 -- where a plan of a network and its bids was printed by a family of rows, and the certificate put, the verdict on what was put is
 -- Yes, with the plan's revenue and bound

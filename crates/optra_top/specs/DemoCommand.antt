@@ -20,9 +20,9 @@ use Rattle.optra_walk.specs.Families.{Entry}
 use Rattle.optra_top.specs.Families.{FamilyOf, headway_family}
 use Rattle.optra_top.specs.PlanCommand.{IsStatusOf}
 use Rattle.optra_top.specs.Plans.{IsPlanOf}
-use Rattle.optra_top.specs.Replies.{Reply, refused, answered}
-use Rattle.optra_top.specs.TableFiles.{Tables}
-use Rattle.optra_top.specs.declared.versions.Version.TheVariants.{First}
+use Rattle.optra_frame.specs.Replies.{Reply, refused, answered}
+use Rattle.optra_frame.specs.TableFiles.{Tables}
+use Rattle.optra_frame.specs.declared.version.Version.TheVariants.{First}
 
 -- ---- its tables
 

@@ -22,8 +22,8 @@ use Rattle.optra_cert.specs.Boths.{both_texts}
 use Rattle.optra_cert.specs.Headways.{headway_texts}
 use Rattle.optra_cert.specs.RowTexts.{RowTexts}
 use Rattle.optra_walk.specs.Rules.{KeepsHalts}
-use Rattle.optra_top.specs.declared.versions.Version.{Version}
-use Rattle.optra_top.specs.declared.versions.Version.TheVariants as versions
+use Rattle.optra_frame.specs.declared.version.Version.{Version}
+use Rattle.optra_frame.specs.declared.version.Version.TheVariants as versions
 
 -- a family of rows: their order, what they are, and their texts
 pub record FamilyOf (R : Type 0) : Type 0 where

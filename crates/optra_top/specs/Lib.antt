@@ -1,12 +1,6 @@
 -- What the commands are, what they reply, and how a run ends; and what a plan promises.
-pub mod Statuses
-pub mod Files
-pub mod Puts
-pub mod Replies
 pub mod Plans
-pub mod Versions
 pub mod Families
-pub mod TableFiles
 pub mod PlanCommand
 pub mod CheckCommand
 pub mod Play
@@ -14,13 +8,11 @@ pub mod AuctionCommand
 pub mod DemoCommand
 pub mod PlanLaws
 pub mod CheckLaws
+pub mod OneVerdict
 pub mod PlansAsked
-pub mod TablesRead
 pub mod AuctionRead
 pub mod Playing
 pub mod Commands
-pub mod Gets
-pub mod Outside
-pub mod Ending
-pub mod Faults
 pub mod MadeTables
+pub mod CommandsLawful
+pub mod WordNumbers

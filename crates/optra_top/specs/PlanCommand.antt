@@ -11,11 +11,11 @@ use Rattle.optra_search.specs.Planner.{Planned}
 use Rattle.optra_tables.specs.Bids.{Parts, parts_of}
 use Rattle.optra_text.specs.PlanTexts.{plan_text_of}
 use Rattle.optra_top.specs.Families.{FamilyOf, OfVersion}
-use Rattle.optra_top.specs.Files.{Contents}
+use Rattle.optra_frame.specs.Files.{Contents}
 use Rattle.optra_top.specs.Plans.{IsPlanOf}
-use Rattle.optra_top.specs.Replies.{Reply}
-use Rattle.optra_top.specs.Statuses.{optimal_status, gap_status}
-use Rattle.optra_top.specs.TableFiles.{ReplyTo, Tables, meaning_of}
+use Rattle.optra_frame.specs.Replies.{Reply}
+use Rattle.optra_frame.specs.Statuses.{optimal_status, gap_status}
+use Rattle.optra_frame.specs.TableFiles.{TablesReply, Tables, meaning_of}
 
 -- ---- what is printed
 
@@ -63,4 +63,4 @@ PrintsTablesPlan asks tables status text puts =
 
 -- the reply to the contents of the files
 abbrev pub PlanReplies : PlanAsked → Contents → Reply → Type 0
-PlanReplies asks contents reply = ReplyTo (PrintsTablesPlan asks) (meaning_of contents) reply
+PlanReplies asks contents reply = TablesReply (PrintsTablesPlan asks) (meaning_of contents) reply

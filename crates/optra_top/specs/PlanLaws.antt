@@ -6,8 +6,8 @@ use Rattle.optra_tables.specs.Bids.{parts_of}
 use Rattle.optra_walk.specs.Families.{Entry}
 use Rattle.optra_top.specs.Families.{FamilyOf, OfVersion}
 use Rattle.optra_top.specs.PlanCommand.{PlanAsked, PrintsPlan}
-use Rattle.optra_top.specs.TableFiles.{Tables}
-use Rattle.optra_top.specs.declared.versions.Version.{Version}
+use Rattle.optra_frame.specs.TableFiles.{Tables}
+use Rattle.optra_frame.specs.declared.version.Version.{Version}
 
 -- the tables of these bids, in a version
 abbrev pub tables_of : Version → Net → List Bid → Tables

@@ -15,7 +15,7 @@ use Rattle.optra_cert.specs.CertTexts.{cert_text}
 use Rattle.optra_cert.specs.Certs.{Cert}
 use Rattle.optra_cert.specs.RowTexts.{RowTexts}
 use Rattle.optra_records.specs.Texts.{records_text}
-use Rattle.optra_rounds.specs.Rounds.{acts_after, acts_of, after_acts, awards_of, outcomes, specs_of, values_of}
+use Rattle.optra_rounds.specs.Rounds.{acts_after, acts_of, after_acts, awards_of, outcomes, standing_specs, values_of}
 use Rattle.optra_search.specs.Planner.{Planned}
 use Rattle.optra_tables.specs.Written.{bids_table, parts, stops_table}
 use Rattle.optra_tables.specs.declared.TimedAct.{TimedAct}
@@ -23,7 +23,7 @@ use Rattle.optra_text.specs.RoundTexts.{Round, close_records, round_records}
 use Rattle.optra_top.specs.Families.{FamilyOf}
 use Rattle.optra_top.specs.PlanCommand.{certificate_of}
 use Rattle.optra_top.specs.Plans.{IsPlanOf}
-use Rattle.optra_top.specs.Statuses.{optimal_status, gap_status}
+use Rattle.optra_frame.specs.Statuses.{optimal_status, gap_status}
 
 -- the price steps and the budget of a round's plan
 abbrev pub round_steps : ℕ
@@ -93,7 +93,7 @@ round_of names actions p = record {
   round = p.before.round;
   outcomes = outcomes p.before (acts_in actions p);
   bids = p.bids;
-  specs = specs_of names (acted actions p).standing;
+  specs = standing_specs names (acted actions p).standing;
   walks = p.plan.choice;
   revenue = p.plan.revenue;
   bound = p.plan.bound;

@@ -21,10 +21,10 @@ use Rattle.optra_top.specs.Families.{FamilyOf}
 use Rattle.optra_top.specs.Play.{Played, Plays, acted, closed_by, files_named, paths_of, play_files, round_budget, round_of, round_steps, rounds_text, rows_late}
 use Rattle.optra_top.specs.PlanCommand.{certificate_of}
 use Rattle.optra_top.specs.Plans.{IsPlanOf}
-use Rattle.optra_top.specs.Puts.{texts_of}
-use Rattle.optra_top.specs.Statuses.{optimal_status, gap_status}
+use Rattle.optra_frame.specs.Puts.{texts_of}
+use Rattle.optra_frame.specs.Statuses.{optimal_status, gap_status}
 use Rattle.optra_top.specs.declared.playing.Playing.{Playing}
-use Rattle.optra_top.specs.declared.replies.Answer.{Answer}
+use Rattle.optra_frame.specs.declared.answer.Answer.{Answer}
 
 -- The actions of the round were taken, with these outcomes, and all else is as it was.
 pub record IsRoundTaken (old : Playing) (told : List (ℕ × Option Refusal)) (new : Playing) : Type 0 where

@@ -1,30 +1,29 @@
 //! The auction command: the files that it gets after the tables of a network and its bids, and what it replies to the contents of
 //! its files.
-ghost use Rattle.std.specs.Prelude.{◌≡◌, ◌+◌, ◌≤◌, length, option_map, Some, All, IfOk, IfErr, IfSome};
+ghost use Rattle.std.specs.Prelude.{◌≡◌, ◌⊎◌, ◌+◌, ◌≤◌, length, option_map, Some, All, IfOk, IfErr, IfSome};
 ghost use Rattle.optra_bid.specs.Specs.{IsPathOn};
 ghost use Rattle.optra_auction.specs.Machine.{AreRules, AreSpecs};
 ghost use Rattle.optra_tables.specs.Actions.{AreActions};
 ghost use Rattle.optra_tables.specs.Networks.{HasHeadwaysAlone};
-ghost use Rattle.optra_tables.specs.Outcomes.{Gives};
-ghost use Rattle.optra_top.specs.declared.files.Role.TheVariants.{Table as table_role};
+ghost use Rattle.optra_tables.specs.Outcomes.{Fails, Gives};
+ghost use Rattle.optra_frame.specs.declared.files.Role.TheVariants.{Table as table_role};
 ghost use Rattle.optra_top.specs.AuctionCommand.{AuctionReplies, auction_of, next_auction_file};
 ghost use Rattle.optra_top.specs.AuctionRead.{GivesCourse, auction_seen};
 ghost use Rattle.optra_top.specs.Families.{OfVersion};
-ghost use Rattle.optra_top.specs.Faults.{EndsReply};
-ghost use Rattle.optra_top.specs.Files.{file_asked, files_got};
+ghost use Rattle.optra_frame.specs.Statuses.{gap_status, optimal_status};
+ghost use Rattle.optra_frame.specs.ContentsGot.{contents_of};
+ghost use Rattle.optra_frame.specs.Files.{file_asked};
 ghost use Rattle.optra_top.specs.Play.{IsPlayedOut};
-ghost use Rattle.optra_top.specs.Puts.{texts_of};
-ghost use Rattle.optra_top.specs.Replies.{reply_of};
+ghost use Rattle.optra_frame.specs.Puts.{texts_of};
+ghost use Rattle.optra_frame.specs.Replies.{reply_of};
 
 use crate::families::{all_rows, all_rows_are_told, headway_rows_are_told};
-use crate::faults::Fault;
-use crate::files::{Asked, Got, Role};
 use crate::playing::play;
-use crate::replies::Answer;
-use crate::table_files::{next_table_file, read_tables, table_content, version_in};
-use crate::versions::{MOST_TABLES, Version};
 use optra_auction::Rules;
 use optra_bid::Bid;
+use optra_frame::{
+    Answer, Asked, FilesGot, MOST_TABLES, Role, Version, next_table_file, read_tables,
+};
 use optra_network::{Network, NoMemory};
 use optra_rows::HeadwayRows;
 use optra_tables::{ReadError, Table, TimedAct, read_actions, read_rules};
@@ -40,17 +39,18 @@ pub fn next_auction_file(
     stops: &str,
     rules: &str,
     actions: &str,
-    got: &[Got],
+    got: &FilesGot,
 ) -> Result<Option<Asked>, AllocError>
     ensures next { IfOk result (λ next. option_map file_asked next
-        ≡ next_auction_file net.now bids.now stops.now rules.now actions.now (files_got got.now)) }
-    ensures few { IfOk result (λ next. IfSome next (λ _. length got.now ≤ MOST_TABLES + 1)) }
+        ≡ next_auction_file net.now bids.now stops.now rules.now actions.now (contents_of got.now)) }
+    ensures few { IfOk result (λ next. IfSome next
+        (λ _. length (contents_of got.now) ≤ MOST_TABLES + 1)) }
 {
-    let tables = version_in(alloc, got)?.table_count();
-    if got.len() == tables {
+    let tables = got.version().table_count();
+    if got.count() == tables {
         return asked(alloc, Table::Rules, rules);
     }
-    if got.len() == tables + 1 {
+    if got.count() == tables + 1 {
         return asked(alloc, Table::Actions, actions);
     }
     next_table_file(alloc, net, bids, stops, got)
@@ -78,11 +78,12 @@ pub struct AuctionTables {
 
 /// Reads the tables, plays the auction with one graph for each path specification, and puts the files of each round where a
 /// prefix is given. It errs exactly where the tables are refused, or by want of memory.
-pub fn reply(alloc: Global, files: &[Got], certs: &Option<PathText>) -> Result<Answer, Fault>
-    ensures ok { IfOk result (λ answer. AuctionReplies certs.now (files_got files.now)
+pub fn reply(alloc: Global, files: &FilesGot, certs: &Option<PathText>) -> Result<Answer, ReadError>
+    ensures ok { IfOk result (λ answer. AuctionReplies certs.now (contents_of files.now)
         (reply_of answer)) }
-    ensures fault { IfErr result (λ fault. EndsReply (λ reply. AuctionReplies certs.now
-        (files_got files.now) reply) fault) }
+    ensures done { IfOk result (λ answer. (answer.status ≡ optimal_status)
+        ⊎ (answer.status ≡ gap_status)) }
+    ensures fault { IfErr result (λ error. Fails error (auction_of (contents_of files.now))) }
 {
     let tables = read_auction(alloc, files)?;
     let AuctionTables {
@@ -95,7 +96,7 @@ pub fn reply(alloc: Global, files: &[Got], certs: &Option<PathText>) -> Result<A
     let answer = play_by(alloc, version, &net, specs, rules, actions, certs);
     drop(net);
     let Ok(answer) = answer else {
-        return Err(Fault::NoMemory);
+        return Err(ReadError::NoMemory);
     };
     Ok(answer)
 }
@@ -141,8 +142,8 @@ fn play_by(
 }
 
 /// The tables that the files mean. It errs by their first fault, or by want of memory.
-fn read_auction(alloc: Global, files: &[Got]) -> Result<AuctionTables, ReadError>
-    ensures read { Gives auction_seen result (auction_of (files_got files.now)) }
+fn read_auction(alloc: Global, files: &FilesGot) -> Result<AuctionTables, ReadError>
+    ensures read { Gives auction_seen result (auction_of (contents_of files.now)) }
     ensures specs { IfOk result (λ tables. AreSpecs tables.specs.items) }
     ensures paths { IfOk result (λ tables. All (λ spec. IsPathOn tables.net spec.path)
         tables.specs.items) }
@@ -168,14 +169,14 @@ fn read_auction(alloc: Global, files: &[Got]) -> Result<AuctionTables, ReadError
 }
 
 /// The rules and the actions that the files mean, where the tables of the network and its bids have no fault.
-fn read_course(alloc: Global, files: &[Got]) -> Result<(Rules, Vec<TimedAct>), ReadError>
-    ensures read { GivesCourse (files_got files.now) result }
+fn read_course(alloc: Global, files: &FilesGot) -> Result<(Rules, Vec<TimedAct>), ReadError>
+    ensures read { GivesCourse (contents_of files.now) result }
     ensures rules { IfOk result (λ course. AreRules course.0) }
     ensures actions { IfOk result (λ course. AreActions course.1.items) }
 {
-    let rules_text = table_content(files, Table::Rules);
+    let rules_text = files.table(Table::Rules);
     let rules = read_rules(alloc, rules_text)?;
-    let actions_text = table_content(files, Table::Actions);
+    let actions_text = files.table(Table::Actions);
     let actions = read_actions(alloc, actions_text)?;
     Ok((rules, actions))
 }

@@ -1,31 +1,33 @@
 //! The check command: the file that it gets after the tables, and what it replies to the contents of its files.
-ghost use Rattle.std.specs.Prelude.{◌≡◌, ◌≤◌, [], length, map, option_map, IfOk, IfErr, IfSome};
+ghost use Rattle.std.specs.Prelude.{◌≡◌, ◌⊎◌, ◌≤◌, [], length, map, option_map, IfOk, IfErr, IfSome};
 ghost use Rattle.optra_bid.specs.Instances.{IsInstance};
 ghost use Rattle.optra_cert.specs.RowTexts.{AreApart};
 ghost use Rattle.optra_checker.specs.Verdicts.{IsVerdict};
 ghost use Rattle.optra_tables.specs.Bids.{parts_of};
 ghost use Rattle.optra_tables.specs.Networks.{HasHeadwaysAlone};
+ghost use Rattle.optra_tables.specs.Outcomes.{Fails};
 ghost use Rattle.optra_top.specs.CheckCommand.{CheckReplies, IsVerdictOn, PrintsTablesVerdict, PrintsVerdict, fault_number, next_check_file, reason_number, verdict_status, view_of};
-ghost use Rattle.optra_top.specs.Faults.{EndsReply};
-ghost use Rattle.optra_top.specs.Files.{file_asked, files_got};
+ghost use Rattle.optra_frame.specs.Statuses.{denied_status, valid_status};
+ghost use Rattle.optra_frame.specs.TableFiles.{meaning_of};
+ghost use Rattle.optra_frame.specs.ContentsGot.{contents_of};
+ghost use Rattle.optra_frame.specs.Files.{file_asked};
 ghost use Rattle.optra_top.specs.Plans.{TellsConflicts};
-ghost use Rattle.optra_top.specs.Puts.{texts_of};
-ghost use Rattle.optra_top.specs.Replies.{reply_of};
-ghost use Rattle.optra_top.specs.TablesRead.{tables_seen};
+ghost use Rattle.optra_frame.specs.Puts.{texts_of};
+ghost use Rattle.optra_frame.specs.Replies.{reply_of};
+ghost use Rattle.optra_frame.specs.TablesRead.{tables_seen};
 
 use crate::families::{all_rows, all_rows_are_told, headway_rows_are_told};
-use crate::faults::Fault;
-use crate::files::{Asked, Got, Role, content_of};
 use crate::laws::{all_rows_tell_conflicts, headways_tell_conflicts};
-use crate::replies::Answer;
-use crate::statuses;
-use crate::table_files::{Tables, next_table_file, read_tables, version_in};
-use crate::versions::{MOST_TABLES, Version};
 use optra_cert::{CertCode, CertError, RowText, read_certificate};
 use optra_checker::{Reason, Verdict, check};
+use optra_frame::{
+    Answer, Asked, FilesGot, MOST_TABLES, Role, Tables, Version, next_table_file, read_tables,
+    statuses,
+};
 use optra_network::NoMemory;
 use optra_node::bound_holds;
 use optra_rows::HeadwayRows;
+use optra_tables::ReadError;
 use optra_text::{VerdictView, verdict_text};
 use optra_walk::Instance;
 use std::alloc::{AllocError, Global};
@@ -38,13 +40,14 @@ pub fn next_check_file(
     bids: &str,
     stops: &str,
     cert: &str,
-    got: &[Got],
+    got: &FilesGot,
 ) -> Result<Option<Asked>, AllocError>
     ensures next { IfOk result (λ next. option_map file_asked next
-        ≡ next_check_file net.now bids.now stops.now cert.now (files_got got.now)) }
-    ensures few { IfOk result (λ next. IfSome next (λ _. length got.now ≤ MOST_TABLES)) }
+        ≡ next_check_file net.now bids.now stops.now cert.now (contents_of got.now)) }
+    ensures few { IfOk result (λ next. IfSome next
+        (λ _. length (contents_of got.now) ≤ MOST_TABLES)) }
 {
-    if got.len() == version_in(alloc, got)?.table_count() {
+    if got.count() == got.version().table_count() {
         let name = String::from_str(alloc, cert)?;
         let role = Role::Certificate;
         return Ok(Some(Asked { role, name }));
@@ -54,16 +57,17 @@ pub fn next_check_file(
 
 /// Reads the tables and the certificate, and checks it. It errs exactly where the tables are refused, or by want of
 /// memory: a certificate that can't be read or isn't valid is answered.
-pub fn reply(alloc: Global, files: &[Got]) -> Result<Answer, Fault>
-    ensures ok { IfOk result (λ answer. CheckReplies (files_got files.now) (reply_of answer)) }
-    ensures fault { IfErr result (λ fault. EndsReply (λ reply. CheckReplies (files_got files.now)
-        reply) fault) }
+pub fn reply(alloc: Global, files: &FilesGot) -> Result<Answer, ReadError>
+    ensures ok { IfOk result (λ answer. CheckReplies (contents_of files.now) (reply_of answer)) }
+    ensures done { IfOk result (λ answer. (answer.status ≡ valid_status)
+        ⊎ (answer.status ≡ denied_status)) }
+    ensures fault { IfErr result (λ error. Fails error (meaning_of (contents_of files.now))) }
 {
     let tables = read_tables(alloc, files)?;
-    let answer = answer_to(alloc, &tables, content_of(files, Role::Certificate));
+    let answer = answer_to(alloc, &tables, files.content(Role::Certificate));
     drop(tables);
     let Ok(answer) = answer else {
-        return Err(Fault::NoMemory);
+        return Err(ReadError::NoMemory);
     };
     Ok(answer)
 }

@@ -1,27 +1,24 @@
 //! The demo command: tables that are drawn from a seed and a size, their plan, and the check of its certificate.
-ghost use Rattle.std.specs.Prelude.{◌≡◌, ◌≤◌, IfOk, IfErr};
+ghost use Rattle.std.specs.Prelude.{◌≡◌, ◌⊎◌, ◌≤◌, IfOk, IfErr};
 ghost use Rattle.optra_bid.specs.Instances.{IsInstance};
 ghost use Rattle.optra_tables.specs.Networks.{HasHeadwaysAlone, HasItsVersion, network_of};
 ghost use Rattle.optra_tables.specs.Outcomes.{Gives};
 ghost use Rattle.optra_top.specs.DemoCommand.{DemoReplies, PrintsHeadwayDemo, demo_meaning};
-ghost use Rattle.optra_top.specs.Faults.{EndsReply};
+ghost use Rattle.optra_frame.specs.Statuses.{gap_status, optimal_status};
 ghost use Rattle.optra_top.specs.PlanLaws.{tables_of};
-ghost use Rattle.optra_top.specs.Puts.{texts_of};
-ghost use Rattle.optra_top.specs.Replies.{reply_of};
+ghost use Rattle.optra_frame.specs.Puts.{texts_of};
+ghost use Rattle.optra_frame.specs.Replies.{reply_of};
 ghost use Rattle.optra_top.specs.MadeTables.{made_net_files};
-ghost use Rattle.optra_top.specs.TablesRead.{tables_seen};
+ghost use Rattle.optra_frame.specs.TablesRead.{tables_seen};
 
 use crate::check_command::verdict_on;
 use crate::families::headway_rows_are_told;
-use crate::faults::Fault;
 use crate::laws::headways_tell_conflicts;
 use crate::plan_command::{certificate_of, status};
 use crate::plans::plan_by;
-use crate::replies::Answer;
-use crate::table_files::Tables;
-use crate::versions::Version;
 use optra_cert::{text_has_no_fault, text_tells_cert, valid_is_writable, write_certificate};
 use optra_demo::{DemoTables, make};
+use optra_frame::{Answer, Tables, Version};
 use optra_network::{Network, NoMemory};
 use optra_rows::HeadwayRows;
 use optra_search::Limits;
@@ -37,14 +34,16 @@ const BUDGET: u64 = 5;
 
 /// Makes the tables, reads them, plans, and checks the plan's certificate as it is written. It errs by want of memory alone:
 /// the tables by the rule are accepted.
-pub fn reply(alloc: Global, seed: u32, size: u8) -> Result<Answer, Fault>
+pub fn reply(alloc: Global, seed: u32, size: u8) -> Result<Answer, ReadError>
     requires least { 1 ≤ size }
     requires most { size ≤ 9 }
     ensures ok { IfOk result (λ answer. DemoReplies seed size (reply_of answer)) }
-    ensures fault { IfErr result (λ fault. EndsReply (λ reply. DemoReplies seed size reply) fault) }
+    ensures done { IfOk result (λ answer. (answer.status ≡ optimal_status)
+        ⊎ (answer.status ≡ gap_status)) }
+    ensures fault { IfErr result (λ error. error ≡ ReadError.NoMemory) }
 {
     let Ok(tables) = read_demo(alloc, seed, size) else {
-        return Err(Fault::NoMemory);
+        return Err(ReadError::NoMemory);
     };
     tables.net.laws();
     let inst = Instance {
@@ -54,7 +53,7 @@ pub fn reply(alloc: Global, seed: u32, size: u8) -> Result<Answer, Fault>
     let answer = answer(alloc, seed, size, inst);
     drop(tables);
     let Ok(answer) = answer else {
-        return Err(Fault::NoMemory);
+        return Err(ReadError::NoMemory);
     };
     Ok(answer)
 }

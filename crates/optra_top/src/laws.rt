@@ -1,15 +1,17 @@
 //! Laws of the printed plan and of the verdict on it, each as the contract of a call that does nothing else.
-ghost use Rattle.std.specs.Prelude.{◌≤◌, length};
+ghost use Rattle.std.specs.Prelude.{◌≤◌};
 ghost use Rattle.optra_rows.specs.Headways.{KeepsHeadwayRule};
 ghost use Rattle.optra_top.specs.CheckLaws.{ConfirmsPlan};
 ghost use Rattle.optra_tables.specs.Networks.{HasHeadwaysAlone};
 ghost use Rattle.optra_top.specs.DemoCommand.{IsAcceptedDemo};
 ghost use Rattle.optra_top.specs.Families.{KeepsAllRules};
+ghost use Rattle.optra_top.specs.OneVerdict.{OneVerdict};
 ghost use Rattle.optra_top.specs.PlanLaws.{OneText};
 ghost use Rattle.optra_top.specs.Plans.{HasPairs, TellsConflicts};
 
 use crate::families::{all_rows, all_rows_are_told, headway_rows_are_told};
-use optra_cert::{text_has_no_fault, text_tells_cert};
+use optra_cert::{first_fault_is_one, text_has_no_fault, text_tells_cert};
+use optra_checker::verdict_is_one;
 use optra_rows::HeadwayRows;
 use optra_search::plan_laws;
 use optra_walk::Instance;
@@ -50,7 +52,6 @@ pub fn one_text(inst: Instance<'_>)
 /// A law, and no work: what the plan command puts as its certificate, the check command answers Yes of, with the printed
 /// revenue and bound.
 pub fn check_confirms_plan(inst: Instance<'_>)
-    requires { length inst.bids.now ≤ 1000 }
     ensures { ConfirmsPlan inst.entry.net.now inst.entry.bids.now }
 {
     headway_rows_are_told(inst.net);
@@ -59,6 +60,23 @@ pub fn check_confirms_plan(inst: Instance<'_>)
     all_rows_are_told(inst.net);
     text_tells_cert(inst, &all_rows());
     text_has_no_fault(inst, &all_rows());
+}
+
+/// A law, and no work: what the check command prints of bytes, and its status, are a function of the bytes and of the
+/// instance.
+pub fn one_verdict(inst: Instance<'_>)
+    ensures { OneVerdict inst.entry.net.now inst.entry.bids.now }
+{
+    headway_rows_are_told(inst.net);
+    text_tells_cert(inst, &HeadwayRows::new());
+    text_has_no_fault(inst, &HeadwayRows::new());
+    first_fault_is_one(inst, &HeadwayRows::new());
+    verdict_is_one(inst, &HeadwayRows::new());
+    all_rows_are_told(inst.net);
+    text_tells_cert(inst, &all_rows());
+    text_has_no_fault(inst, &all_rows());
+    first_fault_is_one(inst, &all_rows());
+    verdict_is_one(inst, &all_rows());
 }
 
 /// A law, and no work: the tables by the rule of a demo are accepted, for every seed and every size.

@@ -1,5 +1,5 @@
 //! The plan command: what it replies to the contents of its files.
-ghost use Rattle.std.specs.Prelude.{◌≡◌, ◌≤◌, [], length, map, IfOk, IfErr};
+ghost use Rattle.std.specs.Prelude.{◌≡◌, ◌⊎◌, ◌≤◌, [], length, map, IfOk, IfErr};
 ghost use Rattle.std.specs.Prelude.{◌≤ℤ◌};
 ghost use Rattle.optra_bid.specs.Instances.{IsInstance};
 ghost use Rattle.optra_cert.specs.Certs.{IsWritable};
@@ -7,28 +7,26 @@ ghost use Rattle.optra_cert.specs.RowTexts.{AreApart};
 ghost use Rattle.optra_cert.specs.Writables.{AreFew};
 ghost use Rattle.optra_tables.specs.Bids.{parts_of};
 ghost use Rattle.optra_tables.specs.Networks.{HasHeadwaysAlone};
-ghost use Rattle.optra_top.specs.Faults.{EndsReply};
-ghost use Rattle.optra_top.specs.Files.{files_got};
+ghost use Rattle.optra_tables.specs.Outcomes.{Fails};
+ghost use Rattle.optra_frame.specs.Statuses.{gap_status, optimal_status};
+ghost use Rattle.optra_frame.specs.TableFiles.{meaning_of};
+ghost use Rattle.optra_frame.specs.ContentsGot.{contents_of};
 ghost use Rattle.optra_top.specs.PlanCommand.{IsStatusOf, PlanReplies, PrintsPlan, PrintsTablesPlan, certificate_of, certificate_puts};
 ghost use Rattle.optra_top.specs.Plans.{TellsConflicts};
 ghost use Rattle.optra_top.specs.PlansAsked.{plan_asked};
-ghost use Rattle.optra_top.specs.Puts.{texts_of};
-ghost use Rattle.optra_top.specs.Replies.{reply_of};
-ghost use Rattle.optra_top.specs.TablesRead.{tables_seen};
+ghost use Rattle.optra_frame.specs.Puts.{texts_of};
+ghost use Rattle.optra_frame.specs.Replies.{reply_of};
+ghost use Rattle.optra_frame.specs.TablesRead.{tables_seen};
 
 use crate::families::{all_rows, all_rows_are_told, headway_rows_are_told};
-use crate::faults::Fault;
-use crate::files::{FileText, Got};
 use crate::laws::{all_rows_tell_conflicts, headways_tell_conflicts};
 use crate::plans::plan_by;
-use crate::replies::Answer;
-use crate::statuses;
-use crate::table_files::{Tables, read_tables};
-use crate::versions::Version;
 use optra_cert::{Certificate, RowText, valid_is_writable, write_certificate};
+use optra_frame::{Answer, FileText, FilesGot, Tables, Version, read_tables, statuses};
 use optra_network::{Cents, NoMemory};
 use optra_rows::HeadwayRows;
 use optra_search::{Limits, Plan};
+use optra_tables::ReadError;
 use optra_text::{PathText, PlanView, plan_text};
 use optra_walk::Instance;
 use std::alloc::Global;
@@ -37,22 +35,22 @@ use std::alloc::Global;
 /// the tables are refused, or by want of memory.
 pub fn reply(
     alloc: Global,
-    files: &[Got],
+    files: &FilesGot,
     limits: Limits,
     cert: &Option<PathText>,
-) -> Result<Answer, Fault>
+) -> Result<Answer, ReadError>
     requires { 1 ≤ limits.budget }
     ensures ok { IfOk result (λ answer. PlanReplies (plan_asked limits cert.now)
-        (files_got files.now) (reply_of answer)) }
-    ensures fault { IfErr result
-        (λ fault. EndsReply (λ reply. PlanReplies (plan_asked limits cert.now) (files_got files.now)
-        reply) fault) }
+        (contents_of files.now) (reply_of answer)) }
+    ensures done { IfOk result (λ answer. (answer.status ≡ optimal_status)
+        ⊎ (answer.status ≡ gap_status)) }
+    ensures fault { IfErr result (λ error. Fails error (meaning_of (contents_of files.now))) }
 {
     let tables = read_tables(alloc, files)?;
     let answer = reply_to(alloc, &tables, limits, cert);
     drop(tables);
     let Ok(answer) = answer else {
-        return Err(Fault::NoMemory);
+        return Err(ReadError::NoMemory);
     };
     Ok(answer)
 }

@@ -10,25 +10,23 @@ ghost use Rattle.optra_cert.specs.Certs.{IsWritable};
 ghost use Rattle.optra_cert.specs.RowTexts.{AreApart};
 ghost use Rattle.optra_cert.specs.Writables.{AreFew};
 ghost use Rattle.optra_records.specs.Texts.{records_text};
-ghost use Rattle.optra_rounds.specs.Rounds.{specs_of};
+ghost use Rattle.optra_rounds.specs.Rounds.{standing_specs};
 ghost use Rattle.optra_tables.specs.Actions.{AreActions};
 ghost use Rattle.optra_text.specs.RoundTexts.{round_records};
 ghost use Rattle.optra_top.specs.Play.{IsPlayedOut, files_named, round_budget, round_steps};
 ghost use Rattle.optra_top.specs.Plans.{IsPlanOf, TellsConflicts};
 ghost use Rattle.optra_top.specs.Playing.{IsBegun, IsFinished, IsRoundClosed, IsRoundPlayed, IsRoundTaken, IsShut, files_where, play_status};
-ghost use Rattle.optra_top.specs.Puts.{texts_of};
+ghost use Rattle.optra_frame.specs.Puts.{texts_of};
 
-use crate::files::FileText;
 use crate::plan_command::certificate_of;
 use crate::plans::plan_over;
-use crate::replies::Answer;
-use crate::statuses;
 use optra_auction::{Auction, Refusal, Rules};
 use optra_bid::{Bid, Name};
 use optra_cert::{Certificate, RowText, valid_is_writable, write_certificate};
+use optra_frame::{Answer, FileText, statuses};
 use optra_network::{Network, NoMemory};
 use optra_reuse::GraphStore;
-use optra_rounds::{close_of, names_of, spec_names, take_actions, values_of};
+use optra_rounds::{close_of, spec_names, standing_specs, take_actions, values_of};
 use optra_search::{Limits, Plan};
 use optra_tables::{TimedAct, bids_text, stops_text};
 use optra_text::{PathText, PlanView, RoundView, round_text};
@@ -70,9 +68,9 @@ fn print_round(
     requires choice { IsChoice plan.inst.net.now plan.inst.bids.now plan.choice.now }
     ensures { IfOk result (λ text. text.items ≡ records_text (round_records plan.entry.inst.net.now
         (record
-        { round = auction.now.round; outcomes = outcomes.now; bids = plan.entry.inst.bids.now; specs = specs_of names.now auction.now.standing; walks = plan.entry.choice.now; revenue = plan.entry.revenue; bound = plan.entry.bound; nodes = plan.entry.nodes; graphs = graphs }))) }
+        { round = auction.now.round; outcomes = outcomes.now; bids = plan.entry.inst.bids.now; specs = standing_specs names.now auction.now.standing; walks = plan.entry.choice.now; revenue = plan.entry.revenue; bound = plan.entry.bound; nodes = plan.entry.nodes; graphs = graphs }))) }
 {
-    let specs = spec_names(alloc, auction, names)?;
+    let specs = standing_specs(alloc, auction, names)?;
     let view = RoundView {
         round: auction.round(),
         outcomes,
@@ -284,7 +282,7 @@ pub fn play<F: RowText>(
         (F.KeepsRule rows.now net.now) net.now certs.now specs.items rules actions.items
         answer.status answer.text.items (texts_of answer.puts.items)) }
 {
-    let names = names_of(alloc, &specs)?;
+    let names = spec_names(alloc, &specs)?;
     let mut playing = begin(alloc, net, specs, rules, actions)?;
     let answer = play_out(alloc, net, rows, &names, certs, &mut playing);
     drop(playing);

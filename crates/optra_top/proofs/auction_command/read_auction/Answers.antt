@@ -1,15 +1,15 @@
 -- The first fault of the network and its bids, or else of the rules, or else of the actions, is that of the tables.
 use Rattle.optra_top.specs.AuctionCommand.{auction_of}
 use Rattle.optra_top.specs.AuctionRead.{auction_seen}
-use Rattle.optra_top.specs.Files.{files_got}
-use Rattle.optra_top.specs.TablesRead.{tables_seen}
+use Rattle.optra_frame.specs.ContentsGot.{contents_of}
+use Rattle.optra_frame.specs.TablesRead.{tables_seen}
 use Rattle.optra_top.proofs.AuctionTables.{Fails-tables}
-use Rattle.optra_top.proofs.RefusalLemmas.{Gives-kept}
+use Rattle.optra_frame.proofs.RefusalLemmas.{Gives-kept}
 use Rattle.optra_top.proofs.auction_command.read_auction.Goals as goal
 
 pub returns-in_err-tables-clause-read : goal.returns-in_err-tables-clause-read
 returns-in_err-tables-clause-read c =
-    let contents = files_got c.args.files.now in
+    let contents = contents_of c.args.files.now in
     Gives-kept auction_seen c.from_residual.result c.in_err-tables.field-0.0 (auction_of contents) c.from_residual.ensures.1 (Fails-tables contents c.in_err-tables.field-0.0 c.in_err-tables.ensures.read)
 
 pub returns-in-Err-clause-read : goal.returns-in-Err-clause-read

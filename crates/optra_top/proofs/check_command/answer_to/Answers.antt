@@ -3,7 +3,7 @@ use Rattle.std.proofs.Common.{map}
 use Rattle.std.proofs.lemmas.Result.{IfOk-weaker}
 use Rattle.optra_tables.specs.Bids.{parts_of}
 use Rattle.optra_top.specs.CheckCommand.{PrintsVerdict}
-use Rattle.optra_top.specs.Puts.{texts_of}
+use Rattle.optra_frame.specs.Puts.{texts_of}
 use Rattle.optra_top.proofs.FamilyLemmas.{of_first, of_second}
 use Rattle.optra_top.proofs.check_command.answer_to.Goals as goal
 

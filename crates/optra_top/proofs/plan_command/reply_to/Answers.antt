@@ -4,7 +4,7 @@ use Rattle.std.proofs.lemmas.Result.{IfOk-weaker}
 use Rattle.optra_tables.specs.Bids.{parts_of}
 use Rattle.optra_top.specs.PlanCommand.{PrintsPlan}
 use Rattle.optra_top.specs.PlansAsked.{plan_asked}
-use Rattle.optra_top.specs.Puts.{texts_of}
+use Rattle.optra_frame.specs.Puts.{texts_of}
 use Rattle.optra_top.proofs.FamilyLemmas.{of_second}
 use Rattle.optra_top.proofs.plan_command.reply_to.Goals as goal
 

@@ -6,7 +6,7 @@ use Rattle.optra_auction.specs.declared.Rules.{Rules}
 use Rattle.optra_bid.specs.Specs.{IsPathOn}
 use Rattle.optra_bid.specs.declared.bids.Bid.{Bid}
 use Rattle.optra_tables.specs.Actions.{AreActions}
-use Rattle.optra_top.specs.Puts.{texts_of}
+use Rattle.optra_frame.specs.Puts.{texts_of}
 use Rattle.optra_top.proofs.RoundLemmas.{begun-own, begun-played, begun-rules, begun-specs}
 use Rattle.optra_top.proofs.playing.play.Goals as goal
 

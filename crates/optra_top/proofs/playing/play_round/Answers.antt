@@ -10,12 +10,12 @@ use Rattle.optra_bid.specs.declared.bids.Bid.{Bid}
 use Rattle.optra_auction.specs.Machine.{ArePlanned, State, after_round, spec_names}
 use Rattle.optra_cert.specs.Writables.{AreFew}
 use Rattle.optra_records.specs.Texts.{records_text}
-use Rattle.optra_rounds.specs.Rounds.{acts_of, specs_of, values_of}
+use Rattle.optra_rounds.specs.Rounds.{acts_of, standing_specs, values_of}
 use Rattle.optra_tables.specs.declared.TimedAct.{TimedAct}
 use Rattle.optra_text.specs.RoundTexts.{round_records}
 use Rattle.optra_top.specs.PlanCommand.{certificate_of}
 use Rattle.optra_top.specs.Playing.{files_where, gap_after}
-use Rattle.optra_top.specs.Puts.{texts_of}
+use Rattle.optra_frame.specs.Puts.{texts_of}
 use Rattle.optra_top.proofs.PlayLemmas.{closed-after, instance-after, round-after, specs-after}
 use Rattle.optra_top.proofs.playing.play_round.Goals as goal
 
@@ -63,7 +63,7 @@ returns g c =
       round = c.take_round.new.playing.auction.round;
       outcomes = c.deref-2.result.now;
       bids = c.new-inst.result.bids.now;
-      specs = specs_of names c.take_round.new.playing.auction.standing;
+      specs = standing_specs names c.take_round.new.playing.auction.standing;
       walks = plan.choice;
       revenue = plan.revenue;
       bound = plan.bound;
@@ -89,7 +89,7 @@ returns g c =
             round = round_is j;
             outcomes = told j;
             bids = bids_are j;
-            specs = specs_of names (taken.auction_is j).standing;
+            specs = standing_specs names (taken.auction_is j).standing;
             walks = plan.choice;
             revenue = plan.revenue;
             bound = plan.bound;
