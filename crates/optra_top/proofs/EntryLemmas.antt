@@ -1,5 +1,5 @@
 -- What a run's clauses say of the words, by what was read of them.
-use Rattle.std.proofs.Common.{◌≡◌, ◌⊎◌, ◌≤◌, lit≤, ℕ, List, Option, None, Some, String, map, string_bytes, inl, inr, refl, sym, subst}
+use Rattle.std.proofs.Common.{◌≡◌, ◌⊎◌, ◌≤◌, lit≤, ℕ, List, Option, Some, String, map, string_bytes, inl, inr, refl, sym, subst}
 use Rattle.std.specs.declared.alloc.Global.{Global}
 use Rattle.optra_outside.specs.Shelf.{GetLeaves}
 use Rattle.optra_text.specs.Words.{HasBudget, IsUsage, words_of}

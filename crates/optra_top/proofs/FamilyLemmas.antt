@@ -13,7 +13,8 @@ use Rattle.optra_platform.specs.declared.PRow.{PRow}
 use Rattle.optra_network.specs.Net.{Net}
 use Rattle.optra_walk.specs.Families.{Entry}
 use Rattle.optra_rows.specs.Headways.{KeepsHeadwayRule}
-use Rattle.optra_top.specs.Families.{AnyRow, FamilyOf, KeepsAllRules, OfVersion, all_family, any_cmp, headway_family}
+use Rattle.optra_top.specs.Families.{AnyRow, KeepsAllRules, OfVersion, all_family, any_cmp, headway_family}
+use Rattle.optra_play.specs.FamilyOf.{FamilyOf}
 use Rattle.optra_frame.specs.declared.version.Version.{Version}
 use Rattle.optra_frame.specs.declared.version.Version.TheVariants as versions
 

@@ -1,22 +1,19 @@
--- Lemmas on what the files of a command mean, on the plan, on the verdict and on the play.
+-- Lemmas on what the files of a command mean, on the rules of rows, on the verdict and on demos.
 mod EntryLemmas
 mod StatusLemmas
 mod FamilyLemmas
-mod PlanLemmas
+mod RuleLemmas
 mod DecidedFacts
 mod FiniteLists
 mod PairLemmas
-mod BidLemmas
 mod TextLemmas
 mod VerdictLemmas
 mod OneVerdictLemmas
-pub mod AmountLemmas
 mod NetsWritten
 mod DemoNames
 mod DemoNets
 mod DemoBids
 mod DemoMeans
 mod DemoLemmas
-mod PlayLemmas
-mod RoundLemmas
 mod AuctionTables
+mod AuctionLemmas

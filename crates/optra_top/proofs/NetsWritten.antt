@@ -1,5 +1,5 @@
 -- A network that is written as tables is read again as the same network.
-use Rattle.std.proofs.Common.{◌≡◌, ◌≢◌, ◌+◌, ◌^◌, ◌<◌, ◌≤◌, ◌++◌, ℕ, suc, Bool, true, false, not, List, [], ◌∷◌, length, map, get_or, take, drop, None, Some, Ok, Err, is_ok, bytes_eq, ◌&&◌, cond, refl, sym, ap, ◌∙◌, subst, inl, inr, arith, nat_le, nat_eq}
+use Rattle.std.proofs.Common.{◌≡◌, ◌≢◌, ◌+◌, ◌^◌, ◌<◌, ◌≤◌, ◌++◌, ℕ, suc, Bool, true, false, not, List, [], ◌∷◌, length, map, get_or, take, drop, None, Some, Ok, Err, is_ok, bytes_eq, ◌&&◌, refl, sym, ap, ◌∙◌, subst, inl, inr, arith, nat_le, nat_eq}
 use Rattle.std.specs.Prelude.{IsTrue, All, codes, if◌then◌else◌}
 use Rattle.optra_tables.specs.Outcomes.{fault}
 use Rattle.optra_tables.specs.declared.Kind.TheVariants as kinds

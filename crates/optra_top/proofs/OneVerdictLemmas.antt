@@ -15,10 +15,11 @@ use Rattle.optra_text.specs.declared.verdicts.VerdictView.{VerdictView}
 use Rattle.optra_text.specs.declared.verdicts.VerdictView.TheVariants.{Yes, No, Unreadable}
 use Rattle.optra_walk.specs.Families.{Entry}
 use Rattle.optra_top.specs.CheckCommand.{IsVerdictOn, fault_number, verdict_status, view_of}
-use Rattle.optra_top.specs.Families.{FamilyOf, KeepsAllRules, all_family, headway_family}
+use Rattle.optra_top.specs.Families.{KeepsAllRules, all_family, headway_family}
+use Rattle.optra_play.specs.FamilyOf.{FamilyOf}
 use Rattle.optra_top.specs.OneVerdict.{HasOneVerdict, OneVerdict}
 use Rattle.optra_frame.specs.declared.version.Version.TheVariants as versions
-use Rattle.optra_top.proofs.BidLemmas.{bids-from_parts}
+use Rattle.optra_play.proofs.BidLemmas.{bids-from_offers}
 
 module _ {R : Type 0} (family : FamilyOf R) (Keeps : List Entry → Type 0) (net : Net) (bids : List Bid)
     (tells : TextTellsCert family.cmp family.texts net (length bids)) (faultless : TextHasNoFault family.cmp family.texts net (length bids))
@@ -52,8 +53,8 @@ module _ {R : Type 0} (family : FamilyOf R) (Keeps : List Entry → Type 0) (net
 
   pub one_verdict : HasOneVerdict family Keeps net bids
   one_verdict bytes status status' text text' puts puts' p q =
-      let here : p.bids ≡ bids = bids-from_parts p.bids bids p.are_those in
-      let there : q.bids ≡ bids = bids-from_parts q.bids bids q.are_those in
+      let here : p.bids ≡ bids = bids-from_offers p.bids bids p.are_those in
+      let there : q.bids ≡ bids = bids-from_offers q.bids bids q.are_those in
       let same : p.verdict ≡ q.verdict = one_found bytes p.verdict q.verdict
       (subst (λ (b : List Bid). IsVerdictOn family Keeps net b bytes p.verdict) here p.finds) (subst (λ (b : List Bid). IsVerdictOn family Keeps net b bytes q.verdict) there q.finds) in (
         p.ends ∙ ap verdict_status same ∙ sym q.ends,

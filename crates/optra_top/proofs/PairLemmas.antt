@@ -23,7 +23,7 @@ use Rattle.optra_walk.proofs.WalkLemmas.{few_legs}
 use Rattle.optra_search.specs.Laws.{IsPair}
 use Rattle.optra_top.proofs.DecidedFacts.{Decided, alike, both, same_number, at_most, same_bool, same_option, is_some, some_and, all_of, all_zip, all_below, all_adjacent}
 use Rattle.optra_top.proofs.FiniteLists.{contains_in, contains-map, contains-flat_map, contains-range, lists, contains-lists, Kept, kept, HasOnly, Gathered, gathered, differing}
-use Rattle.optra_top.specs.Plans.{HasPairs}
+use Rattle.optra_top.specs.PlanLaws.{HasPairs}
 
 -- ---- whether legs are a walk
 

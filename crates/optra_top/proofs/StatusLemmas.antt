@@ -1,11 +1,11 @@
 -- The statuses of commands that did their work.
-use Rattle.std.proofs.Common.{◌≡◌, ◌⊎◌, inl, inr, ℕ, ℤ, List, Option}
+use Rattle.std.proofs.Common.{◌≡◌, ◌⊎◌, inl, inr, ℕ, ℤ, List}
 use Rattle.optra_frame.specs.Statuses.{denied_status, gap_status, optimal_status, valid_status}
 use Rattle.optra_frame.specs.TableFiles.{Tables}
 use Rattle.optra_text.specs.declared.verdicts.VerdictView.{VerdictView}
 use Rattle.optra_text.specs.declared.verdicts.VerdictView.TheVariants.{Yes, No, Unreadable}
 use Rattle.optra_top.specs.CheckCommand.{PrintsTablesVerdict, PrintsVerdict, verdict_status}
-use Rattle.optra_top.specs.Play.{IsPlayStatus, Played}
+use Rattle.optra_play.specs.Play.{IsPlayStatus, Played}
 use Rattle.optra_top.specs.PlanCommand.{IsStatusOf, PlanAsked, PrintsPlan, PrintsTablesPlan}
 use Rattle.optra_top.proofs.FamilyLemmas.{of_version-then}
 

@@ -6,14 +6,16 @@ use Rattle.optra_bid.specs.declared.bids.Bid.{Bid}
 use Rattle.optra_text.specs.PlanTexts.{plan_text_of}
 use Rattle.optra_search.specs.Planner.{Planned, IsPlainPlan}
 use Rattle.optra_search.specs.Laws.{OnePlan}
-use Rattle.optra_top.specs.PlanCommand.{PlanAsked, PrintsPlan, IsStatusOf, certificate_of, certificate_puts}
+use Rattle.optra_top.specs.PlanCommand.{PlanAsked, PrintsPlan, IsStatusOf, certificate_puts}
+use Rattle.optra_play.specs.Certificates.{certificate_of}
 use Rattle.optra_top.specs.PlanLaws.{HasOneText, OneText}
-use Rattle.optra_top.specs.Families.{FamilyOf, KeepsAllRules, all_family, headway_family}
+use Rattle.optra_top.specs.Families.{KeepsAllRules, all_family, headway_family}
+use Rattle.optra_play.specs.FamilyOf.{FamilyOf}
 use Rattle.optra_rows.specs.Headways.{KeepsHeadwayRule}
 use Rattle.optra_frame.specs.declared.version.Version.TheVariants as versions
 use Rattle.optra_tables.specs.Bids.{parts_of}
 use Rattle.optra_walk.specs.Families.{Entry}
-use Rattle.optra_top.proofs.BidLemmas.{bids-from_parts}
+use Rattle.optra_play.proofs.BidLemmas.{bids-from_offers}
 
 -- a plan has one status
 one_status : (revenue bound : ℤ) (a b : ℕ) → IsStatusOf revenue bound a → IsStatusOf revenue bound b → a ≡ b
@@ -36,10 +38,10 @@ module _ {R : Type 0} (family : FamilyOf R) (Keeps : List Entry → Type 0) (net
 
   prints : (asks : PlanAsked) (status : ℕ) (text : List ℕ) (puts : List (List ℕ × List ℕ)) → PrintsPlan family Keeps asks net (map parts_of bids) status text puts → Prints asks status text puts
   prints asks status text puts p =
-      let same : p.bids ≡ bids = bids-from_parts p.bids bids p.are_those in
+      let same : p.bids ≡ bids = bids-from_offers p.bids bids p.are_those in
       record {
         plan = p.plan;
-        is = subst (λ (b : List Bid). IsPlainPlan family.cmp net family.rows b asks.steps asks.budget p.plan) same p.is_plan.by_search;
+        is = subst (λ (b : List Bid). IsPlainPlan family.cmp net family.rows b asks.steps asks.budget p.plan) same p.is_plan.plan_is.by_search;
         printed = p.printed ∙ ap (λ (b : List Bid). plan_text_of net b p.plan.choice p.plan.revenue p.plan.bound p.plan.nodes) same;
         ends = p.ends;
         put = p.put;

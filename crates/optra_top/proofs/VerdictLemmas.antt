@@ -17,13 +17,15 @@ use Rattle.optra_checker.proofs.VerdictLemmas.{no_reason}
 use Rattle.optra_walk.specs.Families.{Entry}
 use Rattle.optra_top.specs.CheckCommand.{IsVerdictOn, verdict_status, view_of}
 use Rattle.optra_top.specs.CheckLaws.{ConfirmsBy, ConfirmsPlan}
-use Rattle.optra_top.specs.Families.{FamilyOf, KeepsAllRules, all_family, headway_family}
+use Rattle.optra_top.specs.Families.{KeepsAllRules, all_family, headway_family}
+use Rattle.optra_play.specs.FamilyOf.{FamilyOf}
 use Rattle.optra_rows.specs.Headways.{KeepsHeadwayRule}
 use Rattle.optra_frame.specs.declared.version.Version.TheVariants as versions
-use Rattle.optra_top.specs.PlanCommand.{certificate_of, certificate_puts}
-use Rattle.optra_top.specs.Plans.{KeepsPromise, TellsConflicts}
-use Rattle.optra_top.proofs.PlanLemmas.{promise-from_valid}
-use Rattle.optra_top.proofs.BidLemmas.{bids-from_parts}
+use Rattle.optra_top.specs.PlanCommand.{certificate_puts}
+use Rattle.optra_play.specs.Certificates.{certificate_of}
+use Rattle.optra_play.specs.Plans.{KeepsPromise, TellsConflicts}
+use Rattle.optra_play.proofs.PlanLemmas.{promise-from_valid}
+use Rattle.optra_play.proofs.BidLemmas.{bids-from_offers}
 
 -- what the check of a certificate says, as it is printed, is the verdict on its text
 pub verdict-told : {R : Type 0} (family : FamilyOf R) (net : Net) (Keeps : List Entry → Type 0) (bids : List Bid) → TellsConflicts net bids Keeps → BoundHolds net family.rows Keeps bids
@@ -76,8 +78,8 @@ module _ {R : Type 0} (family : FamilyOf R) (Keeps : List Entry → Type 0) (net
   pub confirms : ConfirmsBy family Keeps net bids
   confirms asks name bytes status status' text text' puts p v =
       let cert = certificate_of p.plan in
-      let planned : p.bids ≡ bids = bids-from_parts p.bids bids p.are_those in
-      let checked : v.bids ≡ bids = bids-from_parts v.bids bids v.are_those in
+      let planned : p.bids ≡ bids = bids-from_offers p.bids bids p.are_those in
+      let checked : v.bids ≡ bids = bids-from_offers v.bids bids v.are_those in
       let is_text : IsTextOf family.cmp family.texts net (length bids) bytes cert = record {
         version = family.texts.version;
         least = from;
@@ -85,7 +87,7 @@ module _ {R : Type 0} (family : FamilyOf R) (Keeps : List Entry → Type 0) (net
         writable = subst (λ (b : List Bid). IsWritable family.cmp family.texts net (length b) family.texts.version cert) planned p.writable;
         text = put-text asks.cert name bytes cert p.put;
       } in
-      let valid : ValidHere cert = subst (λ (b : List Bid). IsValid net family.rows Keeps b cert.revenue cert.bound cert.choice cert.tree) planned p.is_plan.certified.valid in
+      let valid : ValidHere cert = subst (λ (b : List Bid). IsValid net family.rows Keeps b cert.revenue cert.bound cert.choice cert.tree) planned p.is_plan.plan_is.certified.valid in
       let found = subst (λ (b : List Bid). IsVerdictOn family Keeps net b bytes v.verdict) checked v.finds in
       let yes = verdict-yes bytes cert v.verdict is_text valid found in (
         v.ends ∙ ap verdict_status yes,

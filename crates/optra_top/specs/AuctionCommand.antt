@@ -11,9 +11,10 @@ use Rattle.optra_tables.specs.declared.Table.TheVariants.{Rules, Actions}
 use Rattle.optra_tables.specs.declared.TableFault.{TableFault}
 use Rattle.optra_tables.specs.declared.TimedAct.{TimedAct}
 use Rattle.optra_frame.specs.declared.files.Role.TheVariants as roles
-use Rattle.optra_top.specs.Families.{FamilyOf, OfVersion}
+use Rattle.optra_top.specs.Families.{OfVersion}
+use Rattle.optra_play.specs.FamilyOf.{FamilyOf}
 use Rattle.optra_frame.specs.Files.{Contents, File}
-use Rattle.optra_top.specs.Play.{IsPlayedOut}
+use Rattle.optra_play.specs.Play.{IsPlayedOut}
 use Rattle.optra_frame.specs.Replies.{Reply}
 use Rattle.optra_frame.specs.TableFiles.{TablesReply, all_tables, meaning_of, next_table_file, table_content}
 use Rattle.optra_frame.specs.declared.version.Version.{Version}

@@ -1,5 +1,5 @@
 -- The tables of an auction, as they were read.
-use Rattle.std.specs.Prelude.{◌≡◌, List, map, Result, Ok, Vec}
+use Rattle.std.specs.Prelude.{◌≡◌, map, Result, Ok, Vec}
 use Rattle.std.specs.declared.alloc.Global.{Global}
 use Rattle.optra_auction.specs.declared.Rules.{Rules}
 use Rattle.optra_tables.specs.Bids.{parts_of}

@@ -19,9 +19,10 @@ use Rattle.optra_text.specs.VerdictTexts.{verdict_text_of}
 use Rattle.optra_text.specs.declared.verdicts.VerdictView.{VerdictView}
 use Rattle.optra_text.specs.declared.verdicts.VerdictView.TheVariants.{Yes, No, Unreadable}
 use Rattle.optra_frame.specs.declared.files.Role.TheVariants.{Certificate}
-use Rattle.optra_top.specs.Families.{FamilyOf, OfVersion}
+use Rattle.optra_top.specs.Families.{OfVersion}
+use Rattle.optra_play.specs.FamilyOf.{FamilyOf}
 use Rattle.optra_frame.specs.Files.{Contents, File, content_of}
-use Rattle.optra_top.specs.Plans.{KeepsPromise}
+use Rattle.optra_play.specs.Plans.{KeepsPromise}
 use Rattle.optra_frame.specs.Replies.{Reply}
 use Rattle.optra_frame.specs.Statuses.{valid_status, denied_status}
 use Rattle.optra_frame.specs.TableFiles.{TablesReply, Tables, all_tables, meaning_of, next_table_file}

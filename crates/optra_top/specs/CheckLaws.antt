@@ -7,7 +7,8 @@ use Rattle.optra_text.specs.VerdictTexts.{verdict_text_of}
 use Rattle.optra_text.specs.declared.verdicts.VerdictView.TheVariants.{Yes}
 use Rattle.optra_walk.specs.Families.{Entry}
 use Rattle.optra_top.specs.CheckCommand.{PrintsVerdict}
-use Rattle.optra_top.specs.Families.{FamilyOf, OfVersion}
+use Rattle.optra_top.specs.Families.{OfVersion}
+use Rattle.optra_play.specs.FamilyOf.{FamilyOf}
 use Rattle.optra_top.specs.PlanCommand.{PlanAsked, PrintsPlan}
 use Rattle.optra_frame.specs.Statuses.{valid_status}
 use Rattle.optra_frame.specs.declared.version.Version.{Version}

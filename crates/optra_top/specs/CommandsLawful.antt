@@ -1,6 +1,5 @@
 -- The commands keep to the laws of commands.
-use Rattle.std.proofs.Common.{◌≡◌, ◌⊎◌, inl, inr, ℕ, List, arith, true}
-use Rattle.optra_outside.specs.Disk.{DiskState}
+use Rattle.std.proofs.Common.{inl, inr, ℕ, arith}
 use Rattle.optra_text.specs.FaultLines.{refusal_line}
 use Rattle.optra_text.specs.declared.words.Words.{Words}
 use Rattle.optra_text.specs.declared.words.Words.TheVariants.{Plan, Check, Auction, Demo}

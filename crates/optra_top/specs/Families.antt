@@ -3,7 +3,7 @@ use Rattle.std.specs.Prelude.{List}
 use Rattle.std.specs.declared.cmp.Ordering.{Ordering}
 use Rattle.std.specs.declared.cmp.Ordering.TheVariants.{Less, Greater}
 use Rattle.optra_network.specs.Net.{Net}
-use Rattle.optra_walk.specs.Families.{Entry, Rows}
+use Rattle.optra_walk.specs.Families.{Entry}
 use Rattle.optra_rows.specs.Eithers.{both_rows}
 use Rattle.optra_rows.specs.Headways.{KeepsHeadwayRule, headway_rows}
 use Rattle.optra_rows.specs.TouchedLemmas.{row_cmp as headway_cmp}
@@ -20,16 +20,10 @@ use Rattle.optra_platform.specs.PlatformTexts.{platform_texts}
 use Rattle.optra_platform.specs.declared.PRow.{PRow}
 use Rattle.optra_cert.specs.Boths.{both_texts}
 use Rattle.optra_cert.specs.Headways.{headway_texts}
-use Rattle.optra_cert.specs.RowTexts.{RowTexts}
+use Rattle.optra_play.specs.FamilyOf.{FamilyOf}
 use Rattle.optra_walk.specs.Rules.{KeepsHalts}
 use Rattle.optra_frame.specs.declared.version.Version.{Version}
 use Rattle.optra_frame.specs.declared.version.Version.TheVariants as versions
-
--- a family of rows: their order, what they are, and their texts
-pub record FamilyOf (R : Type 0) : Type 0 where
-  pub cmp : R → R → Ordering
-  pub rows : Rows R
-  pub texts : RowTexts R
 
 -- ---- tables of version 1
 

@@ -5,7 +5,8 @@ use Rattle.optra_bid.specs.declared.bids.Bid.{Bid}
 use Rattle.optra_tables.specs.Bids.{parts_of}
 use Rattle.optra_walk.specs.Families.{Entry}
 use Rattle.optra_top.specs.CheckCommand.{PrintsVerdict}
-use Rattle.optra_top.specs.Families.{FamilyOf, OfVersion}
+use Rattle.optra_top.specs.Families.{OfVersion}
+use Rattle.optra_play.specs.FamilyOf.{FamilyOf}
 use Rattle.optra_frame.specs.declared.version.Version.{Version}
 
 -- two texts that print the verdict on the same bytes, of one network and its bids by one family of rows, are the same, and so are

@@ -10,9 +10,11 @@ use Rattle.optra_walk.specs.Families.{Entry}
 use Rattle.optra_search.specs.Planner.{Planned}
 use Rattle.optra_tables.specs.Bids.{Parts, parts_of}
 use Rattle.optra_text.specs.PlanTexts.{plan_text_of}
-use Rattle.optra_top.specs.Families.{FamilyOf, OfVersion}
+use Rattle.optra_top.specs.Families.{OfVersion}
+use Rattle.optra_play.specs.FamilyOf.{FamilyOf}
 use Rattle.optra_frame.specs.Files.{Contents}
-use Rattle.optra_top.specs.Plans.{IsPlanOf}
+use Rattle.optra_play.specs.Certificates.{certificate_of}
+use Rattle.optra_play.specs.Plans.{IsPlanOf}
 use Rattle.optra_frame.specs.Replies.{Reply}
 use Rattle.optra_frame.specs.Statuses.{optimal_status, gap_status}
 use Rattle.optra_frame.specs.TableFiles.{TablesReply, Tables, meaning_of}
@@ -25,10 +27,6 @@ IsStatusOf revenue bound status =
     ((status ≡ optimal_status) × (revenue ≡ bound)) ⊎ ((status ≡ gap_status) × (revenue <ℤ bound))
 
 -- ---- what is put
-
--- the plan as a certificate
-abbrev pub certificate_of : {R : Type 0} → Planned R → Cert R
-certificate_of plan = record { revenue = plan.revenue; bound = plan.bound; choice = plan.choice; tree = plan.tree }
 
 -- the certificate's text under the name, where one is given, in the version of the family's texts
 abbrev pub certificate_puts : {R : Type 0} → RowTexts R → Net → Option (List ℕ) → Cert R → List (List ℕ × List ℕ)

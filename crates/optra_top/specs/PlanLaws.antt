@@ -1,10 +1,13 @@
--- What the plan command prints and puts is a function of the tables and of what is asked.
+-- What the plan command prints and puts is a function of the tables and of what is asked; by which budget a plan has no gap.
 use Rattle.std.specs.Prelude.{◌≡◌, ℕ, List, map}
 use Rattle.optra_network.specs.Net.{Net}
 use Rattle.optra_bid.specs.declared.bids.Bid.{Bid}
+use Rattle.optra_search.specs.Laws.{ArePairs}
 use Rattle.optra_tables.specs.Bids.{parts_of}
 use Rattle.optra_walk.specs.Families.{Entry}
-use Rattle.optra_top.specs.Families.{FamilyOf, OfVersion}
+use Rattle.optra_walk.specs.declared.Leg.{Leg}
+use Rattle.optra_top.specs.Families.{OfVersion}
+use Rattle.optra_play.specs.FamilyOf.{FamilyOf}
 use Rattle.optra_top.specs.PlanCommand.{PlanAsked, PrintsPlan}
 use Rattle.optra_frame.specs.TableFiles.{Tables}
 use Rattle.optra_frame.specs.declared.version.Version.{Version}
@@ -24,3 +27,7 @@ HasOneText family Keeps net bids =
 -- so it is by the rows of each version
 abbrev pub OneText : Net → List Bid → Type 0
 OneText net bids = (version : Version) → OfVersion version net (λ R family Keeps. HasOneText family Keeps net bids)
+
+-- there is a list of the different pairs of a bid and a leg of one of its walks, whose number tells a budget that suffices
+abbrev pub HasPairs : Net → List Bid → Type 0
+HasPairs net bids = (pairs : List (ℕ × Leg)) × ArePairs net bids pairs

@@ -13,18 +13,18 @@ ghost use Rattle.optra_top.specs.Families.{OfVersion};
 ghost use Rattle.optra_frame.specs.Statuses.{gap_status, optimal_status};
 ghost use Rattle.optra_frame.specs.ContentsGot.{contents_of};
 ghost use Rattle.optra_frame.specs.Files.{file_asked};
-ghost use Rattle.optra_top.specs.Play.{IsPlayedOut};
+ghost use Rattle.optra_play.specs.Play.{IsPlayedOut};
 ghost use Rattle.optra_frame.specs.Puts.{texts_of};
 ghost use Rattle.optra_frame.specs.Replies.{reply_of};
 
 use crate::families::{all_rows, all_rows_are_told, headway_rows_are_told};
-use crate::playing::play;
 use optra_auction::Rules;
 use optra_bid::Bid;
 use optra_frame::{
     Answer, Asked, FilesGot, MOST_TABLES, Role, Version, next_table_file, read_tables,
 };
 use optra_network::{Network, NoMemory};
+use optra_play::play;
 use optra_rows::HeadwayRows;
 use optra_tables::{ReadError, Table, TimedAct, read_actions, read_rules};
 use optra_text::PathText;

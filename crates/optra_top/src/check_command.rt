@@ -11,7 +11,7 @@ ghost use Rattle.optra_frame.specs.Statuses.{denied_status, valid_status};
 ghost use Rattle.optra_frame.specs.TableFiles.{meaning_of};
 ghost use Rattle.optra_frame.specs.ContentsGot.{contents_of};
 ghost use Rattle.optra_frame.specs.Files.{file_asked};
-ghost use Rattle.optra_top.specs.Plans.{TellsConflicts};
+ghost use Rattle.optra_play.specs.Plans.{TellsConflicts};
 ghost use Rattle.optra_frame.specs.Puts.{texts_of};
 ghost use Rattle.optra_frame.specs.Replies.{reply_of};
 ghost use Rattle.optra_frame.specs.TablesRead.{tables_seen};

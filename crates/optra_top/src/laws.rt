@@ -1,13 +1,15 @@
 //! Laws of the printed plan and of the verdict on it, each as the contract of a call that does nothing else.
 ghost use Rattle.std.specs.Prelude.{◌≤◌};
 ghost use Rattle.optra_rows.specs.Headways.{KeepsHeadwayRule};
+ghost use Rattle.optra_top.specs.AuctionLaws.{OneTablesPlay};
 ghost use Rattle.optra_top.specs.CheckLaws.{ConfirmsPlan};
 ghost use Rattle.optra_tables.specs.Networks.{HasHeadwaysAlone};
 ghost use Rattle.optra_top.specs.DemoCommand.{IsAcceptedDemo};
 ghost use Rattle.optra_top.specs.Families.{KeepsAllRules};
 ghost use Rattle.optra_top.specs.OneVerdict.{OneVerdict};
 ghost use Rattle.optra_top.specs.PlanLaws.{OneText};
-ghost use Rattle.optra_top.specs.Plans.{HasPairs, TellsConflicts};
+ghost use Rattle.optra_play.specs.Plans.{TellsConflicts};
+ghost use Rattle.optra_top.specs.PlanLaws.{HasPairs};
 
 use crate::families::{all_rows, all_rows_are_told, headway_rows_are_told};
 use optra_cert::{first_fault_is_one, text_has_no_fault, text_tells_cert};
@@ -48,6 +50,12 @@ pub fn one_text(inst: Instance<'_>)
     plan_laws(inst, &all_rows());
     all_rows_are_told(inst.net);
 }
+
+/// A law, and no work: what the auction command prints and puts of tables, and its status, are a function of the tables and of the
+/// prefix.
+pub fn one_play()
+    ensures { OneTablesPlay }
+{}
 
 /// A law, and no work: what the plan command puts as its certificate, the check command answers Yes of, with the printed
 /// revenue and bound.

@@ -6,15 +6,12 @@ mod check_command;
 mod demo_command;
 mod entry;
 mod families;
-mod family_repairer;
 mod job;
 mod laws;
 mod plan_command;
-mod plans;
-mod playing;
 
 pub use entry::run;
 pub use laws::{
     all_rows_tell_conflicts, check_confirms_plan, demo_is_accepted, headways_tell_conflicts,
-    one_text, one_verdict, pairs_are_listed,
+    one_play, one_text, one_verdict, pairs_are_listed,
 };

@@ -11,8 +11,8 @@ ghost use Rattle.optra_tables.specs.Outcomes.{Fails};
 ghost use Rattle.optra_frame.specs.Statuses.{gap_status, optimal_status};
 ghost use Rattle.optra_frame.specs.TableFiles.{meaning_of};
 ghost use Rattle.optra_frame.specs.ContentsGot.{contents_of};
-ghost use Rattle.optra_top.specs.PlanCommand.{IsStatusOf, PlanReplies, PrintsPlan, PrintsTablesPlan, certificate_of, certificate_puts};
-ghost use Rattle.optra_top.specs.Plans.{TellsConflicts};
+ghost use Rattle.optra_top.specs.PlanCommand.{IsStatusOf, PlanReplies, PrintsPlan, PrintsTablesPlan, certificate_puts};
+ghost use Rattle.optra_play.specs.Plans.{TellsConflicts};
 ghost use Rattle.optra_top.specs.PlansAsked.{plan_asked};
 ghost use Rattle.optra_frame.specs.Puts.{texts_of};
 ghost use Rattle.optra_frame.specs.Replies.{reply_of};
@@ -20,12 +20,12 @@ ghost use Rattle.optra_frame.specs.TablesRead.{tables_seen};
 
 use crate::families::{all_rows, all_rows_are_told, headway_rows_are_told};
 use crate::laws::{all_rows_tell_conflicts, headways_tell_conflicts};
-use crate::plans::plan_by;
 use optra_cert::{Certificate, RowText, valid_is_writable, write_certificate};
 use optra_frame::{Answer, FileText, FilesGot, Tables, Version, read_tables, statuses};
 use optra_network::{Cents, NoMemory};
+use optra_play::{certificate_of, plan_by};
 use optra_rows::HeadwayRows;
-use optra_search::{Limits, Plan};
+use optra_search::Limits;
 use optra_tables::ReadError;
 use optra_text::{PathText, PlanView, plan_text};
 use optra_walk::Instance;
@@ -118,18 +118,6 @@ fn reply_by<F: RowText>(
     valid_is_writable(inst, rows);
     let puts = certificate_puts(alloc, inst, rows, &certificate_of(plan), cert)?;
     Ok(Answer { status, text, puts })
-}
-
-/// The plan as a certificate.
-pub fn certificate_of<R>(found: Plan<R>) -> Certificate<R>
-    ensures { result ≡ certificate_of found }
-{
-    Certificate {
-        revenue: found.revenue,
-        bound: found.bound,
-        choice: found.choice,
-        tree: found.tree,
-    }
 }
 
 /// The text of a certificate under the path, where one is given.

@@ -1,9 +1,9 @@
 -- The play is that by the rows of the version.
 use Rattle.std.proofs.lemmas.Result.{IfOk-weaker}
-use Rattle.optra_top.specs.Play.{IsPlayedOut}
+use Rattle.optra_play.specs.Play.{IsPlayedOut}
 use Rattle.optra_frame.specs.Puts.{texts_of}
 use Rattle.optra_top.proofs.FamilyLemmas.{of_first, of_second}
-use Rattle.optra_top.proofs.PlanLemmas.{all-tell, headways-tell}
+use Rattle.optra_top.proofs.RuleLemmas.{all-tell, headways-tell}
 use Rattle.optra_top.proofs.auction_command.play_by.Goals as goal
 
 pub play-requires-clause-rule : goal.play-requires-clause-rule

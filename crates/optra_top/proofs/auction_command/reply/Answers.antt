@@ -3,7 +3,7 @@ use Rattle.std.proofs.Common.{refl}
 use Rattle.optra_top.specs.AuctionCommand.{PrintsPlay, PrintsTablesPlay, auction_of}
 use Rattle.optra_top.specs.AuctionRead.{auction_seen}
 use Rattle.optra_frame.specs.ContentsGot.{contents_of}
-use Rattle.optra_top.specs.Play.{IsPlayedOut}
+use Rattle.optra_play.specs.Play.{IsPlayedOut}
 use Rattle.optra_frame.specs.Puts.{texts_of}
 use Rattle.optra_top.proofs.FamilyLemmas.{of_version-map}
 use Rattle.optra_frame.proofs.RefusalLemmas.{meaning-answered}

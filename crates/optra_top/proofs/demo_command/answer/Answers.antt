@@ -9,8 +9,9 @@ use Rattle.optra_rows.specs.declared.HRow.{HRow}
 use Rattle.optra_text.specs.DemoTexts.{demo_text_of}
 use Rattle.optra_text.specs.declared.verdicts.VerdictView.{VerdictView}
 use Rattle.optra_text.specs.declared.verdicts.VerdictView.TheVariants.{Yes}
-use Rattle.optra_top.specs.PlanCommand.{IsStatusOf, certificate_of}
-use Rattle.optra_top.proofs.AmountLemmas.{plan-writable}
+use Rattle.optra_top.specs.PlanCommand.{IsStatusOf}
+use Rattle.optra_play.specs.Certificates.{certificate_of}
+use Rattle.optra_play.proofs.AmountLemmas.{plan-writable}
 use Rattle.optra_top.proofs.DemoLemmas.{plan-confirmed}
 use Rattle.optra_top.proofs.demo_command.answer.Goals as goal
 

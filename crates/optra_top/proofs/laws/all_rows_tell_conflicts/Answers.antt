@@ -1,4 +1,4 @@
-use Rattle.optra_top.proofs.PlanLemmas.{all-tell}
+use Rattle.optra_top.proofs.RuleLemmas.{all-tell}
 use Rattle.optra_top.proofs.laws.all_rows_tell_conflicts.Goals as goal
 
 pub returns : goal.returns

@@ -1,4 +1,4 @@
-use Rattle.optra_top.proofs.PlanLemmas.{headways-tell}
+use Rattle.optra_top.proofs.RuleLemmas.{headways-tell}
 use Rattle.optra_top.proofs.laws.headways_tell_conflicts.Goals as goal
 
 pub returns : goal.returns

@@ -1,6 +1,6 @@
 -- The plan of the bids is printed, and its certificate can be written.
 use Rattle.std.proofs.Common.{refl, rules}
-use Rattle.optra_top.proofs.AmountLemmas.{plan-writable}
+use Rattle.optra_play.proofs.AmountLemmas.{plan-writable}
 use Rattle.optra_top.proofs.plan_command.reply_by.Goals as goal
 
 pub certificate_puts-requires-clause-writable : goal.certificate_puts-requires-clause-writable

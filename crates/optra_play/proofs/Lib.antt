@@ -1,0 +1,8 @@
+-- Lemmas on the plan of some bids, and on rounds that are played.
+pub mod PlanLemmas
+pub mod AmountLemmas
+mod PlayLemmas
+mod RoundLemmas
+pub mod BidLemmas
+mod CountLemmas
+pub mod OnePlayLemmas
