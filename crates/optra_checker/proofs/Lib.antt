@@ -1,5 +1,4 @@
 pub mod HereLemmas
-pub mod EarnLemmas
 pub mod FitLemmas
 pub mod StuckLemmas
 pub mod LeafLemmas

@@ -6,14 +6,14 @@ ghost use Rattle.optra_checker.specs.Verdicts.{ChoiceHolds, TreeHolds, IsFirstRe
 use crate::bounding::bound_holds;
 use crate::fitting::rule_holds;
 use crate::leaves::leaves_hold;
-use crate::listed_walks::{revenue, walks_hold};
+use crate::listed_walks::walks_hold;
 use crate::pricing::prices_hold;
 use crate::splitting::splits_hold;
 use crate::{Reason, Verdict};
 use optra_cert::Certificate;
 use optra_network::NoMemory;
 use optra_rests::RestTable;
-use optra_walk::{Instance, RowFamily};
+use optra_walk::{Instance, RowFamily, revenue};
 use std::alloc::Global;
 
 /// The first of K1 to K3 that comes.

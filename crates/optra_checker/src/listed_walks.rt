@@ -1,12 +1,11 @@
-//! The walks that a certificate lists: whether each is a walk of its bid, and what they are worth.
-ghost use Rattle.std.specs.Prelude.{◌≡◌, ◌≤◌, ◌↔◌, [], ◌∷◌, length, IfSome, IsTrue};
+//! The walks that a certificate lists: whether each is a walk of its bid.
+ghost use Rattle.std.specs.Prelude.{◌≡◌, ◌↔◌, length, IfSome, IsTrue};
 ghost use Rattle.optra_walk.specs.Walks.{IsWalk};
-ghost use Rattle.optra_walk.specs.Choices.{IsChoice, revenue_of};
-ghost use Rattle.optra_walk.specs.Values.{IsValue};
+ghost use Rattle.optra_walk.specs.Choices.{IsChoice};
 
 use optra_bid::Bid;
-use optra_network::{Cents, Network};
-use optra_walk::{Walk, follows, value};
+use optra_network::Network;
+use optra_walk::{Walk, follows};
 
 /// Whether the entry is none or a walk of the bid.
 fn entry_holds(net: &Network, bid: &Bid, entry: &Option<Walk>) -> bool
@@ -29,29 +28,4 @@ pub(crate) fn walks_hold(net: &Network, bids: &[Bid], entries: &[Option<Walk>]) 
         }
     }
     true
-}
-
-/// What is earned by one bid.
-fn earned(net: &Network, bid: &Bid, entry: &Option<Walk>) -> Cents
-    requires { IfSome entry.now (IsWalk net.now bid.now.path) }
-    ensures value { result ≡ revenue_of net.now (bid.now ∷ []) (entry.now ∷ []) }
-    ensures range { IsValue result }
-{
-    match entry {
-        Some(walk) => value(net, bid, &walk.legs),
-        None => 0,
-    }
-}
-
-/// The sum of the values of a choice's walks.
-pub(crate) fn revenue(net: &Network, bids: &[Bid], entries: &[Option<Walk>]) -> Cents
-    requires few { length bids.now ≤ 1000 }
-    requires choice { IsChoice net.now bids.now entries.now }
-    ensures { result ≡ revenue_of net.now bids.now entries.now }
-{
-    let mut total: Cents = 0;
-    'bids: for (i, bid) in bids.iter().enumerate() {
-        total += earned(net, bid, &entries[i]);
-    }
-    total
 }

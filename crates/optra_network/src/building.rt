@@ -19,6 +19,15 @@ mod crossing;
 mod finishing;
 mod pairing;
 
+/// The most stations of a network.
+const MOST_STATIONS: usize = 300;
+/// The most trains that a station's limit may be.
+const MOST_STANDING: u64 = 1_000;
+/// The most train types of a network.
+const MOST_TYPES: usize = 16;
+/// The most tracks of a network.
+const MOST_TRACKS: usize = 1_000;
+
 /// A network in the making. Each call names what is there already. A refused call, or one that finds no memory, leaves
 /// the builder as it was.
 #[derive(Drop)]
@@ -89,13 +98,13 @@ impl Builder {
         ensures err { OnErr result (self.new ≡ self.old) }
     {
         let count = self.stations.len();
-        if count >= 300 {
+        if count >= MOST_STATIONS {
             return Err(NetFault::Refused(NetRefusal::TooMany));
         }
         if self.stations.place(name).is_some() {
             return Err(NetFault::Refused(NetRefusal::TakenName));
         }
-        if halt_max > 1000 {
+        if halt_max > MOST_STANDING {
             return Err(NetFault::Refused(NetRefusal::Range));
         }
         self.limits.reserve(1)?;
@@ -115,7 +124,7 @@ impl Builder {
         ensures err { OnErr result (self.new ≡ self.old) }
     {
         let count = self.types.len();
-        if count >= 16 {
+        if count >= MOST_TYPES {
             return Err(NetFault::Refused(NetRefusal::TooMany));
         }
         if self.types.place(name).is_some() {
@@ -137,7 +146,7 @@ impl Builder {
         ensures err { OnErr result (self.new ≡ self.old) }
     {
         let count = self.tracks.len();
-        if count >= 1000 {
+        if count >= MOST_TRACKS {
             return Err(NetFault::Refused(NetRefusal::TooMany));
         }
         if self.track_names.place(name).is_some() {

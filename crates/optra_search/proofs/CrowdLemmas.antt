@@ -15,7 +15,7 @@ use Rattle.optra_node.proofs.ChildLemmas.{some_at, within_at}
 use Rattle.optra_prices.specs.Overfull.{AreOverfilled}
 use Rattle.optra_prices.specs.Steps.{reply_load}
 use Rattle.optra_search.specs.Splits.{IsFirst, HoldsOfNone, IsFreeLeg, IsCrowdedLeg, reply_legs}
-use Rattle.optra_search.proofs.EarnLemmas.{choice_long}
+use Rattle.optra_walk.proofs.EarnLemmas.{choice_long}
 use Rattle.optra_search.proofs.SplitLemmas.{legs_from_has}
 use Rattle.optra_search.proofs.ReplyLemmas.{none_alike, first_alike}
 use Rattle.optra_search.specs.Marks.{UsesOne, IsCrowding, IsFreestLegOrNone, IsFreeSplitOrNone, IsSplitLegOrNone}

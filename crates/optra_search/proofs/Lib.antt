@@ -1,4 +1,3 @@
-pub mod EarnLemmas
 pub mod FirstLemmas
 pub mod SplitLemmas
 pub mod TurnLemmas

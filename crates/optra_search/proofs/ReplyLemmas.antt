@@ -15,7 +15,7 @@ use Rattle.optra_walk.specs.Families.{IsUsable}
 use Rattle.optra_walk.proofs.UsableLemmas.{walk_usable}
 use Rattle.optra_node.specs.Nodes.{kind_at}
 use Rattle.optra_node.proofs.ChildLemmas.{some_at}
-use Rattle.optra_search.proofs.EarnLemmas.{choice_long, choice_at}
+use Rattle.optra_walk.proofs.EarnLemmas.{choice_long, choice_at}
 use Rattle.optra_walk.specs.declared.Leg.{Leg}
 use Rattle.optra_search.proofs.FirstLemmas.{contains_at}
 use Rattle.optra_search.specs.Splits.{IsFirst, HoldsOfNone, IsFirstOrNone, legs_from, reply_legs}

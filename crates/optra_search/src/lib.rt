@@ -7,7 +7,6 @@ use optra_walk::Choice;
 use std::marker::Model;
 
 mod closing;
-mod earning;
 mod entered;
 mod fixing;
 mod freeing;

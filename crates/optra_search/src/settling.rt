@@ -4,11 +4,10 @@ ghost use Rattle.optra_walk.specs.Choices.{IsChoice, revenue_of};
 ghost use Rattle.optra_node.specs.Duals.{whole_cents};
 ghost use Rattle.optra_search.specs.Planner.{IsBetter};
 
-use crate::earning::revenue;
 use optra_bid::Bid;
 use optra_network::{Cents, Network};
 use optra_node::Prices;
-use optra_walk::Choice;
+use optra_walk::{Choice, revenue};
 use std::alloc::Global;
 
 /// Thousandths of a cent as whole cents, rounded down.

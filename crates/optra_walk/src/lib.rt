@@ -12,6 +12,7 @@ use optra_network::{Minute, TrackId};
 use std::marker::Model;
 
 mod coded_row;
+mod earning;
 mod families;
 mod following;
 mod instance;
@@ -25,6 +26,7 @@ mod valuing;
 mod words;
 
 pub use coded_row::CodedRow;
+pub use earning::revenue;
 pub use families::RowFamily;
 pub use following::{arrival, follows, head, next_depart, tail};
 pub use instance::Instance;

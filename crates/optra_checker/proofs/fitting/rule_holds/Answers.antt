@@ -2,7 +2,7 @@ use Rattle.std.proofs.Common.{◌+◌, ◌<◌, ◌∷◌, [], length, refl, ari
 use Rattle.optra_walk.specs.Families.{load_of, entries_of, total_of}
 use Rattle.optra_walk.proofs.UsableLemmas.{choice_usable}
 use Rattle.optra_open.proofs.AtLemmas.{no_true, not_both}
-use Rattle.optra_checker.proofs.EarnLemmas.{choice_long, choice_at}
+use Rattle.optra_walk.proofs.EarnLemmas.{choice_long, choice_at}
 use Rattle.optra_checker.proofs.FitLemmas.{within_below, within_same, load_at, load_past, within_fits}
 use Rattle.optra_checker.proofs.fitting.rule_holds.Goals as goal
 

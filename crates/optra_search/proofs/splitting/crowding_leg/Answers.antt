@@ -1,7 +1,7 @@
 -- Reply by reply.
 use Rattle.std.proofs.Common.{None, arith}
 use Rattle.optra_search.specs.Marks.{IsCrowding}
-use Rattle.optra_search.proofs.EarnLemmas.{choice_long}
+use Rattle.optra_walk.proofs.EarnLemmas.{choice_long}
 use Rattle.optra_search.proofs.ReplyLemmas.{reply_hit, reply_miss, past_replies, reply_usable}
 use Rattle.optra_search.proofs.splitting.crowding_leg.Goals as goal
 

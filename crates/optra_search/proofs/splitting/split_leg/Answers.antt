@@ -1,6 +1,6 @@
 -- The first crowding leg, or else a free one.
 use Rattle.std.proofs.Common.{arith}
-use Rattle.optra_search.proofs.EarnLemmas.{choice_long}
+use Rattle.optra_walk.proofs.EarnLemmas.{choice_long}
 use Rattle.optra_search.proofs.CrowdLemmas.{split_crowding, split_free}
 use Rattle.optra_search.proofs.splitting.split_leg.Goals as goal
 

@@ -1,8 +1,8 @@
 -- There is an entry for each bid, and each bid adds what it earns.
 use Rattle.std.proofs.Common.{◌<◌, length, arith}
 use Rattle.std.proofs.lemmas.Int.{ints}
-use Rattle.optra_search.proofs.EarnLemmas.{choice_long, choice_at, revenue_at, revenue_past}
-use Rattle.optra_search.proofs.earning.revenue.Goals as goal
+use Rattle.optra_walk.proofs.EarnLemmas.{choice_long, choice_at, revenue_at, revenue_past}
+use Rattle.optra_walk.proofs.earning.revenue.Goals as goal
 
 pub bounds-walks-i : goal.bounds-walks-i
 bounds-walks-i c =

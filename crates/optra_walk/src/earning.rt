@@ -4,9 +4,10 @@ ghost use Rattle.optra_walk.specs.Walks.{IsWalk};
 ghost use Rattle.optra_walk.specs.Choices.{IsChoice, revenue_of};
 ghost use Rattle.optra_walk.specs.Values.{IsValue};
 
+use crate::Walk;
+use crate::valuing::value;
 use optra_bid::Bid;
 use optra_network::{Cents, Network};
-use optra_walk::{Walk, value};
 
 /// What is earned by one bid.
 fn earned(net: &Network, bid: &Bid, walk: &Option<Walk>) -> Cents
@@ -20,8 +21,8 @@ fn earned(net: &Network, bid: &Bid, walk: &Option<Walk>) -> Cents
     }
 }
 
-/// The sum of the values of a choice's walks.
-pub(crate) fn revenue(net: &Network, bids: &[Bid], walks: &[Option<Walk>]) -> Cents
+/// What a choice earns: the sum of the values of its walks, in cents.
+pub fn revenue(net: &Network, bids: &[Bid], walks: &[Option<Walk>]) -> Cents
     requires few { length bids.now ≤ 1000 }
     requires choice { IsChoice net.now bids.now walks.now }
     ensures { result ≡ revenue_of net.now bids.now walks.now }

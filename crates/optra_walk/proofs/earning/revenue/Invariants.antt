@@ -2,7 +2,7 @@
 use Rattle.std.proofs.Common.{◌≡◌, ◌*◌, drop}
 use Rattle.std.specs.Prelude.{pos, ◌+ℤ◌, ◌-ℤ◌, ◌≤ℤ◌}
 use Rattle.optra_walk.specs.Choices.{revenue_of}
-use Rattle.optra_search.proofs.earning.revenue.Given as goal
+use Rattle.optra_walk.proofs.earning.revenue.Given as goal
 
 abbrev pub invariant-bids : goal.invariant-bids
 invariant-bids l =
