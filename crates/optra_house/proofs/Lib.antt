@@ -1,0 +1,14 @@
+pub mod Torn
+pub mod FieldLemmas
+pub mod EntryLemmas
+pub mod AgainLemmas
+pub mod WriteLemmas
+pub mod ReadLemmas
+pub mod TakenLemmas
+pub mod ReplayLemmas
+pub mod PostLemmas
+pub mod OpenLemmas
+pub mod RestLemmas
+pub mod Appending
+pub mod Beginning
+pub mod LawLemmas
