@@ -148,7 +148,7 @@ no_lines : (net : Net) (bids : List Bid) → AreLines net bids []
 no_lines net bids = record { few = omega arith; of_bids = All-nil (λ (line : Line). line.bid < length bids); on_tracks = All-nil (λ (line : Line). IsTrack net line.leg.track) }
 
 -- What all lines keep that a table means.
-pub lines_kept : (net : Net) (bids : List Bid) (bytes : List ℕ) (lines : List Line) → length net.track_names ≡ length net.tracks → length (bid_names bids) ≡ length bids → lines_of net bids bytes ≡ Ok lines → AreLines net bids lines
+pub lines_kept : (net : Net) (bids : List Bid) (bytes : List ℕ) (lines : List Line) → length net.track_names ≡ length net.tracks → length (bid_names bids) ≡ length bids → lines_of net (bid_names bids) bytes ≡ Ok lines → AreLines net bids lines
 unfolding lines_of table_of
 lines_kept net bids bytes lines named same e =
     let rows = from_bind (rows_under (fault 1 kinds.Header) times_header (table_records bytes)) _ lines e in

@@ -56,9 +56,9 @@ line_row net names lines row fields = do
   line ← leg_line row fields depart dwell bid track
   Ok (lines ++ line ∷ [])
 
--- The lines that a table means, in the order of its records, or its first fault.
-unfoldable pub lines_of : Net → List Bid → List ℕ → Result (List Line) RowFault
-lines_of net bids bytes = table_of (line_row net (bid_names bids)) (fault 1 kinds.Header) times_header [] bytes
+-- The lines that a table means where the bids have these names, in the order of its records, or its first fault.
+unfoldable pub lines_of : Net → List (List ℕ) → List ℕ → Result (List Line) RowFault
+lines_of net names bytes = table_of (line_row net names) (fault 1 kinds.Header) times_header [] bytes
 
 -- how many more records the table may have
 abbrev pub lines_room : List Line → ℕ

@@ -23,7 +23,7 @@ mod timetables;
 mod trains;
 mod visits;
 
-pub use auditing::audit;
+pub use auditing::{audit, report_is_free};
 pub use choices::choice;
 pub use timetables::read_timetable;
 

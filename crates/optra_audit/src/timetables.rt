@@ -4,7 +4,7 @@ ghost use Rattle.std.specs.Prelude.{◌≡◌, IfOk, true};
 ghost use Rattle.std.specs.Str.{is_utf8};
 ghost use Rattle.csv.specs.Records.{fields_of};
 ghost use Rattle.optra_records.specs.Tables.{GivesTable, field, number_at, or_else, shaped};
-ghost use Rattle.optra_audit.specs.Timetables.{Gives, error_of, fault, leg_line, line_row, lines_of};
+ghost use Rattle.optra_audit.specs.Timetables.{Gives, bid_names, error_of, fault, leg_line, line_row, lines_of};
 ghost use Rattle.optra_audit.specs.Trains.{AreLines};
 
 use crate::bid_names::BidNames;
@@ -187,7 +187,7 @@ pub fn read_timetable(
     bytes: &[u8],
 ) -> Result<Vec<Line>, TimesError>
     ensures gives { Gives (λ lines. lines.items) result
-        (lines_of inst.entry.net.now inst.entry.bids.now bytes.now) }
+        (lines_of inst.entry.net.now (bid_names inst.entry.bids.now) bytes.now) }
     ensures lines { IfOk result (λ lines. AreLines inst.entry.net.now inst.entry.bids.now
         lines.items) }
 {

@@ -50,8 +50,13 @@ table_number Actions = 9
 abbrev pub same_role : Role → Role → Bool
 same_role (roles.Table a) (roles.Table b) = nat_eq (table_number a) (table_number b)
 same_role (roles.Table a) roles.Certificate = false
+same_role (roles.Table a) roles.Timetable = false
 same_role roles.Certificate (roles.Table b) = false
 same_role roles.Certificate roles.Certificate = true
+same_role roles.Certificate roles.Timetable = false
+same_role roles.Timetable (roles.Table b) = false
+same_role roles.Timetable roles.Certificate = false
+same_role roles.Timetable roles.Timetable = true
 
 -- the content of the first file in the role; nothing where there is none
 abbrev pub content_of : Contents → Role → List ℕ

@@ -9,6 +9,14 @@ optimal_status = 0
 abbrev pub gap_status : ℕ
 gap_status = 1
 
+-- a timetable has no fault
+abbrev pub faultless_status : ℕ
+faultless_status = 0
+
+-- a timetable has a fault
+abbrev pub faulty_status : ℕ
+faulty_status = 1
+
 -- a certificate is valid
 abbrev pub valid_status : ℕ
 valid_status = 0

@@ -8,6 +8,8 @@ pub enum Role {
     Table(Table),
     /// It is the text of a certificate.
     Certificate,
+    /// It is a timetable.
+    Timetable,
 }
 
 /// A file that a command asks for.

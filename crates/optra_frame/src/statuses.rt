@@ -6,6 +6,12 @@ pub const OPTIMAL: u8 = 0;
 /// A command did its work, and a bound that it printed is above its revenue.
 pub const GAP: u8 = 1;
 
+/// A timetable has no fault.
+pub const FAULTLESS: u8 = 0;
+
+/// A timetable has a fault.
+pub const FAULTY: u8 = 1;
+
 /// A certificate is valid.
 pub const VALID: u8 = 0;
 

@@ -1,5 +1,5 @@
 -- When `clap` accepts words, and what it gives; and that the commands are simple.
-use Rattle.std.proofs.Common.{◌≡◌, true, false, List, [], ◌∷◌, Some, refl, ap, ◌∙◌, inl, inr, subst, suc, length, arith}
+use Rattle.std.proofs.Common.{◌≡◌, true, false, List, [], ◌∷◌, Some, refl, inl, inr, suc, length, arith}
 use Rattle.std.proofs.lemmas.Bool.{ne_eqb}
 use Rattle.clap.specs.Words.{App, HasKind, HasMatchesOf, IsAmong, Kinds, fault_of, found_of, is_simple_and_free, kind_of, matches_of, rows_of}
 use Rattle.clap.specs.Walk.{is_empty}
@@ -9,12 +9,24 @@ use Rattle.clap.specs.declared.parser.matches.ArgMatches.{ArgMatches}
 use Rattle.clap.proofs.OnLiterals.{clap_on_literals}
 use Rattle.optra_text.specs.declared.words.WordsError.{WordsError}
 use Rattle.optra_text.specs.declared.words.WordsError.TheVariants as errors
-use Rattle.optra_text.specs.CommandForms.{IsSimple, Word, auction_app, check_app, plan_app, rows_given, demo_app}
+use Rattle.optra_text.specs.CommandForms.{IsSimple, Word, auction_app, audit_app, check_app, compress_app, pay_app, plan_app, rows_given, demo_app}
 use Rattle.optra_text.specs.Words.{IsErrorOf, IsUsage}
 
 pub plan_is_simple : IsSimple plan_app
 unfolding clap_on_literals
 plan_is_simple = record { simple = refl; free = refl }
+
+pub audit_is_simple : IsSimple audit_app
+unfolding clap_on_literals
+audit_is_simple = record { simple = refl; free = refl }
+
+pub pay_is_simple : IsSimple pay_app
+unfolding clap_on_literals
+pay_is_simple = record { simple = refl; free = refl }
+
+pub compress_is_simple : IsSimple compress_app
+unfolding clap_on_literals
+compress_is_simple = record { simple = refl; free = refl }
 
 pub check_is_simple : IsSimple check_app
 unfolding clap_on_literals

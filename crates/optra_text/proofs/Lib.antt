@@ -2,6 +2,8 @@
 pub mod PieceLemmas
 pub mod TrackLemmas
 pub mod TrainLemmas
+pub mod AuditLemmas
+pub mod CompressedLemmas
 pub mod RoundLemmas
 pub mod LegsTold
 pub mod TrainsTold

@@ -1,11 +1,9 @@
 -- The records of the trains, bid by bid.
-use Rattle.std.proofs.Common.{◌≡◌, ℕ, zero, suc, ◌+◌, ◌<◌, List, [], ◌∷◌, ◌++◌, length, drop, get_or, Option, IfSome, refl, sym, ap, ◌∙◌, arith, add-one, append_assoc}
+use Rattle.std.proofs.Common.{◌≡◌, ℕ, zero, suc, ◌+◌, ◌<◌, List, [], ◌∷◌, ◌++◌, length, drop, get_or, Option, refl, sym, ap, ◌∙◌, arith, add-one, append_assoc}
 use Rattle.std.proofs.lemmas.List.Concat.{flat_map-append}
 use Rattle.optra_network.specs.Net.{Net}
 use Rattle.optra_bid.specs.declared.bids.Bid.{Bid}
 use Rattle.optra_walk.specs.declared.Leg.{Leg}
-use Rattle.optra_walk.specs.Walks.{IsWalk}
-use Rattle.optra_walk.specs.Choices.{IsChoice}
 use Rattle.optra_records.specs.Texts.{record_text, records_text}
 use Rattle.optra_text.specs.PlanTexts.{entry_records, train_records}
 
@@ -27,18 +25,3 @@ next_trains net number bids walks i bid walk old whole h k e =
     (sym (flat_map-append record_text (entry_records net number (get_or bids i bid) (get_or walks i walk)) (train_records net (number + 1) (drop (i + 1) bids) (drop (i + 1) walks)))
     ∙ ap records_text (sym (trains_at net number bids walks i bid walk h k)))
     ∙ e
-
--- a choice has an entry for each bid
-pub walks_long : (net : Net) (bids : List Bid) (walks : List (Option (List Leg))) → IsChoice net bids walks → length bids ≡ length walks
-walks_long net [] [] h = refl
-walks_long net [] (w ∷ walks) h = absurd h
-walks_long net (b ∷ bids) [] h = absurd h
-walks_long net (b ∷ bids) (w ∷ walks) h = ap suc (walks_long net bids walks h.1)
-
--- each entry that is there is a walk of its bid
-pub walk_at : (net : Net) (bids : List Bid) (walks : List (Option (List Leg))) (i : ℕ) (bid : Bid) (walk : Option (List Leg)) → IsChoice net bids walks → i < length bids
-    → bid ≡ get_or bids i bid → walk ≡ get_or walks i walk → IfSome walk (IsWalk net bid.path)
-walk_at net [] walks i bid walk h k b w = absurd (omega arith)
-walk_at net (x ∷ bids) [] i bid walk h k b w = absurd h
-walk_at net (x ∷ bids) (y ∷ walks) zero bid walk h k b w = rw (b, w) h.0
-walk_at net (x ∷ bids) (y ∷ walks) (suc i) bid walk h k b w = walk_at net bids walks i bid walk h.1 (omega arith) b w

@@ -44,6 +44,18 @@ plan_app = with_rule (with_rule (with_rule (tables_app (codes "plan"))
 abbrev pub check_app : App
 check_app = with_rule (tables_app (codes "check")) (option_rule (codes "cert") true)
 
+-- audit --net DIR --bids FILE --stops FILE --times FILE
+abbrev pub audit_app : App
+audit_app = with_rule (tables_app (codes "audit")) (option_rule (codes "times") true)
+
+-- pay --net DIR --bids FILE --stops FILE [--steps K] [--budget B]
+abbrev pub pay_app : App
+pay_app = with_rule (with_rule (tables_app (codes "pay")) (option_rule (codes "steps") false)) (option_rule (codes "budget") false)
+
+-- compress --net DIR --bids FILE --stops FILE --times FILE
+abbrev pub compress_app : App
+compress_app = with_rule (tables_app (codes "compress")) (option_rule (codes "times") true)
+
 -- auction --net DIR --bids FILE --stops FILE --rules FILE --actions FILE [--certs PREFIX]
 abbrev pub auction_app : App
 auction_app = with_rule (with_rule (with_rule (tables_app (codes "auction"))

@@ -9,3 +9,6 @@ pub mod Ranges
 pub mod Words
 pub mod VerdictTexts
 pub mod DemoTexts
+pub mod AuditTexts
+pub mod PaymentTexts
+pub mod CompressedTexts

@@ -5,11 +5,10 @@ use Rattle.clap.specs.Words.{Row, first_of}
 use Rattle.clap.specs.declared.error.kind.ErrorKind.{ErrorKind}
 use Rattle.clap.specs.declared.error.kind.ErrorKind.TheVariants as kind
 use Rattle.optra_records.specs.Numbers.{number_of}
-use Rattle.optra_text.specs.CommandForms.{Word, rows_given, plan_app, check_app, auction_app, demo_app}
-pub use Rattle.optra_text.specs.Ranges.{HasRanges as HasBudget}
+use Rattle.optra_text.specs.CommandForms.{Word, rows_given, plan_app, check_app, auction_app, demo_app, audit_app, pay_app, compress_app}
 use Rattle.optra_text.specs.declared.words.TablePaths.{TablePaths}
 use Rattle.optra_text.specs.declared.words.Words.{Words}
-use Rattle.optra_text.specs.declared.words.Words.TheVariants.{Plan, Check, Auction, Demo}
+use Rattle.optra_text.specs.declared.words.Words.TheVariants.{Plan, Check, Auction, Demo, Audit, Pay, Compress}
 use Rattle.optra_text.specs.declared.words.WordsError.{WordsError}
 use Rattle.optra_text.specs.declared.words.WordsError.TheVariants as errors
 
@@ -106,6 +105,31 @@ demo_words words = do
   size ← needed_number 1 9 (first_of (codes "size") rows)
   Some (Demo seed size)
 
+-- what the words behind `audit` ask for
+unfoldable pub audit_words : List Word → Option Words
+audit_words words = do
+  rows ← rows_given audit_app words
+  tables ← tables_given rows
+  times ← needed_path (first_of (codes "times") rows)
+  Some (Audit tables.net tables.bids tables.stops times)
+
+-- what the words behind `pay` ask for
+unfoldable pub pay_words : List Word → Option Words
+pay_words words = do
+  rows ← rows_given pay_app words
+  tables ← tables_given rows
+  steps ← steps_of rows
+  budget ← budget_of rows
+  Some (Pay tables.net tables.bids tables.stops steps budget)
+
+-- what the words behind `compress` ask for
+unfoldable pub compress_words : List Word → Option Words
+compress_words words = do
+  rows ← rows_given compress_app words
+  tables ← tables_given rows
+  times ← needed_path (first_of (codes "times") rows)
+  Some (Compress tables.net tables.bids tables.stops times)
+
 -- What the words ask for, where they are a command form: the first is the command, and the others are its options.
 abbrev pub words_of : List Word → Option Words
 words_of [] = None
@@ -113,7 +137,10 @@ words_of (command ∷ words) =
     if bytes_eq command (codes "plan") then plan_words words else (
     if bytes_eq command (codes "check") then check_words words else (
     if bytes_eq command (codes "auction") then auction_words words else (
-    if bytes_eq command (codes "demo") then demo_words words else None)))
+    if bytes_eq command (codes "demo") then demo_words words else (
+    if bytes_eq command (codes "audit") then audit_words words else (
+    if bytes_eq command (codes "pay") then pay_words words else (
+    if bytes_eq command (codes "compress") then compress_words words else None))))))
 
 -- ---- answers
 

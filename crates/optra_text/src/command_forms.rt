@@ -1,7 +1,7 @@
 //! The commands, as `clap` knows them.
 ghost use Rattle.std.specs.Prelude.{◌≡◌, IfOk, false};
 ghost use Rattle.clap.specs.Words.{app_of, rule_of, with_rule};
-ghost use Rattle.optra_text.specs.CommandForms.{auction_app, bare_app, check_app, option_rule, plan_app, tables_app, demo_app, value_rule};
+ghost use Rattle.optra_text.specs.CommandForms.{auction_app, audit_app, bare_app, check_app, compress_app, option_rule, pay_app, plan_app, tables_app, demo_app, value_rule};
 
 use clap::{Arg, ArgAction, Command};
 use std::alloc::{AllocError, Global};
@@ -23,6 +23,34 @@ pub fn check_command<'a>(alloc: Global) -> Result<Command<'a>, AllocError>
 {
     let command = tables_command(alloc, "check")?;
     let command = with_option(alloc, command, "cert", true)?;
+    Ok(command)
+}
+
+/// audit --net DIR --bids FILE --stops FILE --times FILE
+pub fn audit_command<'a>(alloc: Global) -> Result<Command<'a>, AllocError>
+    ensures { IfOk result (λ command. app_of command ≡ audit_app) }
+{
+    let command = tables_command(alloc, "audit")?;
+    let command = with_option(alloc, command, "times", true)?;
+    Ok(command)
+}
+
+/// pay --net DIR --bids FILE --stops FILE [--steps K] [--budget B]
+pub fn pay_command<'a>(alloc: Global) -> Result<Command<'a>, AllocError>
+    ensures { IfOk result (λ command. app_of command ≡ pay_app) }
+{
+    let command = tables_command(alloc, "pay")?;
+    let command = with_option(alloc, command, "steps", false)?;
+    let command = with_option(alloc, command, "budget", false)?;
+    Ok(command)
+}
+
+/// compress --net DIR --bids FILE --stops FILE --times FILE
+pub fn compress_command<'a>(alloc: Global) -> Result<Command<'a>, AllocError>
+    ensures { IfOk result (λ command. app_of command ≡ compress_app) }
+{
+    let command = tables_command(alloc, "compress")?;
+    let command = with_option(alloc, command, "times", true)?;
     Ok(command)
 }
 

@@ -108,7 +108,7 @@ fn print_status(
 }
 
 /// Prints a word and an amount.
-fn print_amount(
+pub(crate) fn print_amount(
     printer: &mut Printer,
     fields: &mut Fields,
     word: &str,

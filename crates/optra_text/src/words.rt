@@ -3,10 +3,13 @@ ghost use Rattle.std.specs.Prelude.{◌≡◌, ◌≤◌, map, string_bytes, opt
 ghost use Rattle.clap.specs.Words.{app_of, first_of, found_of, rows_of};
 ghost use Rattle.optra_text.specs.CommandForms.{IsSimple, rows_given};
 ghost use Rattle.optra_text.specs.Ranges.{HasRanges};
-ghost use Rattle.optra_text.specs.Words.{IsErrorOf, Reads, auction_words, check_words, is_path, needed_path, number_or, number_within, optional_path, plan_words, tables_given, words_of, demo_words, needed_number};
+ghost use Rattle.optra_text.specs.Words.{IsErrorOf, Reads, auction_words, audit_words, check_words, compress_words, is_path, needed_path, number_or, number_within, optional_path, pay_words, plan_words, tables_given, words_of, demo_words, needed_number};
 ghost use Rattle.optra_text.specs.declared.words.WordsError.TheVariants.{NoMemory};
 
-use crate::command_forms::{auction_command, check_command, demo_command, plan_command};
+use crate::command_forms::{
+    auction_command, audit_command, check_command, compress_command, demo_command, pay_command,
+    plan_command,
+};
 use crate::path_text::PathText;
 use clap::error::ErrorKind;
 use clap::{ArgMatches, Command};
@@ -80,6 +83,41 @@ pub enum Words {
         /// How large they are: 1 to 9.
         size: u8,
     },
+    /// audit --net DIR --bids FILE --stops FILE --times FILE
+    Audit {
+        /// The folder of the network's tables.
+        net: PathText,
+        /// The table of bids.
+        bids: PathText,
+        /// The table of stops.
+        stops: PathText,
+        /// The timetable that is to be audited.
+        times: PathText,
+    },
+    /// pay --net DIR --bids FILE --stops FILE [--steps K] [--budget B]
+    Pay {
+        /// The folder of the network's tables.
+        net: PathText,
+        /// The table of bids.
+        bids: PathText,
+        /// The table of stops.
+        stops: PathText,
+        /// The most price steps at a node: 0 to 1,000, and 40 where they aren't given.
+        steps: u32,
+        /// The most nodes of each search: 1 to 10,000, and 200 where it isn't given.
+        budget: u64,
+    },
+    /// compress --net DIR --bids FILE --stops FILE --times FILE
+    Compress {
+        /// The folder of the network's tables.
+        net: PathText,
+        /// The table of bids.
+        bids: PathText,
+        /// The table of stops.
+        stops: PathText,
+        /// The timetable whose trains are to be moved.
+        times: PathText,
+    },
 }
 
 /// Why words were not read.
@@ -116,6 +154,9 @@ pub fn read_words(alloc: Global, words: &[String]) -> Result<Words, WordsError>
         "check" => read_check(alloc, options),
         "auction" => read_auction(alloc, options),
         "demo" => read_demo(alloc, options),
+        "audit" => read_audit(alloc, options),
+        "pay" => read_pay(alloc, options),
+        "compress" => read_compress(alloc, options),
         _ => Err(WordsError::Usage),
     }
 }
@@ -155,6 +196,59 @@ fn read_check(alloc: Global, words: &[String]) -> Result<Words, WordsError>
         bids,
         stops,
         cert,
+    })
+}
+
+/// What the words behind `audit` ask for.
+#[tactic(auto, unfolding(crate::specs::Words::audit_words))]
+fn read_audit(alloc: Global, words: &[String]) -> Result<Words, WordsError>
+    ensures read { Reads (λ read. read) result (audit_words (map string_bytes words.now)) }
+    ensures budget { IfOk result HasRanges }
+{
+    let matches = matches_of(audit_command(alloc)?, words)?;
+    let TablePaths { net, bids, stops } = tables_given(alloc, &matches)?;
+    let times = path_of(alloc, given(&matches, "times"))?;
+    Ok(Words::Audit {
+        net,
+        bids,
+        stops,
+        times,
+    })
+}
+
+/// What the words behind `compress` ask for.
+#[tactic(auto, unfolding(crate::specs::Words::compress_words))]
+fn read_compress(alloc: Global, words: &[String]) -> Result<Words, WordsError>
+    ensures read { Reads (λ read. read) result (compress_words (map string_bytes words.now)) }
+    ensures budget { IfOk result HasRanges }
+{
+    let matches = matches_of(compress_command(alloc)?, words)?;
+    let TablePaths { net, bids, stops } = tables_given(alloc, &matches)?;
+    let times = path_of(alloc, given(&matches, "times"))?;
+    Ok(Words::Compress {
+        net,
+        bids,
+        stops,
+        times,
+    })
+}
+
+/// What the words behind `pay` ask for.
+#[tactic(auto, unfolding(crate::specs::Words::pay_words))]
+fn read_pay(alloc: Global, words: &[String]) -> Result<Words, WordsError>
+    ensures read { Reads (λ read. read) result (pay_words (map string_bytes words.now)) }
+    ensures budget { IfOk result HasRanges }
+{
+    let matches = matches_of(pay_command(alloc)?, words)?;
+    let TablePaths { net, bids, stops } = tables_given(alloc, &matches)?;
+    let steps = number_or(DEFAULT_STEPS, 0, MOST_STEPS, given(&matches, "steps"))?;
+    let budget = number_or(DEFAULT_BUDGET, 1, MOST_BUDGET, given(&matches, "budget"))?;
+    Ok(Words::Pay {
+        net,
+        bids,
+        stops,
+        steps: steps as u32,
+        budget,
     })
 }
 

@@ -2,10 +2,11 @@
 use Rattle.std.proofs.Common.{◌≡◌, ◌⊎◌, ◌≤◌, lit≤, ℕ, List, Option, Some, String, map, string_bytes, inl, inr, refl, sym, subst}
 use Rattle.std.specs.declared.alloc.Global.{Global}
 use Rattle.optra_outside.specs.Shelf.{GetLeaves}
-use Rattle.optra_text.specs.Words.{HasBudget, IsUsage, words_of}
+use Rattle.optra_text.specs.Ranges.{HasRanges}
+use Rattle.optra_text.specs.Words.{IsUsage, words_of}
 use Rattle.optra_text.specs.declared.faults.TheConstants.{FORMS}
 use Rattle.optra_text.specs.declared.words.Words.{Words}
-use Rattle.optra_text.specs.declared.words.Words.TheVariants.{Plan, Check, Auction, Demo}
+use Rattle.optra_text.specs.declared.words.Words.TheVariants.{Plan, Check, Auction, Demo, Audit, Pay, Compress}
 use Rattle.optra_text.specs.declared.words.WordsError.{WordsError}
 use Rattle.optra_text.specs.declared.words.WordsError.TheVariants as errors
 use Rattle.optra_frame.specs.Commands.{AsksAnd, IfAsks, asks}
@@ -53,8 +54,11 @@ unread-fault errors.Usage = inl refl
 unread-fault errors.NoMemory = inr (inr (inr (inr (inr (inl refl)))))
 
 -- the numbers that are read are in their ranges
-pub numbers-read : (words : Words) → HasBudget words → (1 ≤ budget_in words) × (1 ≤ size_in words) × (size_in words ≤ 9)
+pub numbers-read : (words : Words) → HasRanges words → (1 ≤ budget_in words) × (1 ≤ size_in words) × (size_in words ≤ 9)
 numbers-read (Plan net bids stops steps budget cert) is = (is, lit≤ tt, lit≤ tt)
 numbers-read (Check net bids stops cert) is = (lit≤ tt, lit≤ tt, lit≤ tt)
 numbers-read (Auction net bids stops rules actions certs) is = (lit≤ tt, lit≤ tt, lit≤ tt)
 numbers-read (Demo seed size) is = (lit≤ tt, is.0, is.1)
+numbers-read (Audit net bids stops times) is = (lit≤ tt, lit≤ tt, lit≤ tt)
+numbers-read (Pay net bids stops steps budget) is = (is, lit≤ tt, lit≤ tt)
+numbers-read (Compress net bids stops times) is = (lit≤ tt, lit≤ tt, lit≤ tt)

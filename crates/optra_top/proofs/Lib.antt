@@ -1,6 +1,7 @@
 -- Lemmas on what the files of a command mean, on the rules of rows, on the verdict and on demos.
 mod EntryLemmas
 mod StatusLemmas
+mod TimedLemmas
 mod FamilyLemmas
 mod RuleLemmas
 mod DecidedFacts

@@ -6,6 +6,9 @@ use Rattle.optra_text.specs.declared.verdicts.VerdictView.{VerdictView}
 use Rattle.optra_text.specs.declared.verdicts.VerdictView.TheVariants.{Yes, No, Unreadable}
 use Rattle.optra_top.specs.CheckCommand.{PrintsTablesVerdict, PrintsVerdict, verdict_status}
 use Rattle.optra_play.specs.Play.{IsPlayStatus, Played}
+use Rattle.optra_top.specs.PayCommand.{IsPayStatus, PrintsPayments, PrintsTablesPayments}
+use Rattle.optra_payment.specs.declared.Interval.{Interval}
+use Rattle.optra_search.specs.declared.Limits.{Limits}
 use Rattle.optra_top.specs.PlanCommand.{IsStatusOf, PlanAsked, PrintsPlan, PrintsTablesPlan}
 use Rattle.optra_top.proofs.FamilyLemmas.{of_version-then}
 
@@ -31,3 +34,12 @@ pub status-verdict : (bytes : List ℕ) (tables : Tables) (status : ℕ) (text :
 status-verdict bytes tables status text puts says =
     of_version-then (λ R family Keeps. PrintsVerdict family Keeps bytes tables.net tables.bids status text puts) ((status ≡ valid_status) ⊎ (status ≡ denied_status)) tables.version tables.net
     (λ R family Keeps p. status-of_verdict p.verdict status p.ends) says
+
+pub status-of_payments : (revenue bound : ℤ) (pays : List Interval) (status : ℕ) → IsPayStatus revenue bound pays status → (status ≡ optimal_status) ⊎ (status ≡ gap_status)
+status-of_payments revenue bound pays status (inl exact) = inl exact.0
+status-of_payments revenue bound pays status (inr apart) = inr apart.0
+
+pub status-paid : (limits : Limits) (tables : Tables) (status : ℕ) (text : List ℕ) (puts : List (List ℕ × List ℕ)) → PrintsTablesPayments limits tables status text puts → (status ≡ optimal_status) ⊎ (status ≡ gap_status)
+status-paid limits tables status text puts says =
+    of_version-then (λ R family Keeps. PrintsPayments family Keeps limits tables.net tables.bids status text puts) ((status ≡ optimal_status) ⊎ (status ≡ gap_status)) tables.version tables.net
+    (λ R family Keeps p. status-of_payments p.plan.revenue p.plan.bound p.pays status p.ends) says

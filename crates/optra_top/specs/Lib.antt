@@ -5,6 +5,11 @@ pub mod CheckCommand
 pub mod AuctionCommand
 pub mod AuctionLaws
 pub mod DemoCommand
+pub mod TimetableRead
+pub mod AuditCommand
+pub mod CompressCommand
+pub mod PaymentPlans
+pub mod PayCommand
 pub mod PlanLaws
 pub mod CheckLaws
 pub mod OneVerdict

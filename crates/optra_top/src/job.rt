@@ -2,15 +2,19 @@
 //! each call here.
 ghost use Rattle.std.specs.Prelude.{◌≡◌, ◌≤◌, IfOk, IfErr};
 ghost use Rattle.optra_outside.specs.Disk.{DiskState};
-ghost use Rattle.optra_text.specs.Words.{HasBudget};
+ghost use Rattle.optra_text.specs.Ranges.{HasRanges};
 ghost use Rattle.optra_frame.specs.ContentsGot.{contents_of};
-ghost use Rattle.optra_frame.specs.Faults.{EndsReply, unread_fault};
+ghost use Rattle.optra_frame.specs.Faults.{EndsReply};
 ghost use Rattle.optra_frame.specs.Replies.{reply_of};
-ghost use Rattle.optra_top.specs.Commands.{IsDoneStatus, MayReply, command_of};
+ghost use Rattle.optra_top.specs.Commands.{IsDoneStatus, IsToldUnread, MayReply, command_of};
 ghost use Rattle.optra_top.specs.WordNumbers.{budget_in, size_in};
 ghost use Rattle.optra_top.specs.CommandsLawful.{each-lawful};
 
-use crate::{auction_command, check_command, demo_command, plan_command};
+use crate::timetable_read::next_times_file;
+use crate::{
+    auction_command, audit_command, check_command, compress_command, demo_command, pay_command,
+    plan_command,
+};
 use optra_frame::{Answer, Asked, Command, Fault, FilesGot, next_table_file};
 use optra_outside::Disk;
 use optra_search::Limits;
@@ -30,20 +34,20 @@ pub struct Job {
 impl Job {
     /// The command that these words ask for.
     pub fn new(words: Words) -> Job
-        requires { HasBudget words }
+        requires { HasRanges words }
         ensures { result.words ≡ words }
     {
         Job { words }
     }
 
-    /// The answer to the contents of the files. It errs exactly where the tables are refused, or by want of memory. No command of
-    /// today calls the disk.
-    fn answer(&self, alloc: Global, files: &FilesGot) -> Result<Answer, ReadError>
+    /// The answer to the contents of the files. It errs exactly where they are refused, or by want of memory. No command of today
+    /// calls the disk.
+    fn answer(&self, alloc: Global, files: &FilesGot) -> Result<Answer, Fault>
         ensures ok { IfOk result (λ answer. (before now : DiskState) → MayReply self.now.words
             (contents_of files.now) before now (reply_of answer)) }
         ensures done { IfOk result (λ answer. IsDoneStatus self.now.words answer.status) }
-        ensures fault { IfErr result (λ error. (disk : DiskState) → EndsReply
-            (command_of self.now.words) (contents_of files.now) disk disk (unread_fault error)) }
+        ensures fault { IfErr result (λ fault. (disk : DiskState) → EndsReply
+            (command_of self.now.words) (contents_of files.now) disk disk fault) }
     {
         match &self.words {
             Words::Plan {
@@ -53,12 +57,28 @@ impl Job {
                 ..
             } => {
                 let (steps, budget) = (*steps, *budget);
-                plan_command::reply(alloc, files, Limits { steps, budget }, cert)
+                told(plan_command::reply(alloc, files, Limits { steps, budget }, cert))
             }
-            Words::Check { .. } => check_command::reply(alloc, files),
-            Words::Auction { certs, .. } => auction_command::reply(alloc, files, certs),
-            Words::Demo { seed, size } => demo_command::reply(alloc, *seed, *size),
+            Words::Check { .. } => told(check_command::reply(alloc, files)),
+            Words::Auction { certs, .. } => told(auction_command::reply(alloc, files, certs)),
+            Words::Demo { seed, size } => told(demo_command::reply(alloc, *seed, *size)),
+            Words::Audit { .. } => audit_command::reply(alloc, files),
+            Words::Pay { steps, budget, .. } => {
+                let (steps, budget) = (*steps, *budget);
+                told(pay_command::reply(alloc, files, Limits { steps, budget }))
+            }
+            Words::Compress { .. } => compress_command::reply(alloc, files),
         }
+    }
+}
+
+/// An answer, or why the tables were not read as what ended the command.
+fn told(answer: Result<Answer, ReadError>) -> Result<Answer, Fault>
+    ensures { IsToldUnread answer result }
+{
+    match answer {
+        Ok(answer) => Ok(answer),
+        Err(error) => Err(Fault::from(error)),
     }
 }
 
@@ -72,7 +92,28 @@ impl Command for Job {
                 bids,
                 stops,
                 ..
+            }
+            | Words::Pay {
+                net,
+                bids,
+                stops,
+                ..
             } => next_table_file(alloc, net.text(), bids.text(), stops.text(), got),
+            Words::Audit {
+                net,
+                bids,
+                stops,
+                times,
+            }
+            | Words::Compress {
+                net,
+                bids,
+                stops,
+                times,
+            } => {
+                let (net, bids, stops) = (net.text(), bids.text(), stops.text());
+                next_times_file(alloc, net, bids, stops, times.text(), got)
+            }
             Words::Check {
                 net,
                 bids,
@@ -105,10 +146,7 @@ impl Command for Job {
         disk: &mut D,
     ) -> Result<Answer, Fault> {
         let _ = disk;
-        match self.answer(alloc, &files) {
-            Ok(answer) => Ok(answer),
-            Err(error) => Err(Fault::from(error)),
-        }
+        self.answer(alloc, &files)
     }
 
     ghost lawful = { λ job. each-lawful job.words };

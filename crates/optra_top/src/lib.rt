@@ -2,13 +2,18 @@
 #![tactic(auto)]
 
 mod auction_command;
+mod audit_command;
 mod check_command;
+mod compress_command;
 mod demo_command;
 mod entry;
 mod families;
 mod job;
 mod laws;
+mod pay_command;
+mod payment_planner;
 mod plan_command;
+mod timetable_read;
 
 pub use entry::run;
 pub use laws::{

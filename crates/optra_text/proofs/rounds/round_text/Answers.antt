@@ -11,12 +11,12 @@ use Rattle.optra_text.specs.PlanTexts.{head_records, train_records}
 use Rattle.optra_text.specs.RoundTexts.{count_record, outcome_record, standing_records}
 use Rattle.optra_text.specs.RoundViews.{round_text_of}
 use Rattle.optra_text.proofs.RoundLemmas.{first-printed, more-printed, one-printed}
-use Rattle.optra_text.proofs.TrainLemmas.{walks_long}
+use Rattle.optra_walk.proofs.EarnLemmas.{choice_long}
 use Rattle.optra_text.proofs.rounds.round_text.Goals as goal
 
 pub print_standing-requires-clause-walks : goal.print_standing-requires-clause-walks
 print_standing-requires-clause-walks c =
-    ap length (c.deref.ensures.value ∙ c.choice.view_is) ∙ sym (walks_long c.args.view.plan.inst.net.now c.args.view.plan.inst.bids.now c.args.view.plan.choice.now c.requires.choice)
+    ap length (c.deref.ensures.value ∙ c.choice.view_is) ∙ sym (choice_long c.args.view.plan.inst.net.now c.args.view.plan.inst.bids.now c.args.view.plan.choice.now c.requires.choice)
 
 pub returns : goal.returns
 unfolding round_text_of
