@@ -378,15 +378,18 @@ def head_lines(plan):
             ("nodes", plan.nodes)]
 
 
+def leg_line(net, bid, leg):
+    track = net.tracks[leg.track]
+    return ("leg", track.name, net.stations[track.tail], leg.depart, net.stations[track.head], arrival(net, bid.kind, leg),
+            ACTIONS[leg.action], leg.dwell)
+
+
 def train_lines(net, bids, choice):
     lines = []
     for number, (bid, walk) in enumerate(zip(bids, choice), start=1):
         if walk:
             lines.append(("train", number, bid.name, bid.bidder, walk.value))
-            for leg in walk.legs:
-                track = net.tracks[leg.track]
-                lines.append(("leg", track.name, net.stations[track.tail], leg.depart, net.stations[track.head],
-                              arrival(net, bid.kind, leg), ACTIONS[leg.action], leg.dwell))
+            lines += [leg_line(net, bid, leg) for leg in walk.legs]
     return lines
 
 
