@@ -28,7 +28,7 @@ le_or (negsuc m) (pos n) = inr (omega (arith, ints))
 le_or (negsuc m) (negsuc n) = elim (cases_lt m n) as (λ _. (negsuc n ≤ℤ negsuc m) ⊎ (negsuc m ≤ℤ negsuc n)) [ inl l ↦ inl (omega (arith, ints)) | inr l ↦ inr (omega (arith, ints)) ]
 
 -- the greater of two numbers is the one that is not below the other
-max_sides : (a b : ℤ) → ((b ≤ℤ a) × (int_max a b ≡ a)) ⊎ ((a ≤ℤ b) × (int_max a b ≡ b))
+pub max_sides : (a b : ℤ) → ((b ≤ℤ a) × (int_max a b ≡ a)) ⊎ ((a ≤ℤ b) × (int_max a b ≡ b))
 max_sides a b = by (le_or a b)
   where
     by : (b ≤ℤ a) ⊎ (a ≤ℤ b) → ((b ≤ℤ a) × (int_max a b ≡ a)) ⊎ ((a ≤ℤ b) × (int_max a b ≡ b))

@@ -28,16 +28,16 @@ use Rattle.optra_open.proofs.TestLemmas.{start_tested, leg_tested}
 
 module _ {R : Type 0} (cmp : R → R → Ordering) (net : Net) (proper : IsProper net) (rows : Rows R) (used : TypeId → Leg → List R) (lists : (kind : TypeId) (leg : Leg) → IsUsable net kind leg → ListsRows cmp rows.is_row (rows.uses kind leg) (used kind leg))
     (bids : List Bid) (node : List Decision) (prices : PriceList R) (number : ℕ) (bid : Bid) where
-  abbrev weights : Weights
+  abbrev pub weights : Weights
   weights = leaf_weights net rows used bids node number prices bid.path.kind
 
-  open_allowed : (legs : List Leg) → IsOpenWalk weights net bid.path legs → IsAllowed net rows bids node number bid legs
+  pub open_allowed : (legs : List Leg) → IsOpenWalk weights net bid.path legs → IsAllowed net rows bids node number bid legs
   open_allowed legs is =
       let usable = walk_usable net proper bid legs is.walk in
       passes_allowed net proper rows bids node number bid legs is.walk
       ((start_tested node number (first_departure legs)).0 is.start, λ k d l. (leg_tested net bid.path.kind cmp rows used bids node number (get_or legs k d) (lists bid.path.kind (get_or legs k d) (usable k d l))).0 (is.each k d l))
 
-  allowed_open : (legs : List Leg) → IsAllowed net rows bids node number bid legs → IsOpenWalk weights net bid.path legs
+  pub allowed_open : (legs : List Leg) → IsAllowed net rows bids node number bid legs → IsOpenWalk weights net bid.path legs
   allowed_open legs is =
       let usable = walk_usable net proper bid legs is.walk in
       let t = tests_pass net proper rows bids node number bid legs is.walk is in

@@ -31,7 +31,7 @@ fn advance_each<F: RowFamily>(
 
 /// Advances the best walks of all bids to the open node, so that they serve all nodes below it.
 /// `NoMemory` is its only refusal.
-pub(crate) fn advance_all<F: RowFamily>(
+pub fn advance_all<F: RowFamily>(
     alloc: Global,
     node: &OpenNode<'_, F>,
     walks: &mut [BestOnWay],
@@ -47,11 +47,7 @@ pub(crate) fn advance_all<F: RowFamily>(
 }
 
 /// Turns the best walks of all bids from the open node to that of so many first decisions.
-pub(crate) fn turn_back_all<F: RowFamily>(
-    node: &OpenNode<'_, F>,
-    walks: &mut [BestOnWay],
-    depth: usize,
-)
+pub fn turn_back_all<F: RowFamily>(node: &OpenNode<'_, F>, walks: &mut [BestOnWay], depth: usize)
     requires depth { depth ≤ length node.now.node }
     requires walks { AreAllBestAt F.rows_of F.rows_used node.now walks.old }
     ensures { AreAllBest node.now.net (F.rows_of node.now.family node.now.net)

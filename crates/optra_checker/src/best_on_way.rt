@@ -25,7 +25,7 @@ use std::alloc::Global;
 
 /// The best walks of a bid at nodes on the way to the one that is open, the nearest last.
 #[derive(Drop)]
-pub(crate) struct BestOnWay {
+pub struct BestOnWay {
     kept: Vec<BestWalk>,
     /// So many first decisions of the open node are known to allow the legs of the last one.
     allowed_depth: usize,
@@ -219,7 +219,7 @@ impl BestOnWay {
     }
 
     /// As [`BestOnWay::advance`], at the prices.
-    pub(crate) fn advance_at<F: RowFamily>(
+    pub fn advance_at<F: RowFamily>(
         &mut self,
         alloc: Global,
         node: &OpenNode<'_, F>,

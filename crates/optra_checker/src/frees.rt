@@ -72,7 +72,7 @@ fn find_free<F: RowFamily>(
 }
 
 /// The best walks of all bids at the root, which has no decision. `NoMemory` is its only refusal.
-pub(crate) fn find_frees<F: RowFamily>(
+pub fn find_frees<F: RowFamily>(
     alloc: Global,
     inst: Instance<'_>,
     rows: &F,

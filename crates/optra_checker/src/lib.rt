@@ -34,8 +34,12 @@ mod pricing;
 mod splitting;
 mod terms;
 
+pub use all_best::{advance_all, turn_back_all};
+pub use best_on_way::BestOnWay;
 pub use checking::check;
+pub use frees::find_frees;
 pub use laws::verdict_is_one;
+pub use terms::offer_of;
 
 /// What a check says of a certificate.
 #[derive(Clone, Copy, Debug, PartialEq, Eq)]

@@ -32,7 +32,7 @@ fn or_zero(best: Option<i128>) -> i128
 /// The greatest offer to a bid at the node and prices, in thousandths of a cent, by what the best
 /// walk is worth that the node allows: the greatest reduced value of its allowed walks, and zero
 /// where it has no yes leg. `None` exactly where it has a yes leg and no allowed walk.
-pub(crate) fn offer_of<F: RowFamily>(
+pub fn offer_of<F: RowFamily>(
     node: &OpenNode<'_, F>,
     prices: &[(F::Row, i64)],
     bid: u32,
