@@ -1,28 +1,31 @@
 -- What is known of a house that was opened, and what each moment of an opening leaves.
 use Rattle.std.proofs.Common.{◌≡◌, inl, inr, ⊎_elim, ℕ, ◌+◌, ◌<◌, ◌≤◌, Bool, true, false, cond, List, [], ◌∷◌, ◌++◌, length, nat_eq, nat_lt, nat_le, ◌&&◌, Option, Some, None, refl, sym, ap, subst, ◌∙◌, arith, length-append, ne_eqb}
-use Rattle.std.specs.Int.{to_be_bytes, w64}
-use Rattle.std.specs.Prelude.{Err, Ok, Result, is_none, is_some}
+use Rattle.std.specs.Int.{to_be_bytes, w32, w64}
+use Rattle.std.specs.List.{fold}
+use Rattle.std.specs.Prelude.{ℤ, IfSome, Err, Ok, Result, map, if◌then◌else◌, is_none, is_some, unwrap_or}
 use Rattle.std.proofs.lemmas.Bool.{cases_lt, le-ltb}
-use Rattle.optra_house.specs.declared.stamp.Stamp.{Stamp}
 use Rattle.optra_house.specs.Payloads.{part_bytes, stamp_payload}
-use Rattle.optra_house.specs.Stamps.{payload_of, stamped_size}
+use Rattle.optra_house.specs.Stamps.{Stamp, payload_of, stamped_size}
 use Rattle.std.specs.Option.{option_and_then, option_map_or}
 use Rattle.std.proofs.lemmas.Bool.Decides.{nat_tests}
 use Rattle.optra_outside.specs.Disk.{File, Moment, after_sync}
 use Rattle.optra_bid.specs.declared.bids.Bid.{Bid}
-use Rattle.optra_auction.specs.Machine.{State, opened}
+use Rattle.optra_auction.specs.Machine.{State, after_all, after_round, is_last_round, opened, rested, with_values}
+use Rattle.optra_auction.proofs.ActLemmas.{acts_keep}
 use Rattle.optra_auction.specs.declared.Rules.{Rules}
 use Rattle.optra_network.specs.Refusals.{first_of}
 use Rattle.optra_house.specs.declared.refusals.OpenError.{OpenError}
 use Rattle.optra_house.specs.declared.refusals.OpenError.TheVariants.{NotAJournal, Full, Disk, NoMemory}
 use Rattle.optra_house.specs.declared.fields.Unread.{Unread}
 use Rattle.optra_house.specs.declared.fields.Unread.TheVariants as unread
-use Rattle.optra_house.specs.Answers.{FollowsOpenRule, has_no_entry, of_unread, open_refusal}
+use Rattle.optra_house.specs.Answers.{FollowsOpenRule, has_no_entry, of_unread, open_refusal, opened_gate}
 use Rattle.optra_house.specs.Entries.{entries, most_bytes, payloads_of}
 use Rattle.optra_house.specs.Journal.{HasEntries, HasBeforeOrAfter, IsSettled}
 use Rattle.optra_house.specs.Ledger.{IsAtRest}
 use Rattle.optra_outside.specs.Moments.{LeavesOnly}
-use Rattle.optra_house.specs.Replay.{opens_as, replayed}
+use Rattle.optra_house.specs.Payloads.{Posting}
+use Rattle.optra_house.specs.Reading.{round_of}
+use Rattle.optra_house.specs.Replay.{after_payload, after_payloads, after_posting, after_round_entry, may_follow, opens_as, replayed}
 use Rattle.optra_house.specs.Replayed.{IsEmpty, IsFound, IsReplayed}
 use Rattle.optra_outside.proofs.Moments.{started, wider}
 use Rattle.optra_house.proofs.PostLemmas.{opens_empty, opens_with}
@@ -42,7 +45,7 @@ length-stamp bids stops rules =
 
 -- a journal with the stamp alone has the payload, and 14 bytes more
 stamped_is : (stamp : Stamp) → stamped_size stamp ≡ 14 + length (payload_of stamp)
-stamped_is stamp = omega (arith, length-stamp stamp.bids.items stamp.stops.items stamp.rules.items)
+stamped_is stamp = omega (arith, length-stamp stamp.bids stamp.stops stamp.rules)
 
 module _ (stamp : Stamp) (specs : List Bid) (rules : Rules) (file : List ℕ) where
   -- ---- why a file isn't opened
@@ -176,6 +179,72 @@ rests_begun stamp specs rules now gate moment settled same is = record {
   settled = record { laid_out = settled.laid_out; stands = same ∙ settled.stands; synced = settled.synced };
   state = ap (λ (s : State). Some s) (sym is);
 }
+
+-- ---- the specifications of an auction that was replayed
+
+round_specs : (s : State) (values : List (Option ℤ)) → (after_round s values).specs ≡ s.specs
+round_specs s values = by (is_last_round s)
+  where
+    by : (b : Bool) → (if b then record s { standing = with_values s.standing values; closed = true } else record s { standing = map rested (with_values s.standing values); round = s.round + 1; moved = false }).specs ≡ s.specs
+    by true = refl
+    by false = refl
+
+posting_specs : (s : State) (posting : Posting) → (after_posting s posting).specs ≡ s.specs
+posting_specs s posting = round_specs (after_all s posting.acts) posting.values ∙ (acts_keep s posting.acts).specs
+
+entry_specs : (s t : State) (posting : Option Posting) → option_and_then (after_round_entry s) posting ≡ Some t → t.specs ≡ s.specs
+entry_specs s t None is = absurd cc
+entry_specs s t (Some posting) is = by (may_follow s posting) is
+  where
+    by : (b : Bool) → cond b (Some (after_posting s posting)) None ≡ Some t → t.specs ≡ s.specs
+    by true is = let same : after_posting s posting ≡ t = cc in ap (λ (x : State). x.specs) (sym same) ∙ posting_specs s posting
+    by false is = absurd cc
+
+payload_specs : (s t : State) (payload : List ℕ) → after_payload (Some s) payload ≡ Some t → t.specs ≡ s.specs
+unfolding after_payload
+payload_specs s t payload is = entry_specs s t (round_of payload) is
+
+none_stays : (payloads : List (List ℕ)) → fold after_payload None payloads ≡ None
+unfolding after_payload
+none_stays [] = refl
+none_stays (payload ∷ payloads) = none_stays payloads
+
+step_specs : (s t : State) (payload : List ℕ) → t.specs ≡ s.specs → (o : Option State) → after_payload (Some t) payload ≡ o → IfSome o (λ (x : State). x.specs ≡ s.specs)
+step_specs s t payload same None e = tt
+step_specs s t payload same (Some x) e = payload_specs t x payload e ∙ same
+
+going_specs : (s now : State) (payloads : List (List ℕ)) (o : Option State) → IfSome o (λ (x : State). x.specs ≡ s.specs) → fold after_payload o payloads ≡ Some now → now.specs ≡ s.specs
+going_specs s now [] None same is = absurd cc
+going_specs s now [] (Some t) same is = let here : t ≡ now = cc in ap (λ (x : State). x.specs) (sym here) ∙ same
+going_specs s now (payload ∷ payloads) None same is = let no : None ≡ Some now = sym (none_stays (payload ∷ payloads)) ∙ is in absurd cc
+going_specs s now (payload ∷ payloads) (Some t) same is = going_specs s now payloads (after_payload (Some t) payload) (step_specs s t payload same (after_payload (Some t) payload) refl) is
+
+replayed_specs : (s now : State) (payloads : List (List ℕ)) → after_payloads s payloads ≡ Some now → now.specs ≡ s.specs
+replayed_specs s now payloads is = going_specs s now payloads (Some s) refl is
+
+-- what is found in a file leaves them as they are
+pub found_specs : (stamp file : List ℕ) (old now : State) (place : Option ℕ) → IsFound stamp file old now (Ok place) → now.specs ≡ old.specs
+found_specs stamp file old now None is = ap (λ (x : State). x.specs) is.state
+found_specs stamp file old now (Some place) is = replayed_specs old now is.rounds is.state
+
+-- ---- the last gate of a house that was opened
+
+-- where there are these payloads, the last gate stands behind them, or behind the stamp where there is none
+abbrev gate_of : Stamp → Option (List (List ℕ)) → ℕ
+gate_of stamp found = length (entries (if option_map_or (λ payloads. nat_eq (length payloads) 0) found false then payload_of stamp ∷ [] else unwrap_or found []))
+
+pub gate_found : (stamp : Stamp) (file : List ℕ) (old now : State) (place : ℕ) → IsReplayed (payload_of stamp) file old now place → place ≡ opened_gate stamp file
+gate_found stamp file old now place is =
+    let some : nat_eq (length (payload_of stamp ∷ is.rounds)) 0 ≡ false = ne_eqb (length (payload_of stamp ∷ is.rounds)) 0 (λ none. absurd (omega (arith, none))) in
+    is.place_is
+    ∙ ap (λ (b : Bool). length (entries (cond b (payload_of stamp ∷ []) (payload_of stamp ∷ is.rounds)))) (sym some)
+    ∙ ap (gate_of stamp) (sym is.found)
+
+pub gate_begun : (stamp : Stamp) (file : List ℕ) → payloads_of file ≡ Some [] → 13 + length (payload_of stamp) ≡ opened_gate stamp file
+gate_begun stamp file none = begun ∙ ap (gate_of stamp) (sym none)
+  where
+    begun : 13 + length (payload_of stamp) ≡ length (entries (payload_of stamp ∷ []))
+    begun = omega (arith, length-append (to_be_bytes w32 (length (payload_of stamp))) (payload_of stamp), length-append (1 ∷ (to_be_bytes w32 (length (payload_of stamp)) ++ payload_of stamp)) [])
 
 -- a stamp that is put leaves a file that opens as it did
 pub begun_leaves : (stamp payload : List ℕ) (specs : List Bid) (rules : Rules) (old read new : File) → payload ≡ stamp → read ≡ after_sync old → HasEntries [] old.now.bytes → LeavesOnly read new (HasBeforeOrAfter [] payload)

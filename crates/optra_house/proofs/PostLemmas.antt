@@ -1,5 +1,5 @@
 -- What a round makes of an auction, and of the bids that are planned in it.
-use Rattle.std.proofs.Common.{◌≡◌, ◌≢◌, ℕ, ℤ, ◌+◌, ◌*◌, ◌^◌, ◌<◌, ◌≤◌, Bool, true, false, cond, not, List, [], ◌∷◌, ◌++◌, length, map, nat_eq, ◌&&◌, ◌||◌, inl, inr, Option, Some, None, refl, sym, ap, ◌∙◌, length-append, arith, eq-eqb, ne_eqb}
+use Rattle.std.proofs.Common.{◌≡◌, ◌≢◌, ℕ, ℤ, ◌+◌, ◌*◌, ◌^◌, ◌<◌, ◌≤◌, Bool, true, false, cond, not, List, [], ◌∷◌, ◌++◌, length, map, nat_eq, ◌&&◌, ◌||◌, inl, inr, Option, Some, None, refl, sym, ap, subst, ◌∙◌, length-append, arith, eq-eqb, ne_eqb}
 use Rattle.std.specs.Prelude.{◌↔◌, IsTrue, Result, Err}
 use Rattle.std.specs.Int.{to_be_bytes, w16, w32}
 use Rattle.std.specs.List.{cons_option, filter_map, flat_map, fold, AllByRecursion}
@@ -9,7 +9,7 @@ use Rattle.std.proofs.lemmas.Bool.Decides.{nat_tests}
 use Rattle.std.proofs.lemmas.List.Elements.{All-from_recursion}
 use Rattle.std.proofs.lemmas.Slice.Eq.{bytes_eq-Decides}
 use Rattle.optra_bid.specs.declared.bids.Bid.{Bid}
-use Rattle.optra_auction.specs.Machine.{Offer, Standing, State, after_all, after_round, offer_of, opened, planned_of}
+use Rattle.optra_auction.specs.Machine.{ArePlanned, Offer, Standing, State, after_all, after_round, offer_of, opened, planned_of}
 use Rattle.optra_auction.specs.declared.Act.{Act}
 use Rattle.optra_auction.specs.declared.Rules.{Rules}
 use Rattle.optra_outside.specs.declared.disks.DiskError.{DiskError}
@@ -23,7 +23,7 @@ use Rattle.optra_house.specs.declared.fields.Unread.{Unread}
 use Rattle.optra_house.specs.declared.fields.Unread.TheVariants as errors
 use Rattle.optra_house.specs.Reading.{Fails, round_of}
 use Rattle.optra_house.specs.Replayed.{Steps}
-use Rattle.optra_house.specs.Replay.{after_payload, after_payloads, after_planned, after_posting, after_round_entry, may_follow, opens_as, replayed}
+use Rattle.optra_house.specs.Replay.{IsPlannedRound, WasAsked, after_payload, after_payloads, after_posting, after_round_entry, may_follow, opens_as, replayed}
 use Rattle.optra_house.proofs.AgainLemmas.{round_again}
 
 -- ---- planned bids
@@ -184,7 +184,19 @@ fault_kept T disk_errors.Failed refused = refused
 fault_kept T disk_errors.NoMemory refused = refused
 
 -- what the payload is read as, of the auction as it was handed in
-pub reads_as : (values : List Offer → List (Option ℤ)) (acts : List Act) (before here now : State) (payload bytes : List ℕ) → here ≡ before → bytes ≡ payload → after_payload (Some here) payload ≡ Some now → now ≡ after_planned values here acts
-    → after_payload (Some before) bytes ≡ Some (after_planned values before acts)
-reads_as values acts before here now payload bytes same is read planned =
-    ap (λ (s : State). after_payload (Some s) bytes) (sym same) ∙ ap (after_payload (Some here)) is ∙ read ∙ ap (λ (s : State). Some s) (planned ∙ ap (λ (s : State). after_planned values s acts) same)
+pub reads_as : (before here now : State) (payload bytes : List ℕ) → here ≡ before → bytes ≡ payload → after_payload (Some here) payload ≡ Some now → after_payload (Some before) bytes ≡ Some now
+reads_as before here now payload bytes same is read = ap (λ (s : State). after_payload (Some s) bytes) (sym same) ∙ ap (after_payload (Some here)) is ∙ read
+
+-- the round of an auction as it was handed in
+pub planned_as : (Means : List Offer → List (Option ℤ) → Type 0) (acts : List Act) (before here next : State) → here ≡ before → IsPlannedRound Means here acts next → IsPlannedRound Means before acts next
+planned_as Means acts before here next same is = subst (λ (s : State). IsPlannedRound Means s acts next) same is
+
+-- ---- the bids that a planner was asked for
+
+some_offers : (bids : List Bid) → map Some (map offer_of bids) ≡ map (λ (bid : Bid). Some (offer_of bid)) bids
+some_offers [] = refl
+some_offers (bid ∷ bids) = ap (λ (os : List (Option Offer)). Some (offer_of bid) ∷ os) (some_offers bids)
+
+-- asked for the standing bids as they are planned, it was asked for their offers
+pub was_asked : {P : Type 0} (After : List Offer → P → Type 0) (s : State) (planner : P) (bids : List Bid) → ArePlanned s bids → After (map offer_of bids) planner → WasAsked After s planner
+was_asked After s planner bids planned after = (map offer_of bids, some_offers bids ∙ planned, after)

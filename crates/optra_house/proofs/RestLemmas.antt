@@ -25,8 +25,8 @@ module _ (stamp : List ℕ) (specs : List Bid) (rules : Rules) (house : Ledger) 
 
 module _ (stamp : List ℕ) (specs : List Bid) (rules : Rules) (house : Ledger) (old : File) (rest : IsAtRest stamp specs rules house old.now) where
   -- before the round is appended a crash leaves the auction before it
-  pub rest_leaves : (next : State) → LeavesOnly old old (OpensAsEither stamp specs rules house.auction next)
-  rest_leaves next = started old (OpensAsEither stamp specs rules house.auction next) (λ image left.
+  pub rest_leaves : (IsAfter : State → Type 0) → LeavesOnly old old (OpensAsEither stamp specs rules house.auction IsAfter)
+  rest_leaves IsAfter = started old (OpensAsEither stamp specs rules house.auction IsAfter) (λ image left.
       inl (opens_with stamp specs rules rest.rounds house.auction image rest.state
       (reads_back (stamp ∷ rest.rounds) image (subst (IsLaidOut (stamp ∷ rest.rounds)) (sym (stays old.now image rest.settled.synced left)) rest.settled.laid_out))))
 
@@ -36,9 +36,9 @@ module _ (stamp : List ℕ) (specs : List Bid) (rules : Rules) (house : Ledger) 
     opens_after image has = opens_with stamp specs rules (rest.rounds ++ payload ∷ []) next image (after_one_more _ house.auction next rest.rounds payload rest.state goes) has
 
     -- while it is appended a crash leaves the auction before it or after it
-    pub append_leaves : (new : File) → LeavesOnly old new (HasBeforeOrAfter (stamp ∷ rest.rounds) payload) → LeavesOnly old new (OpensAsEither stamp specs rules house.auction next)
-    append_leaves new run = wider old new (HasBeforeOrAfter (stamp ∷ rest.rounds) payload) (OpensAsEither stamp specs rules house.auction next) run (λ image either.
-        ⊎_elim (λ before. inl (opens_with stamp specs rules rest.rounds house.auction image rest.state before)) (λ after. inr (opens_after image after)) either)
+    pub append_leaves : (IsAfter : State → Type 0) → IsAfter next → (new : File) → LeavesOnly old new (HasBeforeOrAfter (stamp ∷ rest.rounds) payload) → LeavesOnly old new (OpensAsEither stamp specs rules house.auction IsAfter)
+    append_leaves IsAfter is_after new run = wider old new (HasBeforeOrAfter (stamp ∷ rest.rounds) payload) (OpensAsEither stamp specs rules house.auction IsAfter) run (λ image either.
+        ⊎_elim (λ before. inl (opens_with stamp specs rules rest.rounds house.auction image rest.state before)) (λ after. inr (next, is_after, opens_after image after)) either)
 
     -- and the journal rests again
     pub rests_again : (place : ℕ) (moment : Moment) → IsSettled ((stamp ∷ rest.rounds) ++ payload ∷ []) place moment → IsAtRest stamp specs rules (record { auction = next; gate = place }) moment

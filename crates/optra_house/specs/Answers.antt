@@ -1,5 +1,5 @@
 -- When a journal isn't opened.
-use Rattle.std.specs.Prelude.{◌≡◌, ◌⊎◌, ℕ, Bool, false, List, [], ◌∷◌, length, nat_eq, nat_lt, ◌&&◌, is_none, Option, None, Some, Result, Ok, Err, ⊤}
+use Rattle.std.specs.Prelude.{◌≡◌, ◌⊎◌, ℕ, Bool, false, List, [], ◌∷◌, length, nat_eq, nat_lt, ◌&&◌, if◌then◌else◌, is_none, unwrap_or, Option, None, Some, Result, Ok, Err, ⊤}
 use Rattle.std.specs.Option.{option_map_or}
 use Rattle.optra_network.specs.Refusals.{first_of}
 use Rattle.optra_bid.specs.declared.bids.Bid.{Bid}
@@ -10,10 +10,9 @@ use Rattle.optra_house.specs.declared.fields.Unread.{Unread}
 use Rattle.optra_house.specs.declared.fields.Unread.TheVariants as unread
 use Rattle.optra_house.specs.declared.refusals.OpenError.{OpenError}
 use Rattle.optra_house.specs.declared.refusals.OpenError.TheVariants.{NotAJournal, Full, Disk, NoMemory}
-use Rattle.optra_house.specs.Entries.{most_bytes, payloads_of}
+use Rattle.optra_house.specs.Entries.{entries, most_bytes, payloads_of}
 use Rattle.optra_house.specs.Replay.{opens_as}
-use Rattle.optra_house.specs.Stamps.{payload_of, stamped_size}
-use Rattle.optra_house.specs.declared.stamp.Stamp.{Stamp}
+use Rattle.optra_house.specs.Stamps.{Stamp, payload_of, stamped_size}
 use Rattle.optra_outside.specs.Disk.{File, after_sync}
 
 -- the file's entries are none, so that the stamp is to be appended
@@ -27,6 +26,14 @@ open_refusal stamp specs rules file =
     (is_none (opens_as (payload_of stamp) specs rules file), NotAJournal)
     ∷ (has_no_entry file && nat_lt most_bytes (stamped_size stamp), Full)
     ∷ [])
+
+-- the payloads of a file's entries once it is opened with this stamp: the stamp stands where there was none
+abbrev pub opened_payloads : Stamp → List ℕ → List (List ℕ)
+opened_payloads stamp file = if has_no_entry file then payload_of stamp ∷ [] else unwrap_or (payloads_of file) []
+
+-- the place of the last gate of a file that is opened with this stamp
+abbrev pub opened_gate : Stamp → List ℕ → ℕ
+opened_gate stamp file = length (entries (opened_payloads stamp file))
 
 -- between success and the refusals, the answer is the one of the rule
 abbrev pub FollowsOpenRule : {T : Type 0} → Option OpenError → Result T OpenError → Type 0

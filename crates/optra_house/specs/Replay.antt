@@ -1,5 +1,5 @@
 -- What the entries of a journal make of an auction.
-use Rattle.std.specs.Prelude.{ℕ, ℤ, Bool, not, nat_eq, bytes_eq, ◌&&◌, if◌then◌else◌, List, [], ◌∷◌, length, Option, Some, None}
+use Rattle.std.specs.Prelude.{◌≡◌, ℕ, ℤ, Bool, not, nat_eq, bytes_eq, ◌&&◌, if◌then◌else◌, List, [], ◌∷◌, length, map, Option, Some, None}
 use Rattle.std.specs.List.{fold, filter_map}
 use Rattle.std.specs.Option.{option_and_then}
 use Rattle.optra_bid.specs.declared.bids.Bid.{Bid}
@@ -20,9 +20,15 @@ offers_of s = filter_map (planned_of s.specs) s.standing
 abbrev pub after_posting : State → Posting → State
 after_posting s posting = after_round (after_all s posting.acts) posting.values
 
--- the auction after a round of these actions, with the values that a planner means for the bids that stand then
-abbrev pub after_planned : (List Offer → List (Option ℤ)) → State → List Act → State
-after_planned values s acts = after_round (after_all s acts) (values (offers_of (after_all s acts)))
+-- The auction after a round of these actions, with values that a planner means for the bids that stand then.
+pub record IsPlannedRound (Means : List Offer → List (Option ℤ) → Type 0) (s : State) (acts : List Act) (next : State) : Type 0 where
+  pub values : List (Option ℤ)
+  pub meant : Means (offers_of (after_all s acts)) values
+  pub next_is : next ≡ after_round (after_all s acts) values
+
+-- the planner has answered for the bids that stand, as they are planned
+abbrev pub WasAsked : {P : Type 0} → (List Offer → P → Type 0) → State → P → Type 0
+WasAsked After s planner = (offers : List Offer) × (map Some offers ≡ map (planned_of s.specs) s.standing) × After offers planner
 
 -- the round may follow: the auction is open, the round is the one that it is in, and it has a value for each bid that
 -- stands after its actions

@@ -4,9 +4,9 @@ ghost use Rattle.std.specs.Prelude.{ℤ};
 ghost use Rattle.std.specs.List.{AllByRecursion};
 ghost use Rattle.optra_bid.specs.Specs.{Path};
 ghost use Rattle.optra_bid.specs.declared.bids.Bid.{Bid};
-ghost use Rattle.optra_auction.specs.Machine.{HasAmount, IsAuction, Offer, refusals_of};
+ghost use Rattle.optra_auction.specs.Machine.{HasAmount, IsAuction, Offer, after_all, refusals_of};
 ghost use Rattle.optra_house.specs.Payloads.{AreValues, IsSpelled, head_bytes};
-ghost use Rattle.optra_house.specs.Replay.{after_payload, after_planned, offers_of};
+ghost use Rattle.optra_house.specs.Replay.{IsPlannedRound, WasAsked, after_payload, offers_of};
 
 use crate::payloads::put_values;
 use crate::rounds::Rounds;
@@ -30,12 +30,15 @@ pub(crate) fn close_round<P: Rounds>(
     requires head { payload.old.items ≡ head_bytes auction.old.round acts.items }
     requires paths { All (λ (spec : Bid). P.takes planner.old spec.path) auction.old.specs }
 
-    ensures state { OnOk result (auction.new
-        ≡ after_planned (P.values_of planner.old) auction.old acts.items) }
+    ensures state { OnOk result (IsPlannedRound (P.Means planner.old) auction.old acts.items
+        auction.new) }
+    ensures asked { OnOk result (WasAsked (P.After planner.old) (after_all auction.old
+        acts.items) planner.new) }
     ensures outcomes { IfOk result (λ outcomes. outcomes.items
         ≡ refusals_of auction.old acts.items) }
-    ensures same_values { (bids : List Offer) → P.values_of planner.new bids
-        ≡ P.values_of planner.old bids }
+    ensures same_values { (bids : List Offer) (values : List (Option ℤ))
+        → (P.Means planner.old bids values → P.Means planner.new bids values)
+        × (P.Means planner.new bids values → P.Means planner.old bids values) }
     ensures same_paths { (path : Path)
         → (P.takes planner.old path → P.takes planner.new path)
         × (P.takes planner.new path → P.takes planner.old path) }
@@ -59,12 +62,14 @@ fn values_of<P: Rounds>(
     planner: &mut P,
 ) -> Result<Vec<Option<Cents>>, NoMemory>
     requires { All (λ (spec : Bid). P.takes planner.old spec.path) auction.now.specs }
-    ensures values { IfOk result (λ values. values.items ≡ P.values_of planner.old
-        (offers_of auction.now)) }
+    ensures values { IfOk result (λ values. P.Means planner.old (offers_of auction.now)
+        values.items) }
+    ensures asked { OnOk result (WasAsked (P.After planner.old) auction.now planner.new) }
     ensures each { IfOk result (λ values. AreValues (length auction.now.standing) values.items) }
     ensures auction { IsAuction auction.now }
-    ensures same_values { (bids : List Offer) → P.values_of planner.new bids
-        ≡ P.values_of planner.old bids }
+    ensures same_values { (bids : List Offer) (values : List (Option ℤ))
+        → (P.Means planner.old bids values → P.Means planner.new bids values)
+        × (P.Means planner.new bids values → P.Means planner.old bids values) }
     ensures same_paths { (path : Path)
         → (P.takes planner.old path → P.takes planner.new path)
         × (P.takes planner.new path → P.takes planner.old path) }

@@ -5,18 +5,18 @@ ghost use Rattle.std.specs.List.{AllByRecursion};
 ghost use Rattle.optra_outside.specs.Disk.{HasCause, IsSynced, KeepsFile, Leaves, MayLeave, SameChosen, after_sync};
 ghost use Rattle.optra_bid.specs.Specs.{Path};
 ghost use Rattle.optra_bid.specs.declared.bids.Bid.{Bid};
-ghost use Rattle.optra_auction.specs.Machine.{AreRules, AreSpecs, HasAmount, Offer, refusals_of};
+ghost use Rattle.optra_auction.specs.Machine.{AreRules, AreSpecs, HasAmount, Offer, after_all, refusals_of};
 ghost use Rattle.optra_auction.specs.declared.Rules.{Rules};
 ghost use Rattle.optra_house.specs.declared.refusals.OpenError.TheVariants as opening;
 ghost use Rattle.optra_house.specs.declared.refusals.PostError.TheVariants as posting;
-ghost use Rattle.optra_house.specs.Answers.{FollowsOpenRule, IsUnwritten, open_refusal};
+ghost use Rattle.optra_house.specs.Answers.{FollowsOpenRule, IsUnwritten, open_refusal, opened_gate};
 ghost use Rattle.optra_house.specs.Entries.{most_bytes};
 ghost use Rattle.optra_house.specs.Journal.{HasBeforeOrAfter, IsSettled};
 ghost use Rattle.optra_house.specs.Ledger.{IsAtRest, OpensAsEither};
 ghost use Rattle.optra_outside.specs.Moments.{LeavesOnly};
 ghost use Rattle.optra_house.specs.Payloads.{AreValues};
 ghost use Rattle.optra_house.specs.PostAnswers.{FollowsPostRule, IsRefusal};
-ghost use Rattle.optra_house.specs.Replay.{after_planned, offers_of, opens_as};
+ghost use Rattle.optra_house.specs.Replay.{IsPlannedRound, WasAsked, offers_of, opens_as};
 ghost use Rattle.optra_house.specs.Stamps.{payload_of};
 
 use crate::closing::close_round;
@@ -88,6 +88,8 @@ impl House {
         ensures cause { IsErrOf result OpenError.Disk → HasCause (D.state disk.old)
             (D.state disk.new) }
 
+        ensures specs { IfOk result (λ house. house.auction.specs ≡ specs.items) }
+
         // Where the disk tells, the answer is the one of the rule, and the house is the auction as which the file opens.
         ensures rule { (D.state disk.old).tells ≡ true
             → FollowsOpenRule
@@ -95,6 +97,8 @@ impl House {
         ensures state { (D.state disk.old).tells ≡ true → IfOk result
             (λ house. opens_as (payload_of stamp.now) specs.items rules
             (D.state disk.old).file.now.bytes ≡ Some house.auction) }
+        ensures gate { (D.state disk.old).tells ≡ true → IfOk result
+            (λ house. house.gate ≡ opened_gate stamp.now (D.state disk.old).file.now.bytes) }
         ensures at_rest { (D.state disk.old).tells ≡ true → IfOk result
             (λ house. IsAtRest (payload_of stamp.now) specs.items rules house
             (D.state disk.new).file.now) }
@@ -146,8 +150,9 @@ impl House {
         ensures same { SameChosen (D.state disk.old) (D.state disk.new) }
         ensures cause { IsErrOf result PostError.Disk → HasCause (D.state disk.old)
             (D.state disk.new) }
-        ensures same_values { (bids : List Offer) → P.values_of planner.new bids
-            ≡ P.values_of planner.old bids }
+        ensures same_values { (bids : List Offer) (values : List (Option ℤ))
+            → (P.Means planner.old bids values → P.Means planner.new bids values)
+            × (P.Means planner.new bids values → P.Means planner.old bids values) }
         ensures same_paths { (path : Path)
             → (P.takes planner.old path → P.takes planner.new path)
             × (P.takes planner.new path → P.takes planner.old path) }
@@ -156,9 +161,12 @@ impl House {
         ensures rule { FollowsPostRule self round acts.items result }
         ensures refused { IsRefusal result → D.state disk.new ≡ D.state disk.old }
 
-        // The auction is the one after the actions, the planner's values and the close of the round.
-        ensures state { IfOk result (λ posted. posted.house.auction
-            ≡ after_planned (P.values_of planner.old) self.auction acts.items) }
+        // The auction is the one after the actions, the values that the planner means for the bids that stand then, and the close of
+        // the round. The planner was asked for these bids alone.
+        ensures state { IfOk result (λ posted. IsPlannedRound (P.Means planner.old) self.auction
+            acts.items posted.house.auction) }
+        ensures asked { OnOk result (WasAsked (P.After planner.old) (after_all self.auction
+            acts.items) planner.new) }
         ensures outcomes { IfOk result (λ posted. posted.outcomes.items
             ≡ refusals_of self.auction acts.items) }
         ensures at_rest { (D.state disk.old).tells ≡ true → IfOk result
@@ -167,20 +175,19 @@ impl House {
             → IsAtRest stamp specs rules posted.house (D.state disk.new).file.now) }
 
         // After `Ok` each crash leaves a file that opens as the auction with this round.
-        ensures acknowledged { OnOk result ((D.state disk.old).tells ≡ true
+        ensures acknowledged { IfOk result (λ posted. (D.state disk.old).tells ≡ true
             → (stamp : List ℕ) (specs : List Bid) (rules : Rules)
             → IsAtRest stamp specs rules self (D.state disk.old).file.now
             → (image : List ℕ) → MayLeave (D.state disk.new).file.now image
-            → opens_as stamp specs rules image
-            ≡ Some (after_planned (P.values_of planner.old) self.auction acts.items)) }
+            → opens_as stamp specs rules image ≡ Some posted.house.auction) }
 
         // A crash at any moment of the call leaves a file that opens as the auction before this round or after it.
         ensures any_moment { (D.state disk.old).tells ≡ true
             → (stamp : List ℕ) (specs : List Bid) (rules : Rules)
             → IsAtRest stamp specs rules self (D.state disk.old).file.now
             → LeavesOnly (D.state disk.old).file (D.state disk.new).file
-            (OpensAsEither stamp specs rules self.auction
-            (after_planned (P.values_of planner.old) self.auction acts.items)) }
+            (OpensAsEither stamp specs rules self.auction (IsPlannedRound (P.Means planner.old)
+            self.auction acts.items)) }
     {
         if self.auction.closed() || self.auction.round() != round {
             return Err(PostError::RoundOrder(self));

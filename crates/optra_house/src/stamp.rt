@@ -1,9 +1,11 @@
 //! What tells one auction from another.
 ghost use Rattle.std.specs.Prelude.{◌≡◌, ◌++◌, length, IfOk, OnOk};
-ghost use Rattle.optra_house.specs.Payloads.{part_bytes, stamp_payload};
+ghost use Rattle.optra_house.specs.Payloads.{part_bytes};
+ghost use Rattle.optra_house.specs.Stamps.{payload_of};
 
 use optra_network::NoMemory;
 use std::alloc::Global;
+use std::marker::Model;
 
 /// What a journal is opened with: the bytes that its auction was made from. A journal is opened again only with the same ones.
 #[derive(Drop)]
@@ -13,12 +15,19 @@ pub struct Stamp {
     pub rules: Vec<u8>,
 }
 
+impl Model for Stamp {
+    ghost use Rattle.optra_house.specs.Stamps as stamps;
+
+    ghost Value = { stamps.Stamp };
+
+    ghost view = { λ a. record { bids = a.bids.items; stops = a.stops.items; rules = a.rules.items } };
+}
+
 impl Stamp {
     /// The payload of its entry.
     #[tactic(auto, unfolding(crate::specs::Payloads::stamp_payload))]
     pub(crate) fn payload(&self, alloc: Global) -> Result<Vec<u8>, NoMemory>
-        ensures { IfOk result (λ bytes. bytes.items
-            ≡ stamp_payload self.now.bids.items self.now.stops.items self.now.rules.items) }
+        ensures { IfOk result (λ bytes. bytes.items ≡ payload_of self.now) }
     {
         let mut bytes = Vec::new(alloc);
         bytes.push(STAMP)?;

@@ -3,6 +3,6 @@ pub mod PlanLemmas
 pub mod AmountLemmas
 mod PlayLemmas
 mod RoundLemmas
-pub mod BidLemmas
 mod CountLemmas
 pub mod OnePlayLemmas
+mod HouseLemmas

@@ -13,10 +13,10 @@ use Rattle.optra_auction.specs.declared.Rules.{Rules}
 use Rattle.optra_rounds.specs.Rounds.{acts_of, after_acts}
 use Rattle.optra_search.specs.Planner.{IsPlainPlan}
 use Rattle.optra_tables.specs.declared.TimedAct.{TimedAct}
-use Rattle.optra_play.specs.FamilyOf.{FamilyOf}
+use Rattle.optra_verdict.specs.FamilyOf.{FamilyOf}
 use Rattle.optra_play.specs.OnePlay.{OnePlay, OnePlayedOut}
 use Rattle.optra_play.specs.Play.{AreDifferent, IsPlayStatus, IsPlayed, Played, Plays, acted, closed_by, last_text, paths_of, play_files, round_budget, round_steps, rounds_text}
-use Rattle.optra_play.proofs.BidLemmas.{bids-from_offers}
+use Rattle.optra_verdict.proofs.BidLemmas.{bids-from_offers}
 use Rattle.optra_play.proofs.CountLemmas.{length-le_from_among}
 
 -- ---- the bids of a round

@@ -20,7 +20,7 @@ use Rattle.optra_tables.specs.Actions.{AreActions, IsRound}
 use Rattle.optra_tables.specs.declared.TimedAct.{TimedAct}
 use Rattle.optra_text.specs.RoundTexts.{close_records, round_records}
 use Rattle.optra_walk.specs.Families.{Entry}
-use Rattle.optra_play.specs.FamilyOf.{FamilyOf}
+use Rattle.optra_verdict.specs.FamilyOf.{FamilyOf}
 use Rattle.optra_play.specs.Play.{IsPlayStatus, IsPlayed, IsPlayedOut, Played, Plays, acted, acts_in, closed_by, paths_of, play_files, round_files, round_of, rounds_text, rows_late}
 use Rattle.optra_play.specs.Playing.{HasGap, IsBegun, IsFinished, IsPlayedSo, IsRoundPlayed, acts_from, acts_left, files_where, gap_after, play_status, rounds_left, seen_after}
 use Rattle.optra_play.specs.Certificates.{certificate_of}

@@ -6,7 +6,7 @@ use Rattle.optra_walk.specs.Families.{Entry}
 use Rattle.optra_auction.specs.Machine.{State}
 use Rattle.optra_auction.specs.declared.Rules.{Rules}
 use Rattle.optra_tables.specs.declared.TimedAct.{TimedAct}
-use Rattle.optra_play.specs.FamilyOf.{FamilyOf}
+use Rattle.optra_verdict.specs.FamilyOf.{FamilyOf}
 use Rattle.optra_play.specs.Play.{IsPlay, IsPlayedOut, Played}
 
 -- two plays of these specifications, rules and actions have the same rounds, and end in the same state

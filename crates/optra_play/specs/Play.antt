@@ -20,7 +20,7 @@ use Rattle.optra_search.specs.Planner.{Planned}
 use Rattle.optra_tables.specs.Written.{bids_table, parts, stops_table}
 use Rattle.optra_tables.specs.declared.TimedAct.{TimedAct}
 use Rattle.optra_text.specs.RoundTexts.{Round, close_records, round_records}
-use Rattle.optra_play.specs.FamilyOf.{FamilyOf}
+use Rattle.optra_verdict.specs.FamilyOf.{FamilyOf}
 use Rattle.optra_play.specs.Certificates.{certificate_of}
 use Rattle.optra_play.specs.Plans.{IsPlanOf}
 use Rattle.optra_frame.specs.Statuses.{optimal_status, gap_status}

@@ -17,7 +17,7 @@ use Rattle.optra_tables.specs.declared.TimedAct.{TimedAct}
 use Rattle.optra_text.specs.RoundTexts.{close_records, round_records}
 use Rattle.optra_walk.specs.Families.{Entry}
 use Rattle.optra_walk.specs.declared.Leg.{Leg}
-use Rattle.optra_play.specs.FamilyOf.{FamilyOf}
+use Rattle.optra_verdict.specs.FamilyOf.{FamilyOf}
 use Rattle.optra_play.specs.Play.{Played, Plays, acted, closed_by, files_named, paths_of, play_files, round_budget, round_of, round_steps, rounds_text, rows_late}
 use Rattle.optra_play.specs.Certificates.{certificate_of}
 use Rattle.optra_play.specs.Plans.{IsPlanOf}

@@ -1,7 +1,8 @@
 //! The plan of some bids by a family of rows: by itself, and where the rows state the rule.
 ghost use Rattle.std.specs.Prelude.{◌≡◌, ◌⊎◌, ◌≤◌, map, true, All, Contains, IfOk, OnOk};
 ghost use Rattle.optra_search.specs.Plans.{IsCertifiedPlan};
-ghost use Rattle.optra_play.specs.Plans.{IsPlanOf, TellsConflicts};
+ghost use Rattle.optra_verdict.specs.Promises.{TellsConflicts};
+ghost use Rattle.optra_play.specs.Plans.{IsPlanOf};
 
 use crate::family_repairer::FamilyRepairer;
 use optra_graph::{FreshGraphs, Graphs};

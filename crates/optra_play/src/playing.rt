@@ -14,7 +14,8 @@ ghost use Rattle.optra_rounds.specs.Rounds.{standing_specs};
 ghost use Rattle.optra_tables.specs.Actions.{AreActions};
 ghost use Rattle.optra_text.specs.RoundTexts.{round_records};
 ghost use Rattle.optra_play.specs.Play.{IsPlayedOut, files_named, round_budget, round_steps};
-ghost use Rattle.optra_play.specs.Plans.{IsPlanOf, TellsConflicts};
+ghost use Rattle.optra_verdict.specs.Promises.{TellsConflicts};
+ghost use Rattle.optra_play.specs.Plans.{IsPlanOf};
 ghost use Rattle.optra_play.specs.Playing.{IsBegun, IsFinished, IsRoundClosed, IsRoundPlayed, IsRoundTaken, IsShut, files_where, play_status};
 ghost use Rattle.optra_frame.specs.Puts.{texts_of};
 
@@ -26,7 +27,7 @@ use optra_cert::{Certificate, RowText, valid_is_writable, write_certificate};
 use optra_frame::{Answer, FileText, statuses};
 use optra_network::{Network, NoMemory};
 use optra_reuse::GraphStore;
-use optra_rounds::{close_of, spec_names, standing_specs, take_actions, values_of};
+use optra_rounds::{close_of, rows_of, spec_names, standing_specs, take_actions, values_of};
 use optra_search::{Limits, Plan};
 use optra_tables::{TimedAct, bids_text, stops_text};
 use optra_text::{PathText, PlanView, RoundView, round_text};
@@ -349,7 +350,8 @@ fn finish(alloc: Global, playing: &mut Playing<'_>) -> Result<Answer, NoMemory>
     ensures { IfOk result (λ answer. IsFinished playing.old answer) }
 {
     let bids = playing.auction.standing_bids(alloc)?;
-    let last = close_of(alloc, &playing.auction, &bids, &playing.left)?;
+    let late = rows_of(alloc, &playing.left)?;
+    let last = close_of(alloc, &playing.auction, &bids, &late)?;
     playing.text.extend_from_slice(&last)?;
     let text = mem::replace(&mut playing.text, Vec::new(alloc));
     let puts = mem::replace(&mut playing.puts, Vec::new(alloc));
@@ -358,7 +360,7 @@ fn finish(alloc: Global, playing: &mut Playing<'_>) -> Result<Answer, NoMemory>
 }
 
 /// The status of an auction, by whether the plan of a round has a gap.
-fn status(has_gap: bool) -> u8
+pub(crate) fn status(has_gap: bool) -> u8
     ensures { result ≡ play_status has_gap }
 {
     if has_gap {

@@ -1,34 +1,31 @@
 //! What is printed after the last round.
-ghost use Rattle.std.specs.Prelude.{◌≡◌, ◌<◌, length, map, slice_get, option_map, Some, None, IfOk};
+ghost use Rattle.std.specs.Prelude.{◌≡◌, ◌<◌, length, slice_get, option_map, Some, None, IfOk};
 ghost use Rattle.optra_auction.specs.Machine.{ArePlanned, Standing};
 ghost use Rattle.optra_rounds.specs.Rounds.{awards_of, award_of};
 ghost use Rattle.optra_records.specs.Texts.{records_text};
 ghost use Rattle.optra_text.specs.RoundTexts.{close_records};
 
-use crate::actions::rows_of;
 use optra_auction::Auction;
 use optra_bid::Bid;
 use optra_network::NoMemory;
-use optra_tables::TimedAct;
 use optra_text::{Award, CloseView, close_text};
 use std::alloc::Global;
 
-/// The text after the last round of an auction, where these are its standing bids as they are planned, and the actions of later
-/// rounds.
+/// The text after the last round of an auction, where these are its standing bids as they are planned, and the rows of the actions of
+/// later rounds.
 pub fn close_of(
     alloc: Global,
     auction: &Auction,
     bids: &[Bid],
-    late: &[TimedAct],
+    late: &[u32],
 ) -> Result<Vec<u8>, NoMemory>
     requires { ArePlanned auction.now bids.now }
     ensures { IfOk result (λ text. text.items
         ≡ records_text
         (close_records
         (record
-        { round = auction.now.round; late = map (λ a. a.row) late.now; awards = awards_of auction.now.standing }))) }
+        { round = auction.now.round; late = late.now; awards = awards_of auction.now.standing }))) }
 {
-    let late = rows_of(alloc, late)?;
     let mut awards = Vec::new(alloc);
     let count = auction.count();
     'bids: for place in 0..count {
@@ -44,7 +41,7 @@ pub fn close_of(
     }
     let view = CloseView {
         round: auction.round(),
-        late: &late,
+        late,
         awards: &awards,
     };
     close_text(alloc, view)

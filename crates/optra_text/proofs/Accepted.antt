@@ -9,7 +9,7 @@ use Rattle.clap.specs.declared.parser.matches.ArgMatches.{ArgMatches}
 use Rattle.clap.proofs.OnLiterals.{clap_on_literals}
 use Rattle.optra_text.specs.declared.words.WordsError.{WordsError}
 use Rattle.optra_text.specs.declared.words.WordsError.TheVariants as errors
-use Rattle.optra_text.specs.CommandForms.{IsSimple, Word, auction_app, audit_app, check_app, compress_app, pay_app, plan_app, rows_given, demo_app}
+use Rattle.optra_text.specs.CommandForms.{IsSimple, Word, auction_app, audit_app, check_app, compress_app, house_app, pay_app, plan_app, rows_given, demo_app}
 use Rattle.optra_text.specs.Words.{IsErrorOf, IsUsage}
 
 pub plan_is_simple : IsSimple plan_app
@@ -35,6 +35,10 @@ check_is_simple = record { simple = refl; free = refl }
 pub auction_is_simple : IsSimple auction_app
 unfolding clap_on_literals
 auction_is_simple = record { simple = refl; free = refl }
+
+pub house_is_simple : IsSimple house_app
+unfolding clap_on_literals
+house_is_simple = record { simple = refl; free = refl }
 
 pub demo_is_simple : IsSimple demo_app
 unfolding clap_on_literals

@@ -10,3 +10,5 @@ pub mod TrainsTold
 pub mod PlanTold
 pub mod Accepted
 pub mod DemoPieces
+pub mod EvidenceForm
+pub mod EvidenceLemmas

@@ -61,6 +61,11 @@ abbrev pub auction_app : App
 auction_app = with_rule (with_rule (with_rule (tables_app (codes "auction"))
     (option_rule (codes "rules") true)) (option_rule (codes "actions") true)) (option_rule (codes "certs") false)
 
+-- house --net DIR --bids FILE --stops FILE --rules FILE --actions FILE --journal FILE
+abbrev pub house_app : App
+house_app = with_rule (with_rule (with_rule (tables_app (codes "house"))
+    (option_rule (codes "rules") true)) (option_rule (codes "actions") true)) (option_rule (codes "journal") true)
+
 -- demo SEED SIZE
 abbrev pub demo_app : App
 demo_app = with_rule (with_rule (bare_app (codes "demo")) (value_rule (codes "seed"))) (value_rule (codes "size"))

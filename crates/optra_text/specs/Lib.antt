@@ -9,6 +9,8 @@ pub mod Ranges
 pub mod Words
 pub mod VerdictTexts
 pub mod DemoTexts
+pub mod EvidenceTexts
+pub mod EvidenceWords
 pub mod AuditTexts
 pub mod PaymentTexts
 pub mod CompressedTexts

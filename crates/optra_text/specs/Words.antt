@@ -5,10 +5,10 @@ use Rattle.clap.specs.Words.{Row, first_of}
 use Rattle.clap.specs.declared.error.kind.ErrorKind.{ErrorKind}
 use Rattle.clap.specs.declared.error.kind.ErrorKind.TheVariants as kind
 use Rattle.optra_records.specs.Numbers.{number_of}
-use Rattle.optra_text.specs.CommandForms.{Word, rows_given, plan_app, check_app, auction_app, demo_app, audit_app, pay_app, compress_app}
+use Rattle.optra_text.specs.CommandForms.{Word, rows_given, plan_app, check_app, auction_app, demo_app, audit_app, pay_app, house_app, compress_app}
 use Rattle.optra_text.specs.declared.words.TablePaths.{TablePaths}
 use Rattle.optra_text.specs.declared.words.Words.{Words}
-use Rattle.optra_text.specs.declared.words.Words.TheVariants.{Plan, Check, Auction, Demo, Audit, Pay, Compress}
+use Rattle.optra_text.specs.declared.words.Words.TheVariants.{Plan, Check, Auction, Demo, Audit, Pay, House, Compress}
 use Rattle.optra_text.specs.declared.words.WordsError.{WordsError}
 use Rattle.optra_text.specs.declared.words.WordsError.TheVariants as errors
 
@@ -122,6 +122,16 @@ pay_words words = do
   budget ← budget_of rows
   Some (Pay tables.net tables.bids tables.stops steps budget)
 
+-- what the words behind `house` ask for
+unfoldable pub house_words : List Word → Option Words
+house_words words = do
+  rows ← rows_given house_app words
+  tables ← tables_given rows
+  rules ← needed_path (first_of (codes "rules") rows)
+  actions ← needed_path (first_of (codes "actions") rows)
+  journal ← needed_path (first_of (codes "journal") rows)
+  Some (House tables.net tables.bids tables.stops rules actions journal)
+
 -- what the words behind `compress` ask for
 unfoldable pub compress_words : List Word → Option Words
 compress_words words = do
@@ -140,7 +150,8 @@ words_of (command ∷ words) =
     if bytes_eq command (codes "demo") then demo_words words else (
     if bytes_eq command (codes "audit") then audit_words words else (
     if bytes_eq command (codes "pay") then pay_words words else (
-    if bytes_eq command (codes "compress") then compress_words words else None))))))
+    if bytes_eq command (codes "house") then house_words words else (
+    if bytes_eq command (codes "compress") then compress_words words else None)))))))
 
 -- ---- answers
 

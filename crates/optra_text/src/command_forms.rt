@@ -1,7 +1,7 @@
 //! The commands, as `clap` knows them.
 ghost use Rattle.std.specs.Prelude.{◌≡◌, IfOk, false};
 ghost use Rattle.clap.specs.Words.{app_of, rule_of, with_rule};
-ghost use Rattle.optra_text.specs.CommandForms.{auction_app, audit_app, bare_app, check_app, compress_app, option_rule, pay_app, plan_app, tables_app, demo_app, value_rule};
+ghost use Rattle.optra_text.specs.CommandForms.{auction_app, audit_app, bare_app, check_app, compress_app, house_app, option_rule, pay_app, plan_app, tables_app, demo_app, value_rule};
 
 use clap::{Arg, ArgAction, Command};
 use std::alloc::{AllocError, Global};
@@ -65,6 +65,17 @@ pub fn auction_command<'a>(alloc: Global) -> Result<Command<'a>, AllocError>
     Ok(command)
 }
 
+/// house --net DIR --bids FILE --stops FILE --rules FILE --actions FILE --journal FILE
+pub fn house_command<'a>(alloc: Global) -> Result<Command<'a>, AllocError>
+    ensures { IfOk result (λ command. app_of command ≡ house_app) }
+{
+    let command = tables_command(alloc, "house")?;
+    let command = with_option(alloc, command, "rules", true)?;
+    let command = with_option(alloc, command, "actions", true)?;
+    let command = with_option(alloc, command, "journal", true)?;
+    Ok(command)
+}
+
 /// demo SEED SIZE
 pub fn demo_command<'a>(alloc: Global) -> Result<Command<'a>, AllocError>
     ensures { IfOk result (λ command. app_of command ≡ demo_app) }
@@ -76,7 +87,7 @@ pub fn demo_command<'a>(alloc: Global) -> Result<Command<'a>, AllocError>
 }
 
 /// A command that needs the network's folder, the bids and the stops.
-fn tables_command<'a>(alloc: Global, name: &'a str) -> Result<Command<'a>, AllocError>
+pub(crate) fn tables_command<'a>(alloc: Global, name: &'a str) -> Result<Command<'a>, AllocError>
     ensures { IfOk result (λ command. app_of command ≡ tables_app name.entry.now) }
 {
     let command = bare_command(alloc, name);
@@ -97,7 +108,7 @@ fn bare_command<'a>(alloc: Global, name: &'a str) -> Command<'a>
 }
 
 /// The command with one more option, which takes one value and is given at most once.
-fn with_option<'a>(
+pub(crate) fn with_option<'a>(
     alloc: Global,
     command: Command<'a>,
     name: &'a str,

@@ -12,7 +12,7 @@ use optra_outside::{Pen, PenFailed};
 use optra_tables::{Kind, Table, TableFault};
 
 /// The command forms of the program `optra`, as its usage line shows them.
-pub const FORMS: &str = "optra plan|check|auction|demo|audit|pay|compress";
+pub const FORMS: &str = "optra plan|check|auction|demo|audit|pay|house|compress";
 
 /// What ended a command, as its line shows it.
 #[derive(Clone, Copy)]

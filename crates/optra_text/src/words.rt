@@ -3,12 +3,12 @@ ghost use Rattle.std.specs.Prelude.{◌≡◌, ◌≤◌, map, string_bytes, opt
 ghost use Rattle.clap.specs.Words.{app_of, first_of, found_of, rows_of};
 ghost use Rattle.optra_text.specs.CommandForms.{IsSimple, rows_given};
 ghost use Rattle.optra_text.specs.Ranges.{HasRanges};
-ghost use Rattle.optra_text.specs.Words.{IsErrorOf, Reads, auction_words, audit_words, check_words, compress_words, is_path, needed_path, number_or, number_within, optional_path, pay_words, plan_words, tables_given, words_of, demo_words, needed_number};
+ghost use Rattle.optra_text.specs.Words.{IsErrorOf, Reads, auction_words, audit_words, check_words, compress_words, house_words, is_path, needed_path, number_or, number_within, optional_path, pay_words, plan_words, tables_given, words_of, demo_words, needed_number};
 ghost use Rattle.optra_text.specs.declared.words.WordsError.TheVariants.{NoMemory};
 
 use crate::command_forms::{
-    auction_command, audit_command, check_command, compress_command, demo_command, pay_command,
-    plan_command,
+    auction_command, audit_command, check_command, compress_command, demo_command, house_command,
+    pay_command, plan_command,
 };
 use crate::path_text::PathText;
 use clap::error::ErrorKind;
@@ -21,7 +21,7 @@ const LONGEST_PATH: usize = 4096;
 /// How many price steps are made at a node where `--steps` isn't given, and the most that can be asked for.
 const DEFAULT_STEPS: u64 = 40;
 
-const MOST_STEPS: u64 = 1000;
+pub(crate) const MOST_STEPS: u64 = 1000;
 /// How many nodes are taken where `--budget` isn't given, and the most that can be asked for.
 const DEFAULT_BUDGET: u64 = 200;
 
@@ -107,6 +107,21 @@ pub enum Words {
         /// The most nodes of each search: 1 to 10,000, and 200 where it isn't given.
         budget: u64,
     },
+    /// house --net DIR --bids FILE --stops FILE --rules FILE --actions FILE --journal FILE
+    House {
+        /// The folder of the network's tables.
+        net: PathText,
+        /// The table of specifications.
+        bids: PathText,
+        /// The table of their stops.
+        stops: PathText,
+        /// The table of rules.
+        rules: PathText,
+        /// The table of actions.
+        actions: PathText,
+        /// The journal of the auction, which is made where there is none.
+        journal: PathText,
+    },
     /// compress --net DIR --bids FILE --stops FILE --times FILE
     Compress {
         /// The folder of the network's tables.
@@ -156,6 +171,7 @@ pub fn read_words(alloc: Global, words: &[String]) -> Result<Words, WordsError>
         "demo" => read_demo(alloc, options),
         "audit" => read_audit(alloc, options),
         "pay" => read_pay(alloc, options),
+        "house" => read_house(alloc, options),
         "compress" => read_compress(alloc, options),
         _ => Err(WordsError::Usage),
     }
@@ -273,6 +289,27 @@ fn read_auction(alloc: Global, words: &[String]) -> Result<Words, WordsError>
     })
 }
 
+/// What the words behind `house` ask for.
+#[tactic(auto, unfolding(crate::specs::Words::house_words))]
+fn read_house(alloc: Global, words: &[String]) -> Result<Words, WordsError>
+    ensures read { Reads (λ read. read) result (house_words (map string_bytes words.now)) }
+    ensures budget { IfOk result HasRanges }
+{
+    let matches = matches_of(house_command(alloc)?, words)?;
+    let TablePaths { net, bids, stops } = tables_given(alloc, &matches)?;
+    let rules = path_of(alloc, given(&matches, "rules"))?;
+    let actions = path_of(alloc, given(&matches, "actions"))?;
+    let journal = path_of(alloc, given(&matches, "journal"))?;
+    Ok(Words::House {
+        net,
+        bids,
+        stops,
+        rules,
+        actions,
+        journal,
+    })
+}
+
 /// What the words behind `demo` ask for.
 #[tactic(auto, unfolding(crate::specs::Words::demo_words))]
 fn read_demo(alloc: Global, words: &[String]) -> Result<Words, WordsError>
@@ -290,14 +327,17 @@ fn read_demo(alloc: Global, words: &[String]) -> Result<Words, WordsError>
 
 /// The paths of the tables, which every command over tables requires.
 #[derive(Drop)]
-struct TablePaths {
-    net: PathText,
-    bids: PathText,
-    stops: PathText,
+pub(crate) struct TablePaths {
+    pub(crate) net: PathText,
+    pub(crate) bids: PathText,
+    pub(crate) stops: PathText,
 }
 
 /// The network's folder, the bids and the stops.
-fn tables_given(alloc: Global, matches: &ArgMatches<'_>) -> Result<TablePaths, WordsError>
+pub(crate) fn tables_given(
+    alloc: Global,
+    matches: &ArgMatches<'_>,
+) -> Result<TablePaths, WordsError>
     ensures { Reads (λ tables. tables) result (tables_given (rows_of (found_of matches.now))) }
 {
     let net = path_of(alloc, given(matches, "net"))?;
@@ -307,7 +347,10 @@ fn tables_given(alloc: Global, matches: &ArgMatches<'_>) -> Result<TablePaths, W
 }
 
 /// What `clap` finds in the words of a command.
-fn matches_of<'a>(command: Command<'a>, words: &'a [String]) -> Result<ArgMatches<'a>, WordsError>
+pub(crate) fn matches_of<'a>(
+    command: Command<'a>,
+    words: &'a [String],
+) -> Result<ArgMatches<'a>, WordsError>
     requires { IsSimple (app_of command) }
     ensures { Reads (λ m. rows_of (found_of m)) result (rows_given (app_of command.entry)
         (map string_bytes words.entry.now)) }
@@ -329,7 +372,7 @@ fn refusal(kind: ErrorKind) -> WordsError
 }
 
 /// The value of an option.
-fn given<'a>(matches: &ArgMatches<'a>, name: &str) -> Option<&'a str>
+pub(crate) fn given<'a>(matches: &ArgMatches<'a>, name: &str) -> Option<&'a str>
     ensures { option_map (λ text. text.now) result
         ≡ first_of name.now (rows_of (found_of matches.now)) }
 {
@@ -337,7 +380,7 @@ fn given<'a>(matches: &ArgMatches<'a>, name: &str) -> Option<&'a str>
 }
 
 /// The path of an option that is required.
-fn path_of(alloc: Global, given: Option<&str>) -> Result<PathText, WordsError>
+pub(crate) fn path_of(alloc: Global, given: Option<&str>) -> Result<PathText, WordsError>
     ensures { Reads (λ path. path) result
         (needed_path (option_map (λ text. text.now) given.entry)) }
 {
@@ -367,7 +410,12 @@ fn is_path(text: &str) -> bool
 }
 
 /// The number of an option that has a default.
-fn number_or(default: u64, least: u64, most: u64, given: Option<&str>) -> Result<u64, WordsError>
+pub(crate) fn number_or(
+    default: u64,
+    least: u64,
+    most: u64,
+    given: Option<&str>,
+) -> Result<u64, WordsError>
     requires low { least ≤ default }
     requires high { default ≤ most }
     ensures read { Reads (λ n. n) result (number_or default least most

@@ -2,15 +2,15 @@
 use Rattle.std.proofs.Common.{◌≡◌, ℕ, List, Option, sym, ◌∙◌, subst}
 use Rattle.optra_bid.specs.declared.bids.Bid.{Bid}
 use Rattle.optra_walk.specs.Families.{Entry}
-use Rattle.optra_play.specs.FamilyOf.{FamilyOf}
+use Rattle.optra_verdict.specs.FamilyOf.{FamilyOf}
 use Rattle.optra_play.specs.Play.{IsPlayedOut}
-use Rattle.optra_play.proofs.BidLemmas.{bids-from_offers}
+use Rattle.optra_verdict.proofs.BidLemmas.{bids-from_offers}
 use Rattle.optra_play.proofs.OnePlayLemmas.{one_played_out}
 use Rattle.optra_frame.specs.declared.version.Version.{Version}
 use Rattle.optra_frame.specs.declared.version.Version.TheVariants as versions
 use Rattle.optra_top.specs.AuctionCommand.{AuctionTables, PrintsPlay}
 use Rattle.optra_top.specs.AuctionLaws.{OneTablesPlay}
-use Rattle.optra_top.specs.Families.{KeepsAllRules, OfVersion, all_family, headway_family}
+use Rattle.optra_verdict.specs.Families.{KeepsAllRules, OfVersion, all_family, headway_family}
 use Rattle.optra_rows.specs.Headways.{KeepsHeadwayRule}
 
 module _ {R : Type 0} (family : FamilyOf R) (Keeps : List Entry → Type 0) (certs : Option (List ℕ)) (tables : AuctionTables) where

@@ -12,11 +12,11 @@ use Rattle.optra_rows.specs.declared.HRow.{HRow}
 use Rattle.optra_search.specs.Planner.{Planned}
 use Rattle.optra_text.specs.declared.verdicts.VerdictView.{VerdictView}
 use Rattle.optra_text.specs.declared.verdicts.VerdictView.TheVariants.{Yes}
-use Rattle.optra_top.specs.CheckCommand.{IsVerdictOn}
-use Rattle.optra_top.specs.Families.{headway_family}
+use Rattle.optra_verdict.specs.VerdictsOn.{IsVerdictOn}
+use Rattle.optra_verdict.specs.Families.{headway_family}
 use Rattle.optra_play.specs.Certificates.{certificate_of}
 use Rattle.optra_play.specs.Plans.{IsPlanOf}
-use Rattle.optra_top.proofs.VerdictLemmas.{verdict-yes}
+use Rattle.optra_verdict.proofs.VerdictLemmas.{verdict-yes}
 
 -- the verdict on the text of a plan's certificate is Yes, with the plan's numbers
 pub plan-confirmed : (net : Net) (bids : List Bid) → TextTellsCert row_cmp headway_texts net (length bids) → TextHasNoFault row_cmp headway_texts net (length bids)
@@ -31,4 +31,4 @@ plan-confirmed net bids tells faultless steps budget plan bytes verdict is writa
       writable = writable;
       text = text;
     } in
-    verdict-yes (headway_family net) (KeepsHeadwayRule net) net bids tells faultless (omega arith) bytes (certificate_of plan) verdict is_text is.plan_is.certified.valid found
+    verdict-yes (headway_family net) (KeepsHeadwayRule net) net bids tells faultless bytes (certificate_of plan) verdict is_text is.plan_is.certified.valid found

@@ -6,7 +6,7 @@ use Rattle.optra_text.specs.Ranges.{HasRanges}
 use Rattle.optra_text.specs.Words.{IsUsage, words_of}
 use Rattle.optra_text.specs.declared.faults.TheConstants.{FORMS}
 use Rattle.optra_text.specs.declared.words.Words.{Words}
-use Rattle.optra_text.specs.declared.words.Words.TheVariants.{Plan, Check, Auction, Demo, Audit, Pay, Compress}
+use Rattle.optra_text.specs.declared.words.Words.TheVariants.{Plan, Check, Auction, Demo, Audit, Pay, House, Compress}
 use Rattle.optra_text.specs.declared.words.WordsError.{WordsError}
 use Rattle.optra_text.specs.declared.words.WordsError.TheVariants as errors
 use Rattle.optra_frame.specs.Commands.{AsksAnd, IfAsks, asks}
@@ -61,4 +61,5 @@ numbers-read (Auction net bids stops rules actions certs) is = (lit≤ tt, lit�
 numbers-read (Demo seed size) is = (lit≤ tt, is.0, is.1)
 numbers-read (Audit net bids stops times) is = (lit≤ tt, lit≤ tt, lit≤ tt)
 numbers-read (Pay net bids stops steps budget) is = (is, lit≤ tt, lit≤ tt)
+numbers-read (House net bids stops rules actions journal) is = (lit≤ tt, lit≤ tt, lit≤ tt)
 numbers-read (Compress net bids stops times) is = (lit≤ tt, lit≤ tt, lit≤ tt)

@@ -2,14 +2,11 @@
 mod EntryLemmas
 mod StatusLemmas
 mod TimedLemmas
-mod FamilyLemmas
-mod RuleLemmas
 mod DecidedFacts
 mod FiniteLists
 mod PairLemmas
 mod TextLemmas
-mod VerdictLemmas
-mod OneVerdictLemmas
+mod ConfirmLemmas
 mod NetsWritten
 mod DemoNames
 mod DemoNets
@@ -18,3 +15,4 @@ mod DemoMeans
 mod DemoLemmas
 mod AuctionTables
 mod AuctionLemmas
+mod HouseCommandLemmas

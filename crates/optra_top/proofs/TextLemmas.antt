@@ -9,13 +9,13 @@ use Rattle.optra_search.specs.Laws.{OnePlan}
 use Rattle.optra_top.specs.PlanCommand.{PlanAsked, PrintsPlan, IsStatusOf, certificate_puts}
 use Rattle.optra_play.specs.Certificates.{certificate_of}
 use Rattle.optra_top.specs.PlanLaws.{HasOneText, OneText}
-use Rattle.optra_top.specs.Families.{KeepsAllRules, all_family, headway_family}
-use Rattle.optra_play.specs.FamilyOf.{FamilyOf}
+use Rattle.optra_verdict.specs.Families.{KeepsAllRules, all_family, headway_family}
+use Rattle.optra_verdict.specs.FamilyOf.{FamilyOf}
 use Rattle.optra_rows.specs.Headways.{KeepsHeadwayRule}
 use Rattle.optra_frame.specs.declared.version.Version.TheVariants as versions
 use Rattle.optra_tables.specs.Bids.{parts_of}
 use Rattle.optra_walk.specs.Families.{Entry}
-use Rattle.optra_play.proofs.BidLemmas.{bids-from_offers}
+use Rattle.optra_verdict.proofs.BidLemmas.{bids-from_offers}
 
 -- a plan has one status
 one_status : (revenue bound : ℤ) (a b : ℕ) → IsStatusOf revenue bound a → IsStatusOf revenue bound b → a ≡ b

@@ -11,8 +11,8 @@ use Rattle.optra_tables.specs.declared.Table.TheVariants.{Rules, Actions}
 use Rattle.optra_tables.specs.declared.TableFault.{TableFault}
 use Rattle.optra_tables.specs.declared.TimedAct.{TimedAct}
 use Rattle.optra_frame.specs.declared.files.Role.TheVariants as roles
-use Rattle.optra_top.specs.Families.{OfVersion}
-use Rattle.optra_play.specs.FamilyOf.{FamilyOf}
+use Rattle.optra_verdict.specs.Families.{OfVersion}
+use Rattle.optra_verdict.specs.FamilyOf.{FamilyOf}
 use Rattle.optra_frame.specs.Files.{Contents, File}
 use Rattle.optra_play.specs.Play.{IsPlayedOut}
 use Rattle.optra_frame.specs.Replies.{Reply}

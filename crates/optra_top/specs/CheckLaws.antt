@@ -6,9 +6,9 @@ use Rattle.optra_tables.specs.Bids.{parts_of}
 use Rattle.optra_text.specs.VerdictTexts.{verdict_text_of}
 use Rattle.optra_text.specs.declared.verdicts.VerdictView.TheVariants.{Yes}
 use Rattle.optra_walk.specs.Families.{Entry}
-use Rattle.optra_top.specs.CheckCommand.{PrintsVerdict}
-use Rattle.optra_top.specs.Families.{OfVersion}
-use Rattle.optra_play.specs.FamilyOf.{FamilyOf}
+use Rattle.optra_verdict.specs.CheckCommand.{PrintsVerdict}
+use Rattle.optra_verdict.specs.Families.{OfVersion}
+use Rattle.optra_verdict.specs.FamilyOf.{FamilyOf}
 use Rattle.optra_top.specs.PlanCommand.{PlanAsked, PrintsPlan}
 use Rattle.optra_frame.specs.Statuses.{valid_status}
 use Rattle.optra_frame.specs.declared.version.Version.{Version}

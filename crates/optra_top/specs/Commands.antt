@@ -1,19 +1,20 @@
 -- The commands: which words ask for one, which files each gets, and what it may reply to their contents. A command more
 -- is an arm more in each definition here.
-use Rattle.std.specs.Prelude.{◌≡◌, ◌⊎◌, ℕ, List, Option, None, Some, map, String, string_bytes, Result, Ok, Err}
+use Rattle.std.specs.Prelude.{◌≡◌, ◌⊎◌, ℕ, List, Option, None, Some, map, String, string_bytes, Result, Ok, Err, ⊤}
 use Rattle.std.specs.declared.alloc.Global.{Global}
 use Rattle.optra_outside.specs.Disk.{DiskState}
 use Rattle.optra_text.specs.Words.{words_of}
 use Rattle.optra_text.specs.declared.words.Words.{Words}
-use Rattle.optra_text.specs.declared.words.Words.TheVariants.{Plan, Check, Auction, Demo, Audit, Pay, Compress}
+use Rattle.optra_text.specs.declared.words.Words.TheVariants.{Plan, Check, Auction, Demo, Audit, Pay, House, Compress}
 use Rattle.optra_text.specs.declared.faults.TheConstants.{FORMS}
 use Rattle.optra_frame.specs.Commands.{Meaning, Request, asks, no_form}
 use Rattle.optra_top.specs.AuctionCommand.{AuctionReplies, next_auction_file}
 use Rattle.optra_top.specs.AuditCommand.{AuditReplies}
 use Rattle.optra_top.specs.CompressCommand.{CompressReplies}
+use Rattle.optra_top.specs.HouseCommand.{HouseReplies}
 use Rattle.optra_top.specs.PayCommand.{PayReplies}
 use Rattle.optra_top.specs.TimetableRead.{next_times_file}
-use Rattle.optra_top.specs.CheckCommand.{CheckReplies, next_check_file}
+use Rattle.optra_verdict.specs.CheckCommand.{CheckReplies, next_check_file}
 use Rattle.optra_top.specs.DemoCommand.{DemoReplies}
 use Rattle.optra_frame.specs.Files.{File, Contents}
 use Rattle.optra_top.specs.PlanCommand.{PlanReplies}
@@ -33,6 +34,7 @@ next_file (Auction net bids stops rules actions certs) contents = next_auction_f
 next_file (Demo seed size) contents = None
 next_file (Audit net bids stops times) contents = next_times_file net bids stops times contents
 next_file (Pay net bids stops steps budget) contents = next_table_file net bids stops contents
+next_file (House net bids stops rules actions journal) contents = next_auction_file net bids stops rules actions contents
 next_file (Compress net bids stops times) contents = next_times_file net bids stops times contents
 
 -- what it may reply to the contents of its files, with the disk before and after
@@ -43,6 +45,7 @@ MayReply (Auction net bids stops rules actions certs) contents before now reply 
 MayReply (Demo seed size) contents before now reply = DemoReplies seed size reply
 MayReply (Audit net bids stops times) contents before now reply = AuditReplies contents reply
 MayReply (Pay net bids stops steps budget) contents before now reply = PayReplies (record { steps = steps; budget = budget }) contents reply
+MayReply (House net bids stops rules actions journal) contents before now reply = HouseReplies journal contents before now reply
 MayReply (Compress net bids stops times) contents before now reply = CompressReplies contents reply
 
 -- the statuses of one that did its work
@@ -53,6 +56,7 @@ IsDoneStatus (Auction net bids stops rules actions certs) status = (status ≡ o
 IsDoneStatus (Demo seed size) status = (status ≡ optimal_status) ⊎ (status ≡ gap_status)
 IsDoneStatus (Audit net bids stops times) status = (status ≡ faultless_status) ⊎ (status ≡ faulty_status)
 IsDoneStatus (Pay net bids stops steps budget) status = (status ≡ optimal_status) ⊎ (status ≡ gap_status)
+IsDoneStatus (House net bids stops rules actions journal) status = (status ≡ optimal_status) ⊎ (status ≡ gap_status)
 IsDoneStatus (Compress net bids stops times) status = (status ≡ faultless_status) ⊎ (status ≡ faulty_status)
 
 -- whether it calls the disk
@@ -63,6 +67,7 @@ UsesDisk (Auction net bids stops rules actions certs) = ⊥
 UsesDisk (Demo seed size) = ⊥
 UsesDisk (Audit net bids stops times) = ⊥
 UsesDisk (Pay net bids stops steps budget) = ⊥
+UsesDisk (House net bids stops rules actions journal) = ⊤
 UsesDisk (Compress net bids stops times) = ⊥
 
 -- what it is, as a command of a program

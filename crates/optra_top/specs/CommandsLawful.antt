@@ -2,15 +2,17 @@
 use Rattle.std.proofs.Common.{inl, inr, ℕ, arith}
 use Rattle.optra_text.specs.FaultLines.{refusal_line}
 use Rattle.optra_text.specs.declared.words.Words.{Words}
-use Rattle.optra_text.specs.declared.words.Words.TheVariants.{Plan, Check, Auction, Demo, Audit, Pay, Compress}
+use Rattle.optra_text.specs.declared.words.Words.TheVariants.{Plan, Check, Auction, Demo, Audit, Pay, House, Compress}
 use Rattle.optra_frame.specs.CommandLaws.{HasRefusedAlone, IsLawful}
 use Rattle.optra_frame.specs.Statuses.{IsFaultStatus}
 use Rattle.optra_frame.specs.TableFiles.{meaning_of, table_status}
 use Rattle.optra_frame.proofs.RefusalLemmas.{refused-alone}
 use Rattle.optra_top.specs.AuctionCommand.{PrintsTablesPlay, auction_of}
 use Rattle.optra_top.specs.AuditCommand.{PrintsAudit}
-use Rattle.optra_top.specs.CheckCommand.{PrintsTablesVerdict, certificate_in}
+use Rattle.optra_verdict.specs.CheckCommand.{PrintsTablesVerdict, certificate_in}
 use Rattle.optra_top.specs.Commands.{IsDoneStatus, command_of}
+use Rattle.optra_top.specs.HouseCommand.{stamp_in}
+use Rattle.optra_top.specs.HouseLawful.{house-refused-alone}
 use Rattle.optra_top.specs.CompressCommand.{PrintsCompressed}
 use Rattle.optra_top.specs.PayCommand.{PrintsTablesPayments}
 use Rattle.optra_top.specs.PlanCommand.{PrintsTablesPlan}
@@ -29,6 +31,8 @@ done-no_fault (Audit net bids stops times) status (inl a) fault = absurd (omega 
 done-no_fault (Audit net bids stops times) status (inr a) fault = absurd (omega arith)
 done-no_fault (Pay net bids stops steps budget) status (inl a) fault = absurd (omega arith)
 done-no_fault (Pay net bids stops steps budget) status (inr a) fault = absurd (omega arith)
+done-no_fault (House net bids stops rules actions journal) status (inl a) fault = absurd (omega arith)
+done-no_fault (House net bids stops rules actions journal) status (inr a) fault = absurd (omega arith)
 done-no_fault (Compress net bids stops times) status (inl a) fault = absurd (omega arith)
 done-no_fault (Compress net bids stops times) status (inr a) fault = absurd (omega arith)
 
@@ -44,6 +48,8 @@ refused-only (Audit net bids stops times) contents before now now' status line r
     refused-alone timed_status timed_line PrintsAudit (timed_of contents) status line reply refuses replies
 refused-only (Pay net bids stops steps budget) contents before now now' status line reply told refuses replies =
     refused-alone table_status refusal_line (PrintsTablesPayments (record { steps = steps; budget = budget })) (meaning_of contents) status line reply refuses replies
+refused-only (House net bids stops rules actions journal) contents before now now' status line reply told refuses replies =
+    house-refused-alone journal (stamp_in contents) (auction_of contents) before now now' status line reply told refuses replies
 refused-only (Compress net bids stops times) contents before now now' status line reply told refuses replies =
     refused-alone timed_status timed_line PrintsCompressed (timed_of contents) status line reply refuses replies
 

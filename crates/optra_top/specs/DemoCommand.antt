@@ -17,8 +17,8 @@ use Rattle.optra_tables.specs.declared.TableFault.{TableFault}
 use Rattle.optra_text.specs.DemoTexts.{demo_text_of}
 use Rattle.optra_text.specs.declared.verdicts.VerdictView.TheVariants.{Yes}
 use Rattle.optra_walk.specs.Families.{Entry}
-use Rattle.optra_top.specs.Families.{headway_family}
-use Rattle.optra_play.specs.FamilyOf.{FamilyOf}
+use Rattle.optra_verdict.specs.Families.{headway_family}
+use Rattle.optra_verdict.specs.FamilyOf.{FamilyOf}
 use Rattle.optra_top.specs.PlanCommand.{IsStatusOf}
 use Rattle.optra_play.specs.Plans.{IsPlanOf}
 use Rattle.optra_frame.specs.Replies.{Reply, refused, answered}

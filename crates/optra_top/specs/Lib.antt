@@ -1,7 +1,5 @@
 -- What the commands are, what they reply, and how a run ends.
-pub mod Families
 pub mod PlanCommand
-pub mod CheckCommand
 pub mod AuctionCommand
 pub mod AuctionLaws
 pub mod DemoCommand
@@ -12,9 +10,12 @@ pub mod PaymentPlans
 pub mod PayCommand
 pub mod PlanLaws
 pub mod CheckLaws
-pub mod OneVerdict
 pub mod PlansAsked
 pub mod AuctionRead
+pub mod HouseCommand
+pub mod HouseEnds
+pub mod HouseRuns
+pub mod HouseLawful
 pub mod Commands
 pub mod MadeTables
 pub mod CommandsLawful

@@ -14,9 +14,9 @@ use Rattle.optra_frame.specs.Files.{Contents}
 use Rattle.optra_frame.specs.Replies.{Reply}
 use Rattle.optra_frame.specs.Statuses.{gap_status, optimal_status}
 use Rattle.optra_frame.specs.TableFiles.{Tables, TablesReply, meaning_of}
-use Rattle.optra_play.specs.FamilyOf.{FamilyOf}
+use Rattle.optra_verdict.specs.FamilyOf.{FamilyOf}
 use Rattle.optra_play.specs.Plans.{IsPlanOf}
-use Rattle.optra_top.specs.Families.{OfVersion}
+use Rattle.optra_verdict.specs.Families.{OfVersion}
 use Rattle.optra_top.specs.PaymentPlans.{IsPlanFound}
 
 -- ---- what is printed

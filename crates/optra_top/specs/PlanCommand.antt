@@ -10,8 +10,8 @@ use Rattle.optra_walk.specs.Families.{Entry}
 use Rattle.optra_search.specs.Planner.{Planned}
 use Rattle.optra_tables.specs.Bids.{Parts, parts_of}
 use Rattle.optra_text.specs.PlanTexts.{plan_text_of}
-use Rattle.optra_top.specs.Families.{OfVersion}
-use Rattle.optra_play.specs.FamilyOf.{FamilyOf}
+use Rattle.optra_verdict.specs.Families.{OfVersion}
+use Rattle.optra_verdict.specs.FamilyOf.{FamilyOf}
 use Rattle.optra_frame.specs.Files.{Contents}
 use Rattle.optra_play.specs.Certificates.{certificate_of}
 use Rattle.optra_play.specs.Plans.{IsPlanOf}

@@ -6,8 +6,8 @@ use Rattle.optra_search.specs.Laws.{ArePairs}
 use Rattle.optra_tables.specs.Bids.{parts_of}
 use Rattle.optra_walk.specs.Families.{Entry}
 use Rattle.optra_walk.specs.declared.Leg.{Leg}
-use Rattle.optra_top.specs.Families.{OfVersion}
-use Rattle.optra_play.specs.FamilyOf.{FamilyOf}
+use Rattle.optra_verdict.specs.Families.{OfVersion}
+use Rattle.optra_verdict.specs.FamilyOf.{FamilyOf}
 use Rattle.optra_top.specs.PlanCommand.{PlanAsked, PrintsPlan}
 use Rattle.optra_frame.specs.TableFiles.{Tables}
 use Rattle.optra_frame.specs.declared.version.Version.{Version}

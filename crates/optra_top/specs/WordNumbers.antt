@@ -1,7 +1,7 @@
 -- The numbers of commands that have a range.
 use Rattle.std.specs.Prelude.{ℕ}
 use Rattle.optra_text.specs.declared.words.Words.{Words}
-use Rattle.optra_text.specs.declared.words.Words.TheVariants.{Plan, Check, Auction, Demo, Audit, Pay, Compress}
+use Rattle.optra_text.specs.declared.words.Words.TheVariants.{Plan, Check, Auction, Demo, Audit, Pay, House, Compress}
 
 -- the budget of a plan or of payments; 1 for all others
 abbrev pub budget_in : Words → ℕ
@@ -11,6 +11,7 @@ budget_in (Auction net bids stops rules actions certs) = 1
 budget_in (Demo seed size) = 1
 budget_in (Audit net bids stops times) = 1
 budget_in (Pay net bids stops steps budget) = budget
+budget_in (House net bids stops rules actions journal) = 1
 budget_in (Compress net bids stops times) = 1
 
 -- the size of a demo; 1 for all others
@@ -21,4 +22,5 @@ size_in (Auction net bids stops rules actions certs) = 1
 size_in (Demo seed size) = size
 size_in (Audit net bids stops times) = 1
 size_in (Pay net bids stops steps budget) = 1
+size_in (House net bids stops rules actions journal) = 1
 size_in (Compress net bids stops times) = 1

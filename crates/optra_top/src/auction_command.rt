@@ -9,7 +9,7 @@ ghost use Rattle.optra_tables.specs.Outcomes.{Fails, Gives};
 ghost use Rattle.optra_frame.specs.declared.files.Role.TheVariants.{Table as table_role};
 ghost use Rattle.optra_top.specs.AuctionCommand.{AuctionReplies, auction_of, next_auction_file};
 ghost use Rattle.optra_top.specs.AuctionRead.{GivesCourse, auction_seen};
-ghost use Rattle.optra_top.specs.Families.{OfVersion};
+ghost use Rattle.optra_verdict.specs.Families.{OfVersion};
 ghost use Rattle.optra_frame.specs.Statuses.{gap_status, optimal_status};
 ghost use Rattle.optra_frame.specs.ContentsGot.{contents_of};
 ghost use Rattle.optra_frame.specs.Files.{file_asked};
@@ -17,7 +17,6 @@ ghost use Rattle.optra_play.specs.Play.{IsPlayedOut};
 ghost use Rattle.optra_frame.specs.Puts.{texts_of};
 ghost use Rattle.optra_frame.specs.Replies.{reply_of};
 
-use crate::families::{all_rows, all_rows_are_told, headway_rows_are_told};
 use optra_auction::Rules;
 use optra_bid::Bid;
 use optra_frame::{
@@ -28,6 +27,7 @@ use optra_play::play;
 use optra_rows::HeadwayRows;
 use optra_tables::{ReadError, Table, TimedAct, read_actions, read_rules};
 use optra_text::PathText;
+use optra_verdict::{all_rows, all_rows_are_told, headway_rows_are_told};
 use std::alloc::{AllocError, Global};
 
 /// The file that the command gets after these, or `None` once it has got all. The words name the network's folder, the bids, the
@@ -142,7 +142,7 @@ fn play_by(
 }
 
 /// The tables that the files mean. It errs by their first fault, or by want of memory.
-fn read_auction(alloc: Global, files: &FilesGot) -> Result<AuctionTables, ReadError>
+pub(crate) fn read_auction(alloc: Global, files: &FilesGot) -> Result<AuctionTables, ReadError>
     ensures read { Gives auction_seen result (auction_of (contents_of files.now)) }
     ensures specs { IfOk result (λ tables. AreSpecs tables.specs.items) }
     ensures paths { IfOk result (λ tables. All (λ spec. IsPathOn tables.net spec.path)

@@ -11,9 +11,6 @@ ghost use Rattle.optra_frame.specs.Replies.{reply_of};
 ghost use Rattle.optra_top.specs.MadeTables.{made_net_files};
 ghost use Rattle.optra_frame.specs.TablesRead.{tables_seen};
 
-use crate::check_command::verdict_on;
-use crate::families::headway_rows_are_told;
-use crate::laws::headways_tell_conflicts;
 use crate::plan_command::status;
 use optra_cert::{text_has_no_fault, text_tells_cert, valid_is_writable, write_certificate};
 use optra_demo::{DemoTables, make};
@@ -24,6 +21,7 @@ use optra_rows::HeadwayRows;
 use optra_search::Limits;
 use optra_tables::{NetFiles, ReadError, read_bids, read_network};
 use optra_text::{PlanView, demo_text};
+use optra_verdict::{headway_rows_are_told, headways_tell_conflicts, verdict_on};
 use optra_walk::Instance;
 use std::alloc::{AllocError, Global};
 

@@ -16,14 +16,16 @@ use std::alloc::Global;
 ///
 /// | Status | Meaning |
 /// |---|---|
-/// | 0 | the plan, the auction or the demo is printed, and each bound is its revenue; or the certificate is valid |
-/// | 1 | the plan, the auction or the demo is printed, and a bound is above its revenue |
+/// | 0 | what was asked for is printed, and each bound is its revenue; the certificate is valid; the timetable has no fault |
+/// | 1 | what was asked for is printed, and a bound is above its revenue, or a payment isn't exact; the timetable has a fault |
 /// | 2 | the words are no command form |
 /// | 3 | the tables are refused |
 /// | 4 | the certificate can't be read or isn't valid, and the verdict is printed |
 /// | 5, 6, 9 | a file could not be read, isn't there, or is too long |
 /// | 7 | a file could not be put, or the output failed |
 /// | 8 | no memory |
+/// | 10 | the journal is refused |
+/// | 11 | a call of the disk failed |
 ///
 /// From 2 on, but for 4, one line goes to `err`. An `err` that fails changes no status. What is held, printed and put is told only
 /// of a shelf, pens and a disk that tell it, as those in memory do.

@@ -1,18 +1,14 @@
 //! The commands of the program: which file each gets next, and what it replies to their contents. A command more is an arm more in
 //! each call here.
-ghost use Rattle.std.specs.Prelude.{◌≡◌, ◌≤◌, IfOk, IfErr};
-ghost use Rattle.optra_outside.specs.Disk.{DiskState};
+ghost use Rattle.std.specs.Prelude.{◌≡◌, ◌≤◌};
 ghost use Rattle.optra_text.specs.Ranges.{HasRanges};
-ghost use Rattle.optra_frame.specs.ContentsGot.{contents_of};
-ghost use Rattle.optra_frame.specs.Faults.{EndsReply};
-ghost use Rattle.optra_frame.specs.Replies.{reply_of};
-ghost use Rattle.optra_top.specs.Commands.{IsDoneStatus, IsToldUnread, MayReply, command_of};
+ghost use Rattle.optra_top.specs.Commands.{IsToldUnread, command_of};
 ghost use Rattle.optra_top.specs.WordNumbers.{budget_in, size_in};
 ghost use Rattle.optra_top.specs.CommandsLawful.{each-lawful};
 
 use crate::timetable_read::next_times_file;
 use crate::{
-    auction_command, audit_command, check_command, compress_command, demo_command, pay_command,
+    auction_command, audit_command, compress_command, demo_command, house_command, pay_command,
     plan_command,
 };
 use optra_frame::{Answer, Asked, Command, Fault, FilesGot, next_table_file};
@@ -20,6 +16,7 @@ use optra_outside::Disk;
 use optra_search::Limits;
 use optra_tables::ReadError;
 use optra_text::Words;
+use optra_verdict::{check_reply, next_check_file};
 use std::alloc::{AllocError, Global};
 
 /// A command, as words ask for it.
@@ -38,37 +35,6 @@ impl Job {
         ensures { result.words ≡ words }
     {
         Job { words }
-    }
-
-    /// The answer to the contents of the files. It errs exactly where they are refused, or by want of memory. No command of today
-    /// calls the disk.
-    fn answer(&self, alloc: Global, files: &FilesGot) -> Result<Answer, Fault>
-        ensures ok { IfOk result (λ answer. (before now : DiskState) → MayReply self.now.words
-            (contents_of files.now) before now (reply_of answer)) }
-        ensures done { IfOk result (λ answer. IsDoneStatus self.now.words answer.status) }
-        ensures fault { IfErr result (λ fault. (disk : DiskState) → EndsReply
-            (command_of self.now.words) (contents_of files.now) disk disk fault) }
-    {
-        match &self.words {
-            Words::Plan {
-                steps,
-                budget,
-                cert,
-                ..
-            } => {
-                let (steps, budget) = (*steps, *budget);
-                told(plan_command::reply(alloc, files, Limits { steps, budget }, cert))
-            }
-            Words::Check { .. } => told(check_command::reply(alloc, files)),
-            Words::Auction { certs, .. } => told(auction_command::reply(alloc, files, certs)),
-            Words::Demo { seed, size } => told(demo_command::reply(alloc, *seed, *size)),
-            Words::Audit { .. } => audit_command::reply(alloc, files),
-            Words::Pay { steps, budget, .. } => {
-                let (steps, budget) = (*steps, *budget);
-                told(pay_command::reply(alloc, files, Limits { steps, budget }))
-            }
-            Words::Compress { .. } => compress_command::reply(alloc, files),
-        }
     }
 }
 
@@ -121,9 +87,17 @@ impl Command for Job {
                 cert,
             } => {
                 let (net, bids, stops) = (net.text(), bids.text(), stops.text());
-                check_command::next_check_file(alloc, net, bids, stops, cert.text(), got)
+                next_check_file(alloc, net, bids, stops, cert.text(), got)
             }
             Words::Auction {
+                net,
+                bids,
+                stops,
+                rules,
+                actions,
+                ..
+            }
+            | Words::House {
                 net,
                 bids,
                 stops,
@@ -145,8 +119,29 @@ impl Command for Job {
         files: FilesGot,
         disk: &mut D,
     ) -> Result<Answer, Fault> {
-        let _ = disk;
-        self.answer(alloc, &files)
+        match &self.words {
+            Words::Plan {
+                steps,
+                budget,
+                cert,
+                ..
+            } => {
+                let (steps, budget) = (*steps, *budget);
+                told(plan_command::reply(alloc, &files, Limits { steps, budget }, cert))
+            }
+            Words::Check { .. } => told(check_reply(alloc, &files)),
+            Words::Auction { certs, .. } => told(auction_command::reply(alloc, &files, certs)),
+            Words::Demo { seed, size } => told(demo_command::reply(alloc, *seed, *size)),
+            Words::Audit { .. } => audit_command::reply(alloc, &files),
+            Words::Pay { steps, budget, .. } => {
+                let (steps, budget) = (*steps, *budget);
+                told(pay_command::reply(alloc, &files, Limits { steps, budget }))
+            }
+            Words::House { journal, .. } => {
+                house_command::reply(alloc, &files, journal.text(), disk)
+            }
+            Words::Compress { .. } => compress_command::reply(alloc, &files),
+        }
     }
 
     ghost lawful = { λ job. each-lawful job.words };

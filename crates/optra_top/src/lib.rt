@@ -3,11 +3,10 @@
 
 mod auction_command;
 mod audit_command;
-mod check_command;
 mod compress_command;
 mod demo_command;
 mod entry;
-mod families;
+mod house_command;
 mod job;
 mod laws;
 mod pay_command;
@@ -16,7 +15,4 @@ mod plan_command;
 mod timetable_read;
 
 pub use entry::run;
-pub use laws::{
-    all_rows_tell_conflicts, check_confirms_plan, demo_is_accepted, headways_tell_conflicts,
-    one_play, one_text, one_verdict, pairs_are_listed,
-};
+pub use laws::{check_confirms_plan, demo_is_accepted, one_play, one_text, pairs_are_listed};

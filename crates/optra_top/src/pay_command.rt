@@ -10,11 +10,9 @@ ghost use Rattle.optra_frame.specs.Replies.{reply_of};
 ghost use Rattle.optra_frame.specs.Statuses.{gap_status, optimal_status};
 ghost use Rattle.optra_frame.specs.TableFiles.{meaning_of};
 ghost use Rattle.optra_frame.specs.TablesRead.{tables_seen};
-ghost use Rattle.optra_play.specs.Plans.{TellsConflicts};
+ghost use Rattle.optra_verdict.specs.Promises.{TellsConflicts};
 ghost use Rattle.optra_top.specs.PayCommand.{IsPayStatus, PayReplies, PrintsPayments, PrintsTablesPayments};
 
-use crate::families::{all_rows, all_rows_are_told, headway_rows_are_told};
-use crate::laws::{all_rows_tell_conflicts, headways_tell_conflicts};
 use crate::payment_planner::PaymentPlanner;
 use optra_cert::RowText;
 use optra_frame::{Answer, FilesGot, Tables, Version, read_tables, statuses};
@@ -25,6 +23,10 @@ use optra_rows::HeadwayRows;
 use optra_search::Limits;
 use optra_tables::ReadError;
 use optra_text::{PlanView, pay_text};
+use optra_verdict::{
+    all_rows, all_rows_are_told, all_rows_tell_conflicts, headway_rows_are_told,
+    headways_tell_conflicts,
+};
 use optra_walk::Instance;
 use std::alloc::Global;
 

@@ -12,14 +12,12 @@ ghost use Rattle.optra_frame.specs.Statuses.{gap_status, optimal_status};
 ghost use Rattle.optra_frame.specs.TableFiles.{meaning_of};
 ghost use Rattle.optra_frame.specs.ContentsGot.{contents_of};
 ghost use Rattle.optra_top.specs.PlanCommand.{IsStatusOf, PlanReplies, PrintsPlan, PrintsTablesPlan, certificate_puts};
-ghost use Rattle.optra_play.specs.Plans.{TellsConflicts};
+ghost use Rattle.optra_verdict.specs.Promises.{TellsConflicts};
 ghost use Rattle.optra_top.specs.PlansAsked.{plan_asked};
 ghost use Rattle.optra_frame.specs.Puts.{texts_of};
 ghost use Rattle.optra_frame.specs.Replies.{reply_of};
 ghost use Rattle.optra_frame.specs.TablesRead.{tables_seen};
 
-use crate::families::{all_rows, all_rows_are_told, headway_rows_are_told};
-use crate::laws::{all_rows_tell_conflicts, headways_tell_conflicts};
 use optra_cert::{Certificate, RowText, valid_is_writable, write_certificate};
 use optra_frame::{Answer, FileText, FilesGot, Tables, Version, read_tables, statuses};
 use optra_network::{Cents, NoMemory};
@@ -28,6 +26,10 @@ use optra_rows::HeadwayRows;
 use optra_search::Limits;
 use optra_tables::ReadError;
 use optra_text::{PathText, PlanView, plan_text};
+use optra_verdict::{
+    all_rows, all_rows_are_told, all_rows_tell_conflicts, headway_rows_are_told,
+    headways_tell_conflicts,
+};
 use optra_walk::Instance;
 use std::alloc::Global;
 

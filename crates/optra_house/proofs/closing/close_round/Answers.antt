@@ -4,6 +4,7 @@ use Rattle.optra_auction.specs.Machine.{IsAuction, State, after_all, after_round
 use Rattle.optra_auction.specs.declared.Rules.{Rules}
 use Rattle.optra_auction.proofs.ActLemmas.{acts_keep}
 use Rattle.optra_house.specs.Payloads.{AreValues, head_bytes, values_bytes}
+use Rattle.optra_house.specs.Replay.{WasAsked, offers_of}
 use Rattle.optra_house.proofs.PostLemmas.{posted_goes, values_at_most}
 use Rattle.optra_house.proofs.closing.close_round.Goals as goal
 
@@ -14,6 +15,20 @@ values_of-requires g c =
 pub close_round-requires-clause-open : goal.close_round-requires-clause-open
 close_round-requires-clause-open g c =
     ap (λ (s : State). s.closed) c.in_ok-outcomes.ensures.after ∙ (acts_keep c.args.auction.now c.args.acts.items).closed ∙ c.requires.is_open
+
+pub returns-clause-state : goal.returns-clause-state
+returns-clause-state g c =
+    let before = c.args.auction.now in
+    let acts = c.args.acts.items in
+    let values = c.in_ok-values.values.items in
+    let taken : c.take_acts.new.auction ≡ after_all before acts = c.in_ok-outcomes.ensures.after in record {
+      values = values;
+      meant = subst (λ (s : State). g.P.Rounds.Means c.args.planner.now (offers_of s) values) taken c.in_ok-values.ensures.values;
+      next_is = c.close_round.ensures.round ∙ ap (after_round c.take_acts.new.auction) c.deref.ensures.value ∙ ap (λ (s : State). after_round s values) taken;
+    }
+
+pub returns-clause-asked : goal.returns-clause-asked
+returns-clause-asked g c = subst (λ (s : State). WasAsked (g.P.Rounds.After c.args.planner.now) s c.values_of.new.planner) c.in_ok-outcomes.ensures.after c.in_ok-values.ensures.asked
 
 pub returns-clause-read : goal.returns-clause-read
 returns-clause-read g c =

@@ -31,7 +31,6 @@ pub returns : goal.returns
 unfolding close_text_of
 returns c =
     let whole : map award_of c.bids.awards.items ≡ awards_of c.args.auction.now.standing = c.bids.invariant ∙ ap awards_of (take_all c.bids.place c.args.auction.now.standing (omega arith)) in
-    let late = c.deref.ensures.value ∙ c.in_ok-late.ensures in
-    let awards = ap (map award_of) c.deref-2.ensures.value ∙ whole in
+    let awards = ap (map award_of) c.deref.ensures.value ∙ whole in
     subst (λ (k : Close). IfOk c.close_text.result (λ (text : Vec ℕ Global). text.items ≡ records_text (close_records k)))
-    (λ i. record { round = c.round.ensures i; late = late i; awards = awards i }) c.close_text.ensures
+    (λ i. record { round = c.round.ensures i; late = c.args.late.now; awards = awards i }) c.close_text.ensures

@@ -2,8 +2,8 @@
 use Rattle.std.proofs.lemmas.Result.{IfOk-weaker}
 use Rattle.optra_play.specs.Play.{IsPlayedOut}
 use Rattle.optra_frame.specs.Puts.{texts_of}
-use Rattle.optra_top.proofs.FamilyLemmas.{of_first, of_second}
-use Rattle.optra_top.proofs.RuleLemmas.{all-tell, headways-tell}
+use Rattle.optra_verdict.proofs.FamilyLemmas.{of_first, of_second}
+use Rattle.optra_verdict.proofs.RuleLemmas.{all-tell, headways-tell}
 use Rattle.optra_top.proofs.auction_command.play_by.Goals as goal
 
 pub play-requires-clause-rule : goal.play-requires-clause-rule

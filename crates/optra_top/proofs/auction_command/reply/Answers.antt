@@ -5,13 +5,13 @@ use Rattle.optra_top.specs.AuctionRead.{auction_seen}
 use Rattle.optra_frame.specs.ContentsGot.{contents_of}
 use Rattle.optra_play.specs.Play.{IsPlayedOut}
 use Rattle.optra_frame.specs.Puts.{texts_of}
-use Rattle.optra_top.proofs.FamilyLemmas.{of_version-map}
+use Rattle.optra_verdict.proofs.FamilyLemmas.{of_version-map}
 use Rattle.optra_frame.proofs.RefusalLemmas.{meaning-answered}
 use Rattle.optra_text.specs.FaultLines.{refusal_line}
 use Rattle.optra_frame.specs.TableFiles.{table_status}
 use Rattle.std.proofs.Common.{◌≡◌, ◌⊎◌}
 use Rattle.optra_frame.specs.Statuses.{gap_status, optimal_status}
-use Rattle.optra_top.proofs.FamilyLemmas.{of_version-then}
+use Rattle.optra_verdict.proofs.FamilyLemmas.{of_version-then}
 use Rattle.optra_top.proofs.StatusLemmas.{status-of_play}
 use Rattle.optra_top.proofs.auction_command.reply.Goals as goal
 

@@ -2,8 +2,8 @@
 use Rattle.std.proofs.Common.{length, subst, arith}
 use Rattle.optra_cert.specs.CertLaws.{TextHasNoFault, TextTellsCert}
 use Rattle.optra_rows.specs.Headways.{KeepsHeadwayRule}
-use Rattle.optra_top.specs.Families.{KeepsAllRules, all_family, headway_family}
-use Rattle.optra_top.proofs.VerdictLemmas.{confirms, confirms-each}
+use Rattle.optra_verdict.specs.Families.{KeepsAllRules, all_family, headway_family}
+use Rattle.optra_top.proofs.ConfirmLemmas.{confirms, confirms-each}
 use Rattle.optra_top.proofs.laws.check_confirms_plan.Goals as goal
 
 pub returns : goal.returns

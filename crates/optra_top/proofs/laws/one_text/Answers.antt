@@ -2,7 +2,7 @@
 use Rattle.std.proofs.Common.{subst}
 use Rattle.optra_rows.specs.Headways.{KeepsHeadwayRule}
 use Rattle.optra_search.specs.Laws.{OnePlan}
-use Rattle.optra_top.specs.Families.{KeepsAllRules, all_family, headway_family}
+use Rattle.optra_verdict.specs.Families.{KeepsAllRules, all_family, headway_family}
 use Rattle.optra_top.proofs.TextLemmas.{one_text, one_text-each}
 use Rattle.optra_top.proofs.laws.one_text.Goals as goal
 

@@ -4,7 +4,7 @@ use Rattle.std.proofs.lemmas.Result.{IfOk-weaker}
 use Rattle.optra_bid.specs.Offers.{offer_of}
 use Rattle.optra_top.specs.PayCommand.{PrintsPayments}
 use Rattle.optra_frame.specs.Puts.{texts_of}
-use Rattle.optra_top.proofs.FamilyLemmas.{of_second}
+use Rattle.optra_verdict.proofs.FamilyLemmas.{of_second}
 use Rattle.optra_top.proofs.pay_command.reply_to.Goals as goal
 
 pub returns-in-Second : goal.returns-in-Second

@@ -5,7 +5,7 @@ use Rattle.optra_tables.specs.Bids.{parts_of}
 use Rattle.optra_top.specs.PlanCommand.{PrintsPlan}
 use Rattle.optra_top.specs.PlansAsked.{plan_asked}
 use Rattle.optra_frame.specs.Puts.{texts_of}
-use Rattle.optra_top.proofs.FamilyLemmas.{of_second}
+use Rattle.optra_verdict.proofs.FamilyLemmas.{of_second}
 use Rattle.optra_top.proofs.plan_command.reply_to.Goals as goal
 
 pub returns-in-Second : goal.returns-in-Second

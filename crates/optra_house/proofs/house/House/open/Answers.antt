@@ -3,14 +3,14 @@ use Rattle.std.specs.Prelude.{⊤, Err, Ok}
 use Rattle.std.proofs.lemmas.Bool.{leb-false}
 use Rattle.std.proofs.lemmas.Result.{err_from_is_err_and}
 use Rattle.optra_outside.specs.Disk.{DiskState, File, after_sync}
-use Rattle.optra_auction.specs.Machine.{opened}
+use Rattle.optra_auction.specs.Machine.{State, opened}
 use Rattle.optra_house.specs.declared.refusals.OpenError.{OpenError}
 use Rattle.optra_house.specs.Answers.{IsUnwritten, open_refusal}
 use Rattle.optra_house.specs.Journal.{IsSettled}
 use Rattle.optra_outside.specs.Moments.{LeavesOnly}
 use Rattle.optra_house.specs.Replay.{opens_as}
 use Rattle.optra_house.specs.Stamps.{payload_of}
-use Rattle.optra_house.proofs.OpenLemmas.{not_refused, refused_over, error_rule, found_as, found_malformed, found_none, full_rule, leaves_synced, long_refused, none_refused, replay_refused, unread_rule, found_some, found_opens, place_below, rests_found, rests_begun, begun_leaves, empty_rule, replayed_rule}
+use Rattle.optra_house.proofs.OpenLemmas.{not_refused, refused_over, error_rule, found_as, found_malformed, found_none, full_rule, leaves_synced, long_refused, none_refused, replay_refused, unread_rule, found_some, found_opens, found_specs, place_below, rests_found, rests_begun, begun_leaves, empty_rule, gate_begun, gate_found, replayed_rule}
 use Rattle.optra_house.proofs.house.House.open.Goals as goal
 use Rattle.optra_house.proofs.house.House.open.Goals.{in-Some, in-None+in_ok-gate-in-None}
 
@@ -103,6 +103,9 @@ returns-in_err-gate-in-None-clause-any_moment g c = λ tells.
     let empty = found_none stamp old.now.bytes (opened c.args.specs.items c.args.rules) c.replay.new.auction c.in_ok-place.field-0 c.in-None.is found in
     inr (begun_leaves stamp c.deref-in-None.result.now c.args.specs.items c.args.rules old (g.D.Disk.state c.read_file.new.disk).file (g.D.Disk.state c.put_stamp.new.disk).file (c.deref-in-None.ensures.value ∙ c.in_ok-payload.ensures) synced empty.found (c.in_err-gate-in-None.ensures.any_moment told))
 
+pub returns-clause-specs : goal.returns-clause-specs
+returns-clause-specs g c = found_specs _ _ _ _ c.in_ok-place.field-0 c.in_ok-place.ensures ∙ ap (λ (s : State). s.specs) c.in_ok-auction.ensures.opened
+
 pub returns-clause-state : goal.returns-clause-state
 returns-clause-state g c = λ tells.
     let old = (g.D.Disk.state c.args.disk.now).file in
@@ -139,6 +142,21 @@ pub returns-clause-unwritten : goal.returns-clause-unwritten
 returns-clause-unwritten g c = λ tells refused.
     let old = (g.D.Disk.state c.args.disk.now).file in
     not_refused c.args.stamp.now c.args.specs.items c.args.rules old.now.bytes (IsUnwritten old _) (opens_unrefused g c tells) refused
+
+pub returns-clause-gate : goal.returns-clause-gate
+returns-clause-gate g c = λ tells.
+    let old = (g.D.Disk.state c.args.disk.now).file in
+    let stamp = payload_of c.args.stamp.now in
+    let bytes_are = c.deref-2.ensures.value ∙ c.in_ok-file.ensures.bytes (c.sync.ensures.leaves.tells ∙ tells) ∙ ap (λ (f : File). f.now.bytes) (c.in_ok-sync.ensures.ok tells) in
+    let stamp_is = c.deref.ensures.value ∙ c.in_ok-payload.ensures in
+    let found = found_as stamp c.deref.result.now old.now.bytes c.deref-2.result.now (opened c.args.specs.items c.args.rules) _ c.replay.new.auction (Ok c.in_ok-place.field-0) stamp_is bytes_are c.in_ok-auction.ensures.opened c.in_ok-place.ensures in
+    elim c.match-branch-6.branch [
+      | in-Some w ↦ w.gate-is ∙ gate_found c.args.stamp.now old.now.bytes _ _ w.in-Some.place (found_some stamp old.now.bytes _ _ c.in_ok-place.field-0 w.in-Some.place w.in-Some.is found)
+      | in-None+in_ok-gate-in-None w ↦
+          let empty = found_none stamp old.now.bytes (opened c.args.specs.items c.args.rules) c.replay.new.auction c.in_ok-place.field-0 w.in-None.is found in
+          let payload_is = w.deref-in-None.ensures.value ∙ c.in_ok-payload.ensures in
+          w.gate-is ∙ w.in_ok-gate-in-None.ensures.next ∙ ap (λ (l : List ℕ). 13 + length l) payload_is ∙ gate_begun c.args.stamp.now old.now.bytes empty.found
+    ]
 
 pub returns-clause-at_rest : goal.returns-clause-at_rest
 returns-clause-at_rest g c = λ tells.

@@ -1,5 +1,0 @@
-use Rattle.optra_top.proofs.RuleLemmas.{all-tell}
-use Rattle.optra_top.proofs.laws.all_rows_tell_conflicts.Goals as goal
-
-pub returns : goal.returns
-returns c = all-tell c.args.inst.net.now c.args.inst.bids.now c.args.inst.proper

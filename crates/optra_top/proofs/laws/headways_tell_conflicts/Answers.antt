@@ -1,5 +1,0 @@
-use Rattle.optra_top.proofs.RuleLemmas.{headways-tell}
-use Rattle.optra_top.proofs.laws.headways_tell_conflicts.Goals as goal
-
-pub returns : goal.returns
-returns c = headways-tell c.args.inst.net.now c.args.inst.bids.now c.requires
