@@ -14,7 +14,7 @@ pub fn perform<W: Write>(alloc: Global, name: &str, case: &Case, to: &mut W) -> 
     Ok(())
 }
 
-/// Runs a case over a shelf of its own and this disk, which no command calls yet.
+/// Runs a case over a shelf of its own and this disk, which has the journal of its auction house.
 fn perform_over<W: Write>(
     alloc: Global,
     name: &str,

@@ -3,10 +3,10 @@ ghost use Rattle.std.specs.Prelude.{IfOk};
 ghost use Rattle.optra_auction.specs.Machine.{AreSpecs};
 
 use crate::instances::{Check, PLAIN, check_read};
-use optra_auction::{Auction, Refusal, Rules};
+use optra_auction::{Auction, Refusal, Rules, take_acts};
 use optra_bid::Bid;
 use optra_network::{Cents, NetRefusal, Network};
-use optra_rounds::take_actions;
+use optra_rounds::{RoundActions, round_actions, take_actions};
 use optra_tables::{Kind, ReadError, Table, TableFault, read_actions, read_bids, read_rules};
 use optra_walk::Instance;
 use std::alloc::Global;
@@ -206,4 +206,46 @@ impl Check for Rounds {
 #[test]
 fn an_auction_takes_and_refuses_round_by_round(rt: HostRuntime) -> Result<(), Fail> {
     check_read(&rt, &PLAIN, &Rounds)
+}
+
+/// Two actions of round 1, one of round 2, and one of round 3.
+const POSTED: &str =
+    "round,bidder,action,bid,spec,amount\n3,ann,withdraw,b1,,\n1,ann,open,b1,s1,1000\n2,bob,open,b2,s1,1000\n1,ann,open,b1,zz,1000\n";
+
+/// The rows of the actions of round 2, and of those behind it.
+fn check_later(rt: &(impl Abort + AllocGlobal)) -> Result<(), Fail> {
+    let actions = read_actions(rt.alloc(), POSTED.as_bytes())?;
+    let parts = round_actions(rt.alloc(), 2, actions)?;
+    assert_eq!(rt; parts.rows.as_slice(), [4].as_slice());
+    assert_eq!(rt; parts.acts.len(), 1);
+    assert_eq!(rt; parts.later.as_slice(), [2].as_slice());
+    Ok(())
+}
+
+/// The actions of round 1 are taken: the first opens a bid, and the second names no specification.
+fn check_taken(rt: &(impl Abort + AllocGlobal), auction: &mut Auction) -> Result<(), Fail> {
+    let actions = read_actions(rt.alloc(), POSTED.as_bytes())?;
+    let RoundActions { rows, acts, later } = round_actions(rt.alloc(), 1, actions)?;
+    assert_eq!(rt; rows.as_slice(), [3, 5].as_slice());
+    assert_eq!(rt; later.as_slice(), [2, 4].as_slice());
+    let refusals = take_acts(rt.alloc(), auction, acts)?;
+    assert_eq!(rt; refusals.as_slice(), [None, Some(Refusal::A1)].as_slice());
+    assert_eq!(rt; auction.count(), 1);
+    Ok(())
+}
+
+struct Posted;
+
+impl Check for Posted {
+    fn check<R: Abort + AllocGlobal>(&self, rt: &R, inst: Instance<'_>) -> Result<(), Fail> {
+        check_later(rt)?;
+        let specs = specs(rt.alloc(), inst.net)?;
+        let mut auction = Auction::new(rt.alloc(), specs, RAISES)?;
+        check_taken(rt, &mut auction)
+    }
+}
+
+#[test]
+fn a_rounds_actions_are_taken_apart(rt: HostRuntime) -> Result<(), Fail> {
+    check_read(&rt, &PLAIN, &Posted)
 }
