@@ -25,8 +25,9 @@ COMMAND = re.compile(r"\(cd |export |(?:python3|optra|tables|lint|report|diagram
 NEEDS_KIT = re.compile(r"\brt |\.ci/run|bench/unproved\.sh")
 FORM = re.compile(r"\b(?:FOLDER|DIR|FILE|PROGRAM|FROM|PLAN)\b")
 DONE = "command ended: "
-# The commands that are meant to end with another status: by a part of their text, a plan with a gap and a certificate that was changed.
-MEANT = {"--steps 20 --budget 5": 1, "wrong.cert.csv)": 4}
+# The commands that are meant to end with another status: by a part of their text, a plan with a gap, a certificate that was changed, a timetable
+# with faults, and payments of which one is open.
+MEANT = {"--steps 20 --budget 5": 1, "wrong.cert.csv)": 4, "--times /tmp/handed-in.csv": 1, "optra pay ": 1}
 
 
 def indented_blocks(text):

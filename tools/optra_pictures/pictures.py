@@ -20,6 +20,21 @@ def read_case(folder, bids_path, stops_path, plan_path, asked=None):
     return case_of(net, plan, plan_path)
 
 
+def read_improved(case, path):
+    """Another plan of a case's bids under the same bound, and refuses what is none."""
+    try:
+        plan = plans.read_plan(case.net, case.plan.bids, path)
+    except (ValueError, IndexError, KeyError) as error:
+        raise Refused(f"the tables and the improved plan can't be read together: {error!r}") from error
+    fault = meetings.first_fault(case.net, plan)
+    if fault:
+        raise Refused(f"{path} is no plan of these tables: {fault}")
+    if plan.bound != case.plan.bound or plan.revenue < case.plan.revenue:
+        raise Refused(f"{path} improves another plan: its revenue is {plan.revenue} and its bound {plan.bound}, of the plan they are "
+                      f"{case.plan.revenue} and {case.plan.bound}")
+    return plan
+
+
 def case_of(net, plan, path):
     """The case of a plan that was read; one whose trains are in conflict, or that calls itself optimal and isn't, is refused."""
     fault = meetings.first_fault(net, plan)

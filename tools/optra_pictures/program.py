@@ -64,6 +64,11 @@ def printed_legs(plan):
     return [(numbers[train.bid], leg.track, leg.depart, leg.action, leg.dwell) for train in plan.trains for leg in train.legs]
 
 
+def is_shown_by(check, plan):
+    """Whether a check is of a valid certificate with a plan's sums and trains."""
+    return check.is_valid and (check.revenue, check.bound) == (plan.revenue, plan.bound) and check.legs == printed_legs(plan)
+
+
 def fault_of(ran):
     """The line of a call that failed, and what helps."""
     line = ran.stderr.decode("utf-8", "replace").strip().split("\n")[0] or f"it ended with status {ran.returncode}"

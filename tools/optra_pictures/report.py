@@ -6,8 +6,9 @@ from .sections import SECTIONS
 from .svg import escaped
 from .words import count
 
-# The check is None where no certificate was looked at; the sources are what the page was made of, each with its name.
-Report = namedtuple("Report", "title case check sources")
+# The check is None where no certificate was looked at; the sources are what the page was made of, each with its name. The improved plan, its
+# check, the evidence and the plan that it is of are None where none were given.
+Report = namedtuple("Report", "title case check sources improved improved_check evidence evidence_of", defaults=(None,) * 4)
 
 
 def html_of(report):

@@ -1,7 +1,7 @@
 """How good the plan is, and what shows it."""
 from .. import losers as why
 from ..page import Section, bullets, facts, name, paragraph, tag
-from ..program import printed_legs
+from ..program import is_shown_by
 from ..svg import escaped
 from ..words import count, listed, money, share_above
 
@@ -16,9 +16,7 @@ def verdict(report):
 
 def is_wrong(report):
     """Whether a certificate was looked at that isn't one of this plan."""
-    check, plan = report.check, report.case.plan
-    return check is not None and (not check.is_valid or (check.revenue, check.bound) != (plan.revenue, plan.bound)
-                                  or check.legs != printed_legs(plan))
+    return report.check is not None and not is_shown_by(report.check, report.case.plan)
 
 
 def box(report):
